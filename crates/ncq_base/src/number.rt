@@ -1,0 +1,82 @@
+//! Texts that are numbers.
+ghost use Rattle.std.specs.Prelude.{◌≡◌, ◌≤◌, ◌<◌, ◌^◌, length, IfOk, IfSome, IsTrue};
+ghost use Rattle.std.specs.List.{list_all, prefix_len};
+ghost use Rattle.ncq_base.specs.Atoms.{is_digit, decimal, fraction_of, unsigned_of, number_of, atom_of};
+
+use crate::atom::Atom;
+use crate::bytes::bytes_of;
+use std::alloc::{AllocError, Global};
+
+/// The atom of a text.
+pub fn atom_of(alloc: Global, text: &[u8]) -> Result<Atom, AllocError>
+    ensures { IfOk result (λ a. a ≡ atom_of text.now) }
+{
+    match number_of(text) {
+        Some(n) => Ok(Atom::Num(n)),
+        None => Ok(Atom::Text(bytes_of(alloc, text)?)),
+    }
+}
+
+/// An optional sign, 1 to 15 digits, and optionally a point and 1 to 6 digits. In millionths.
+fn number_of(text: &[u8]) -> Option<i128>
+    ensures { result ≡ number_of text.now }
+{
+    let (sign, rest) = text.split_first()?;
+    match *sign {
+        b'-' => Some(-(unsigned_of(rest)? as i128)),
+        b'+' => Some(unsigned_of(rest)? as i128),
+        _ => Some(unsigned_of(text)? as i128),
+    }
+}
+
+fn unsigned_of(text: &[u8]) -> Option<u128>
+    ensures value { result ≡ unsigned_of text.now }
+    ensures bound { IfSome result (λ n. n < 10 ^ 21) }
+{
+    let n = leading_digits(text);
+    if n == 0 || n > 15 {
+        return None;
+    }
+    let (whole, rest) = text.split_at(n);
+    let fraction = fraction_of(rest)?;
+    Some(u128::from(decimal(whole)) * 1_000_000 + u128::from(fraction))
+}
+
+fn fraction_of(text: &[u8]) -> Option<u64>
+    ensures value { result ≡ fraction_of text.now }
+    ensures bound { IfSome result (λ f. f < 1000000) }
+{
+    let Some((point, digits)) = text.split_first() else {
+        return Some(0);
+    };
+    if *point != b'.' || digits.is_empty() || digits.len() > 6 || !are_digits(digits) {
+        return None;
+    }
+    Some(decimal(digits) * 10u64.pow((6 - digits.len()) as u32))
+}
+
+fn leading_digits(text: &[u8]) -> usize
+    ensures value { result ≡ prefix_len is_digit text.now }
+    ensures within { result ≤ length text.now }
+{
+    text.iter().take_while(|b| b.is_ascii_digit()).count()
+}
+
+fn are_digits(text: &[u8]) -> bool
+    ensures { result ≡ list_all is_digit text.now }
+{
+    text.iter().all(|b| b.is_ascii_digit())
+}
+
+fn decimal(digits: &[u8]) -> u64
+    requires long { length digits.now ≤ 15 }
+    requires digits { IsTrue (list_all is_digit digits.now) }
+    ensures value { result ≡ decimal digits.now }
+    ensures bound { result < 10 ^ length digits.now }
+{
+    let mut n = 0u64;
+    for digit in digits {
+        n = n * 10 + u64::from(digit - b'0');
+    }
+    n
+}
