@@ -1,6 +1,7 @@
 -- Texts that are numbers, and the atom of a text.
-use Rattle.std.specs.Prelude.{ℕ, ◌+◌, ◌-◌, ◌*◌, ◌^◌, Bool, ◌&&◌, ◌==◌, nat_le, nat_lt, if◌then◌else◌, List, [], ◌∷◌, length, take, drop, ℤ, pos, neg_ℤ, Option, Some, None, fold, option_map}
+use Rattle.std.specs.Prelude.{ℕ, ◌+◌, ◌-◌, ◌*◌, ◌^◌, Bool, ◌&&◌, ◌==◌, nat_le, nat_lt, if◌then◌else◌, List, [], ◌∷◌, length, take, drop, ℤ, pos, neg_ℤ, Option, Some, None, option_map}
 use Rattle.std.specs.List.{prefix_len, list_all}
+use Rattle.ncq_base.specs.Numbers.{is_digit, digits_value}
 use Rattle.ncq_base.specs.declared.atom.Atom.{Atom}
 use Rattle.ncq_base.specs.declared.atom.Atom.TheVariants.{Num, Text}
 use Rattle.ncq_base.specs.declared.atom.Op.{Op}
@@ -8,24 +9,16 @@ use Rattle.ncq_base.specs.declared.atom.Op.TheVariants.{Eq, Ne, Lt, Le, Gt, Ge}
 use Rattle.std.specs.Prelude.{not, false, nat_eq}
 use lib.Pointwise.{pointwise}
 use Rattle.std.specs.declared.cmp.Ordering.{Ordering}
-use Rattle.std.specs.declared.cmp.Ordering.TheVariants.{Less, Equal, Greater}
+use Rattle.std.specs.declared.cmp.Ordering.TheVariants.{Less, Greater}
 use Rattle.std.specs.Ordering.{int_cmp, int_eq, nat_cmp, is_lt, is_le, is_gt, is_ge, is_some_and}
 use Rattle.std.specs.Cmp.Lexicographic.{slice_cmp}
-
--- `0` to `9`
-abbrev pub is_digit : ℕ → Bool
-is_digit b = nat_le 48 b && nat_le b 57
-
--- the number that the digits write
-abbrev pub decimal : List ℕ → ℕ
-decimal digits = fold (λ n d. n * 10 + (d - 48)) 0 digits
 
 -- what follows the digits in front, in millionths: nothing, or a point and 1 to 6 digits
 abbrev pub fraction_of : List ℕ → Option ℕ
 fraction_of [] = Some 0
 fraction_of (point ∷ digits) =
     if (point == 46) && nat_lt 0 (length digits) && nat_le (length digits) 6 && list_all is_digit digits
-    then Some (decimal digits * 10 ^ (6 - length digits))
+    then Some (digits_value digits * 10 ^ (6 - length digits))
     else None
 
 -- 1 to 15 digits and a fraction, in millionths
@@ -33,7 +26,7 @@ abbrev pub unsigned_of : List ℕ → Option ℕ
 unsigned_of text =
     let n = prefix_len is_digit text in
     if nat_lt 0 n && nat_le n 15
-    then option_map (λ f. decimal (take n text) * 1000000 + f) (fraction_of (drop n text))
+    then option_map (λ f. digits_value (take n text) * 1000000 + f) (fraction_of (drop n text))
     else None
 
 -- the same behind an optional sign

@@ -1,10 +1,12 @@
-//! Texts that are numbers.
+//! Texts that are numbers: an optional sign, 1 to 15 digits, and optionally a point and 1 to 6 digits.
 ghost use Rattle.std.specs.Prelude.{◌≡◌, ◌≤◌, ◌<◌, ◌^◌, length, IfOk, IfSome, IsTrue};
 ghost use Rattle.std.specs.List.{list_all, prefix_len};
-ghost use Rattle.ncq_base.specs.Atoms.{is_digit, decimal, fraction_of, unsigned_of, number_of, atom_of};
+ghost use Rattle.ncq_base.specs.Atoms.{fraction_of, unsigned_of, number_of, atom_of};
+ghost use Rattle.ncq_base.specs.Numbers.{is_digit};
 
 use crate::atom::Atom;
 use crate::bytes::bytes_of;
+use crate::digits::{are_digits, digits_value};
 use std::alloc::{AllocError, Global};
 
 /// The atom of a text.
@@ -39,10 +41,10 @@ fn unsigned_of(text: &[u8]) -> Option<u128>
     }
     let (whole, rest) = text.split_at(n);
     let fraction = fraction_of(rest)?;
-    Some(u128::from(decimal(whole)) * 1_000_000 + u128::from(fraction))
+    Some(digits_value(whole) * 1_000_000 + fraction)
 }
 
-fn fraction_of(text: &[u8]) -> Option<u64>
+fn fraction_of(text: &[u8]) -> Option<u128>
     ensures value { result ≡ fraction_of text.now }
     ensures bound { IfSome result (λ f. f < 1000000) }
 {
@@ -52,7 +54,7 @@ fn fraction_of(text: &[u8]) -> Option<u64>
     if *point != b'.' || digits.is_empty() || digits.len() > 6 || !are_digits(digits) {
         return None;
     }
-    Some(decimal(digits) * 10u64.pow((6 - digits.len()) as u32))
+    Some(digits_value(digits) * 10u128.pow((6 - digits.len()) as u32))
 }
 
 fn leading_digits(text: &[u8]) -> usize
@@ -60,23 +62,4 @@ fn leading_digits(text: &[u8]) -> usize
     ensures within { result ≤ length text.now }
 {
     text.iter().take_while(|b| b.is_ascii_digit()).count()
-}
-
-fn are_digits(text: &[u8]) -> bool
-    ensures { result ≡ list_all is_digit text.now }
-{
-    text.iter().all(|b| b.is_ascii_digit())
-}
-
-fn decimal(digits: &[u8]) -> u64
-    requires long { length digits.now ≤ 15 }
-    requires digits { IsTrue (list_all is_digit digits.now) }
-    ensures value { result ≡ decimal digits.now }
-    ensures bound { result < 10 ^ length digits.now }
-{
-    let mut n = 0u64;
-    for digit in digits {
-        n = n * 10 + u64::from(digit - b'0');
-    }
-    n
 }
