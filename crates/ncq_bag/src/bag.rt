@@ -36,6 +36,9 @@ impl Model for SignedBag {
 }
 
 impl SignedBag {
+    /// How many adds a bag can take.
+    pub const MOST_ADDS: u64 = 1 << 63;
+
     pub fn new(alloc: Global) -> SignedBag
         ensures { result ≡ no_counts }
     {

@@ -1,0 +1,10 @@
+pub mod Lines
+pub mod LineReading
+pub mod NextOfLines
+pub mod Words
+pub mod Forms
+pub mod Commands
+pub mod OpenCommands
+pub mod Reading
+pub mod NextOfCommands
+pub mod Refusals

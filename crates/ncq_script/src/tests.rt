@@ -1,0 +1,293 @@
+ghost use Rattle.std.specs.Prelude.{◌≡◌};
+
+use crate::{
+    CommandLines, CommandReader, Keyword, LineReader, NextCommand, NextLine, commands_of, has_long,
+    is_source_name, one_argument, source_form,
+};
+use ncq_base::Sequence;
+use std::alloc::{AllocError, Global};
+use std::process::Abort;
+use std::test::Fail;
+
+// The lines of the tables are cut at this many bytes.
+const LIMIT: usize = 12;
+
+// Lines as a text: `[` and `]` round each, `~` behind one that was longer.
+fn show_line(out: &mut Vec<u8>, bytes: &[u8], long: bool) -> Result<(), AllocError> {
+    out.push(b'[')?;
+    out.extend_from_slice(bytes)?;
+    out.push(b']')?;
+    if long {
+        out.push(b'~')?;
+    }
+    Ok(())
+}
+
+fn letter(keyword: Keyword) -> u8 {
+    match keyword {
+        Keyword::Source => b'S',
+        Keyword::Delta => b'D',
+        Keyword::Create => b'C',
+        Keyword::Delete => b'X',
+        Keyword::Clock => b'K',
+        Keyword::Report => b'R',
+        Keyword::Unknown => b'U',
+    }
+}
+
+// A command as a text: its letter, its lines, and `!` where its block is open.
+fn show_command(out: &mut Vec<u8>, command: &CommandLines) -> Result<(), AllocError> {
+    out.push(letter(command.keyword))?;
+    show_line(out, command.head.bytes(), command.head.is_long())?;
+    for line in command.block.as_slice() {
+        show_line(out, line.bytes(), line.is_long())?;
+    }
+    if !command.closed {
+        out.push(b'!')?;
+    }
+    Ok(())
+}
+
+fn shown(alloc: Global, commands: &Sequence<CommandLines>) -> Result<Vec<u8>, AllocError> {
+    let mut out = Vec::new(alloc);
+    for command in commands.as_slice() {
+        show_command(&mut out, command)?;
+    }
+    Ok(out)
+}
+
+// The commands of a script that comes in pieces of a size.
+fn shown_in_pieces(alloc: Global, script: &[u8], size: usize) -> Result<Vec<u8>, AllocError> {
+    let mut out = Vec::new(alloc);
+    let mut reader = CommandReader::new(alloc, LIMIT);
+    let mut rest = script;
+    for _ in 0..script.len() {
+        let (piece, behind) = rest.split_at(size.min(rest.len()));
+        reader.push(piece)?;
+        show_next(&mut reader, &mut out)?;
+        rest = behind;
+    }
+    reader.finish();
+    show_next(&mut reader, &mut out)?;
+    Ok(out)
+}
+
+// The commands that can be told now; a script of these tables has no more than 20.
+fn show_next(reader: &mut CommandReader, out: &mut Vec<u8>) -> Result<(), AllocError>
+    ensures { reader.new.lines.finished ≡ reader.old.lines.finished }
+{
+    for _ in 0..20 {
+        match reader.next()? {
+            NextCommand::Lines(command) => show_command(out, &command)?,
+            NextCommand::Wanting | NextCommand::End => return Ok(()),
+        }
+    }
+    Ok(())
+}
+
+fn agrees(rt: &impl Abort, alloc: Global, script: &[u8], want: &[u8]) -> Result<(), Fail> {
+    assert_eq!(rt;
+        shown(alloc, &commands_of(alloc, LIMIT, script)?)?.as_slice(),
+        want
+    );
+    for size in [1, 2, 3, 7] {
+        assert_eq!(rt;
+            shown_in_pieces(alloc, script, size)?.as_slice(),
+            want,
+            "in pieces of {size}"
+        );
+    }
+    Ok(())
+}
+
+#[test]
+fn lines_are_cut_at_line_feeds_and_at_the_limit(rt: HostRuntime) -> Result<(), Fail> {
+    for (script, want) in [
+        // The last line needs no line feed, and an empty one is none.
+        (b"".as_slice(), b"".as_slice()),
+        (b"\n", b""),
+        (b"report", b"R[report]"),
+        (b"report\n", b"R[report]"),
+        (b"report\nreport", b"R[report]R[report]"),
+        // One carriage return is dropped at the end of a line; inside it parts words.
+        (b"\r", b""),
+        (b"\r\n", b""),
+        (b"report\r\n", b"R[report]"),
+        (b"report\r", b"R[report]"),
+        (b"report\r\r\n", b"R[report\r]"),
+        (b"\rreport\n", b"R[\rreport]"),
+        (b"re\rport\n", b"U[re\rport]"),
+        // A line of 12 bytes is whole, one of 13 is cut; a carriage return at the end does not count.
+        (b"clock 123456\n", b"K[clock 123456]"),
+        (b"clock 123456\r\n", b"K[clock 123456]"),
+        (b"clock 123456", b"K[clock 123456]"),
+        (b"clock 1234567\n", b"K[clock 123456]~"),
+        (b"clock 1234567\r\n", b"K[clock 123456]~"),
+        (b"clock 123456\r\r\n", b"K[clock 123456]~"),
+        (b"clock 1234567", b"K[clock 123456]~"),
+        // Of a long line only the front is looked at.
+        (b"            report\nreport\n", b"R[report]"),
+        (b"#           \r          \nreport\n", b"R[report]"),
+    ] {
+        agrees(&rt, rt.alloc(), script, want)?;
+    }
+    Ok(())
+}
+
+#[test]
+fn a_command_is_its_first_word(rt: HostRuntime) -> Result<(), Fail> {
+    for (script, want) in [
+        (
+            b"source\nclock\nreport\ndelete\n".as_slice(),
+            b"S[source]K[clock]R[report]X[delete]".as_slice(),
+        ),
+        (
+            b"SOURCE\ncLocK 1\nReport\nDELETE\n",
+            b"S[SOURCE]K[cLocK 1]R[Report]X[DELETE]",
+        ),
+        (b" \t\r clock 7\n", b"K[ \t\r clock 7]"),
+        (b"clocks\nclo\n", b"U[clocks]U[clo]"),
+        // Blank lines and comments are none; `#` inside a line is no comment.
+        (b" \t \n\n# clock 1\n \t\r#clock 2\n", b""),
+        (b"report# 1\nx #\n", b"U[report# 1]U[x #]"),
+        // A form feed, a vertical tab and bytes above 127 belong to words.
+        (b"\x0creport\n", b"U[\x0creport]"),
+        (b"report\x0b\n", b"U[report\x0b]"),
+        (b"\xc2\xa0report\n", b"U[\xc2\xa0report]"),
+        (b"report \xff\n", b"R[report \xff]"),
+    ] {
+        agrees(&rt, rt.alloc(), script, want)?;
+    }
+    Ok(())
+}
+
+#[test]
+fn a_block_ends_with_a_line_that_is_exactly_a_dot(rt: HostRuntime) -> Result<(), Fail> {
+    for (script, want) in [
+        (
+            b"delta q\n(a\n)a\n.\nreport\n".as_slice(),
+            b"D[delta q][(a][)a]R[report]".as_slice(),
+        ),
+        (b"CREATE x y z\n.\n", b"C[CREATE x y z]"),
+        (b"Delta\n.\r\nreport\n", b"D[Delta]R[report]"),
+        (b"delta\n.", b"D[delta]"),
+        // No other line ends it.
+        (
+            b"delta\n. \n .\n..\n.\r\r\n\n",
+            b"D[delta][. ][ .][..][.\r][]!",
+        ),
+        // Comments, blank lines and commands inside it are lines of the block.
+        (
+            b"delta\n#x\n\nreport\ndelta b\n.\nreport\n",
+            b"D[delta][#x][][report][delta b]R[report]",
+        ),
+        // A block without an end.
+        (b"delta\n", b"D[delta]!"),
+        (b"create\nDO print", b"C[create][DO print]!"),
+        (b"create\n0123456789abc\n.\n", b"C[create][0123456789ab]~"),
+        // Outside a block a dot is a command of its own.
+        (b".\nclock 1\n.\n", b"U[.]K[clock 1]U[.]"),
+    ] {
+        agrees(&rt, rt.alloc(), script, want)?;
+    }
+    Ok(())
+}
+
+// What is told before the end is marked: no line without its line feed, and no block without its end.
+#[test]
+fn an_open_block_is_given_at_the_end_alone(rt: HostRuntime) -> Result<(), Fail> {
+    let alloc = rt.alloc();
+    let mut out = Vec::new(alloc);
+    let mut reader = CommandReader::new(alloc, LIMIT);
+    reader.push(b"report\ndelta\n(a\nclock 1\n")?;
+    show_next(&mut reader, &mut out)?;
+    assert_eq!(rt; out.as_slice(), b"R[report]".as_slice());
+    reader.push(b".\nclock 2")?;
+    show_next(&mut reader, &mut out)?;
+    assert_eq!(rt;
+        out.as_slice(),
+        b"R[report]D[delta][(a][clock 1]".as_slice()
+    );
+    reader.finish();
+    show_next(&mut reader, &mut out)?;
+    assert_eq!(rt;
+        out.as_slice(),
+        b"R[report]D[delta][(a][clock 1]K[clock 2]".as_slice()
+    );
+    assert!(rt; matches!(reader.next()?, NextCommand::End));
+    Ok(())
+}
+
+#[test]
+fn a_reader_of_lines_gives_each_line(rt: HostRuntime) -> Result<(), Fail> {
+    let alloc = rt.alloc();
+    let mut reader = LineReader::new(alloc, 3);
+    reader.push(b"ab\r\nabcd\n\nx")?;
+    reader.finish();
+    let mut out = Vec::new(alloc);
+    for _ in 0..5 {
+        if let NextLine::Line(line) = reader.next()? {
+            show_line(&mut out, line.bytes(), line.is_long())?;
+        }
+    }
+    assert_eq!(rt; out.as_slice(), b"[ab][abc]~[][x]".as_slice());
+    Ok(())
+}
+
+#[test]
+fn a_source_line_has_six_words(rt: HostRuntime) -> Result<(), Fail> {
+    for (head, want) in [
+        (b"source q root Quotes key @id".as_slice(), true),
+        (b"SOURCE q Root Quotes KEY symbol\r", true),
+        (b"source a/b root @x key @", true),
+        (b"source q root Quotes key", false),
+        (b"source q root Quotes key @id more", false),
+        (b"source q root Quotes keys @id", false),
+        (b"source q roots Quotes key @id", false),
+        (b"source q\"r root Quotes key @id", false),
+        (b"source q,r root Quotes key @id", false),
+        (b"source (q root Quotes key @id", false),
+        (b"source q) root Quotes key @id", false),
+        (b"source q\\r root Quotes key @id", false),
+        (b"source q root Quo\\tes key @id", false),
+    ] {
+        assert_eq!(rt; source_form(head).is_some(), want);
+    }
+    let form = source_form(b"source q root Quotes key @id").unwrap();
+    assert_eq!(rt; form.name, b"q".as_slice());
+    assert_eq!(rt; form.root, b"Quotes".as_slice());
+    assert_eq!(rt; form.rule, b"@id".as_slice());
+    Ok(())
+}
+
+#[test]
+fn a_source_name_has_1_to_255_bytes(rt: HostRuntime) -> Result<(), Fail> {
+    for (length, want) in [(0, false), (1, true), (255, true), (256, false)] {
+        let name = vec![in rt.alloc(); b'q'; length]?;
+        assert_eq!(rt; is_source_name(&name), want, "at {length}");
+    }
+    Ok(())
+}
+
+#[test]
+fn an_argument_is_one_word(rt: HostRuntime) -> Result<(), Fail> {
+    assert_eq!(rt; one_argument(b" delta\tq\r"), Some(b"q".as_slice()));
+    assert_eq!(rt; one_argument(b"delta"), None);
+    assert_eq!(rt; one_argument(b"delta q r"), None);
+    Ok(())
+}
+
+#[test]
+fn a_long_line_is_found_in_head_and_block(rt: HostRuntime) -> Result<(), Fail> {
+    let alloc = rt.alloc();
+    for (script, want) in [
+        (b"delta 123456\n123456789012\n.\n".as_slice(), false),
+        (b"delta 1234567\n.\n", true),
+        (b"delta\nx\n1234567890123\n.\n", true),
+    ] {
+        for command in commands_of(alloc, LIMIT, script)?.as_slice() {
+            assert_eq!(rt; has_long(command), want);
+        }
+    }
+    Ok(())
+}
