@@ -1,0 +1,5 @@
+pub mod LineKinds
+pub mod Spells
+pub mod Answers
+pub mod Reading
+pub mod Canonical

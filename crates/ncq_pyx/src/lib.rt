@@ -1,0 +1,24 @@
+//! Blocks of PYX lines, both ways.
+//! Lines come in and go out as the elements to put and the keys to remove that they spell; a forest comes in and goes
+//! out as its canonical lines.
+//! A block is read exactly where it spells items, or else the first fault is named by its line; each element that
+//! goes out is normal, and the canonical lines of a proper element spell that element again.
+#![tactic(auto)]
+
+mod error;
+mod laws;
+mod reader;
+mod tag;
+#[cfg(test)]
+mod tests;
+mod turns;
+mod writing;
+
+pub use error::PyxError;
+pub use laws::{
+    escapes_are_undone, proper_is_read, spelled_is_proper, spelled_once, written_is_read,
+    written_once,
+};
+pub use reader::{Items, MAX_NESTING, read_block};
+pub use turns::Item;
+pub use writing::write_forest;
