@@ -1,0 +1,17 @@
+use Rattle.std.proofs.Common.{◌≡◌, ◌-◌, length}
+use Rattle.ncq_run.specs.Status.{told}
+use Rattle.ncq_run.specs.Session.{SoFar, IsReady}
+use Rattle.ncq_run.proofs.session.serve.Given as goal
+
+abbrev pub invariant-turns : goal.invariant-turns
+invariant-turns g l = record {
+  ready : IsReady l.session.reader l.session.engine.store.changes l.session.count l.session.taken l.session.most (length l.session.buffer.items);
+  so_far : SoFar l.session.reader l.session.engine.store l.session.engine.subscriptions.items l.session.count l.session.taken
+      (told (g.I.Source.left l.fn.input) (g.O.Sink.held l.fn.output) (g.I.Source.given l.fn.input) (g.I.Source.faults l.fn.input) (g.O.Sink.faults l.fn.output))
+      (told (g.I.Source.left l.input) (g.O.Sink.held l.output) (g.I.Source.given l.input) (g.I.Source.faults l.input) (g.O.Sink.faults l.output));
+  most : l.session.most ≡ l.fn.most;
+  limit : l.session.reader.lines.limit ≡ l.fn.limit;
+}
+
+abbrev pub decreases-turns : goal.decreases-turns
+decreases-turns g l = l.session.most - l.session.taken

@@ -1,0 +1,9 @@
+pub mod Built
+pub mod History
+pub mod Answer
+pub mod Firing
+pub mod Output
+pub mod Weights
+pub mod Stands
+pub mod Session
+pub mod Status

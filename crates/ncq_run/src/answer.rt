@@ -1,0 +1,112 @@
+//! Answering the commands of a script, each as soon as it is whole.
+ghost use Rattle.std.specs.Prelude.{◌≡◌, ◌+◌, ◌-◌, ◌<◌, ◌≤◌, ◌^◌, ℕ, List, [], OnOk, OnErr, IsErrOf, length, drop};
+ghost use Rattle.std.specs.Io.KnownBytes.{Appends};
+ghost use Rattle.ncq_outside.specs.Causes.{HasCause, Rose};
+ghost use Rattle.ncq_script.specs.Commands.{known_commands};
+ghost use Rattle.ncq_script.specs.Reading.{Follows};
+ghost use Rattle.ncq_run.specs.History.{History};
+ghost use Rattle.ncq_run.specs.Output.{answer_to, after, out_of, history_of};
+ghost use Rattle.ncq_run.specs.Stands.{Stands};
+ghost use Rattle.ncq_run.specs.Status.{AppendsPrefix, AppendsProperPrefix};
+
+use crate::engine::Engine;
+use ncq_outside::{Failed, Sink};
+use ncq_script::{CommandLines, CommandReader, NextCommand};
+use std::alloc::{AllocError, Global};
+
+/// Why a session stopped before the end of its script.
+#[derive(Clone, Copy, Debug, PartialEq, Eq)]
+pub(crate) enum Stop {
+    NoMemory,
+    WriteFault,
+}
+
+/// Writes all of the bytes: each write offers those that are not yet taken.
+fn write_all<O: Sink>(output: &mut O, bytes: &[u8]) -> Result<(), Failed>
+    ensures ok { OnOk result (Appends (O.held output.old) (O.held output.new) bytes.now) }
+    ensures err { OnErr result (AppendsProperPrefix (O.held output.old) (O.held output.new) bytes.now) }
+    ensures cause { HasCause (O.faults output.old) (O.faults output.new) result }
+{
+    let mut rest = bytes;
+    while !rest.is_empty() {
+        let count = output.write(rest)?;
+        rest = rest_of(rest, count);
+    }
+    Ok(())
+}
+
+/// The bytes from a place on.
+fn rest_of(bytes: &[u8], at: usize) -> &[u8]
+    requires { at ≤ length bytes.now }
+    ensures { result.now ≡ drop at bytes.now }
+{
+    &bytes[at..]
+}
+
+/// Writes the answer to the command of this number.
+fn answer_one<O: Sink>(
+    alloc: Global,
+    engine: &mut Engine,
+    number: u64,
+    lines: &CommandLines,
+    output: &mut O,
+) -> Result<(), Stop>
+    requires few { engine.old.store.changes < number }
+    requires small { number < 2 ^ 60 }
+    ensures ok { OnOk result ((history : History) → Stands engine.old.store engine.old.subscriptions.items history →
+        Appends (O.held output.old) (O.held output.new) (answer_to history number lines.now)
+        × Stands engine.new.store engine.new.subscriptions.items (after history lines.now)) }
+    ensures few { engine.new.store.changes ≤ number }
+    ensures no_memory { IsErrOf result Stop.NoMemory → O.held output.new ≡ O.held output.old }
+    ensures write { IsErrOf result Stop.WriteFault → (history : History) → Stands engine.old.store engine.old.subscriptions.items history →
+        AppendsProperPrefix (O.held output.old) (O.held output.new) (answer_to history number lines.now) }
+    ensures later { O.faults output.old ≤ O.faults output.new }
+    ensures cause { IsErrOf result Stop.WriteFault → Rose (O.faults output.old) (O.faults output.new) }
+{
+    let mut text = Vec::new(alloc);
+    let Ok(()) = engine.answer(alloc, number, lines, &mut text) else {
+        return Err(Stop::NoMemory);
+    };
+    match write_all(output, text.as_slice()) {
+        Ok(()) => Ok(()),
+        Err(Failed) => Err(Stop::WriteFault),
+    }
+}
+
+/// Answers each command that can be told and that has no answer yet.
+pub(crate) fn answer_commands<O: Sink>(
+    alloc: Global,
+    reader: &mut CommandReader,
+    engine: &mut Engine,
+    count: &mut u64,
+    output: &mut O,
+) -> Result<(), Stop>
+    requires some { (pushed : List ℕ) × Follows reader.old pushed count.old × (length pushed < 2 ^ 59) }
+    requires few { engine.old.store.changes ≤ count.old }
+    ensures follows { OnOk result ((pushed : List ℕ) → Follows reader.old pushed count.old → Follows reader.new pushed count.new) }
+    ensures all { OnOk result ((pushed : List ℕ) → Follows reader.old pushed count.old →
+        count.new ≡ length (known_commands reader.old.lines.limit reader.old.lines.finished pushed)) }
+    ensures few { OnOk result (engine.new.store.changes ≤ count.new) }
+    ensures written { OnOk result ((pushed : List ℕ) (history : History) → Follows reader.old pushed count.old → Stands engine.old.store engine.old.subscriptions.items history →
+        Appends (O.held output.old) (O.held output.new) (out_of history (count.old + 1) (drop count.old (known_commands reader.old.lines.limit reader.old.lines.finished pushed)))
+        × Stands engine.new.store engine.new.subscriptions.items (history_of history (drop count.old (known_commands reader.old.lines.limit reader.old.lines.finished pushed)))) }
+    ensures no_memory { IsErrOf result Stop.NoMemory → (pushed : List ℕ) (history : History) → Follows reader.old pushed count.old → Stands engine.old.store engine.old.subscriptions.items history →
+        AppendsPrefix (O.held output.old) (O.held output.new) (out_of history (count.old + 1) (drop count.old (known_commands reader.old.lines.limit reader.old.lines.finished pushed))) }
+    ensures write { IsErrOf result Stop.WriteFault → (pushed : List ℕ) (history : History) → Follows reader.old pushed count.old → Stands engine.old.store engine.old.subscriptions.items history →
+        AppendsProperPrefix (O.held output.old) (O.held output.new) (out_of history (count.old + 1) (drop count.old (known_commands reader.old.lines.limit reader.old.lines.finished pushed))) }
+    ensures later { O.faults output.old ≤ O.faults output.new }
+    ensures cause { IsErrOf result Stop.WriteFault → Rose (O.faults output.old) (O.faults output.new) }
+    ensures limit { reader.new.lines.limit ≡ reader.old.lines.limit }
+    ensures finished { reader.new.lines.finished ≡ reader.old.lines.finished }
+{
+    'commands: loop {
+        match reader.next() {
+            Ok(NextCommand::Lines(lines)) => {
+                answer_one(alloc, engine, *count + 1, &lines, output)?;
+                *count += 1;
+            }
+            Ok(NextCommand::Wanting | NextCommand::End) => return Ok(()),
+            Err(AllocError) => return Err(Stop::NoMemory),
+        }
+    }
+}

@@ -1,0 +1,283 @@
+//! The top call: a session over a source and a sink.
+ghost use Rattle.std.specs.Prelude.{◌≡◌, ◌≢◌, ◌+◌, ◌-◌, ◌<◌, ◌≤◌, ◌^◌, ◌++◌, ℕ, List, Option, OnOk, OnErr, IfOk, IfSome, IfNone, IsErrOf, IsTrue, ◌↔◌, false, length, take};
+ghost use Rattle.std.specs.Io.KnownBytes.{Appends, Consumes, Keeps, IsAtEnd};
+ghost use Rattle.ncq_outside.specs.Causes.{HasCause, Rose, RoseBy};
+ghost use Rattle.ncq_script.specs.Commands.{commands, whole_commands};
+ghost use Rattle.ncq_script.specs.Reading.{Follows};
+ghost use Rattle.ncq_run.specs.Status.{Told, told, Ended, IsRun, exit_code_of, AppendsPrefix, AppendsProperPrefix};
+ghost use Rattle.ncq_run.specs.Session.{SoFar, IsReady};
+ghost use Rattle.ncq_run.specs.Stands.{Stands};
+ghost use Rattle.ncq_run.specs.Output.{output_of, output_of_whole, history_of_whole};
+
+use crate::answer::{Stop, answer_commands};
+use crate::engine::Engine;
+use ncq_base::Steps;
+use ncq_outside::{Failed, Sink, Source};
+use ncq_script::CommandReader;
+use std::alloc::{AllocError, Global};
+use std::sync::ledger::Ledger;
+
+/// The longest script, in bytes.
+pub const MAX_SCRIPT: usize = 268_435_456;
+
+/// The longest line that is looked at whole, in bytes, without its LF and one CR at its end.
+pub const MAX_LINE: usize = 1_048_576;
+
+/// The most bytes that a read asks for.
+const PIECE: usize = 65536;
+
+/// How a session ended.
+#[derive(Clone, Copy, Debug, PartialEq, Eq)]
+pub enum Status {
+    /// The script was read to its end, and its whole output was written.
+    Done,
+    /// The words fit no form; nothing was read or written.
+    Usage,
+    /// A read failed.
+    ReadFault,
+    /// A write failed.
+    WriteFault,
+    /// Memory ran out.
+    NoMemory,
+    /// The script is longer than `MAX_SCRIPT`.
+    ScriptTooLong,
+}
+
+/// Reads at most `most` bytes to the front of the buffer.
+fn fill<I: Source>(input: &mut I, buffer: &mut [u8], most: usize) -> Result<usize, Failed>
+    requires some { 0 < most }
+    requires room { most ≤ length buffer.old }
+    ensures small { IfOk result (λ n. n ≤ most) }
+    ensures bytes { IfOk result (λ n. Consumes (I.left input.old) (I.left input.new) (take n buffer.new)) }
+    ensures end { IfOk result (λ n. n ≡ 0 → IsAtEnd (I.left input.new)) }
+    ensures given { IfOk result (λ n. RoseBy (I.given input.old) n (I.given input.new)) }
+    ensures stays { OnErr result (Keeps (I.left input.old) (I.left input.new) × (I.given input.new ≡ I.given input.old)) }
+    ensures cause { HasCause (I.faults input.old) (I.faults input.new) result }
+{
+    input.read(&mut buffer[..most])
+}
+
+/// Pushes a piece, and answers the commands that are whole now.
+fn answer_piece<O: Sink>(
+    alloc: Global,
+    reader: &mut CommandReader,
+    engine: &mut Engine,
+    count: &mut u64,
+    output: &mut O,
+    piece: &[u8],
+) -> Result<(), Stop>
+    requires some { (pushed : List ℕ) × Follows reader.old pushed count.old × (length pushed + length piece.now < 2 ^ 59) }
+    requires few { engine.old.store.changes ≤ count.old }
+    requires is_open { reader.old.lines.finished ≡ false }
+    ensures follows { OnOk result ((pushed : List ℕ) → Follows reader.old pushed count.old → Follows reader.new (pushed ++ piece.now) count.new) }
+    ensures counted { OnOk result ((pushed : List ℕ) → Follows reader.old pushed count.old →
+        count.new ≡ length (whole_commands reader.old.lines.limit (pushed ++ piece.now))) }
+    ensures few { OnOk result (engine.new.store.changes ≤ count.new) }
+    ensures written { OnOk result ((pushed : List ℕ) → Follows reader.old pushed count.old → count.old ≡ length (whole_commands reader.old.lines.limit pushed) →
+        Stands engine.old.store engine.old.subscriptions.items (history_of_whole reader.old.lines.limit pushed) → (before : Option (List ℕ)) →
+        Appends before (O.held output.old) (output_of_whole reader.old.lines.limit pushed) → Appends before (O.held output.new) (output_of_whole reader.old.lines.limit (pushed ++ piece.now))
+        × Stands engine.new.store engine.new.subscriptions.items (history_of_whole reader.old.lines.limit (pushed ++ piece.now))) }
+    ensures no_memory { IsErrOf result Stop.NoMemory → (pushed : List ℕ) → Follows reader.old pushed count.old → count.old ≡ length (whole_commands reader.old.lines.limit pushed) →
+        Stands engine.old.store engine.old.subscriptions.items (history_of_whole reader.old.lines.limit pushed) → (before : Option (List ℕ)) →
+        Appends before (O.held output.old) (output_of_whole reader.old.lines.limit pushed) → (more : List ℕ) → AppendsPrefix before (O.held output.new) (output_of reader.old.lines.limit ((pushed ++ piece.now) ++ more)) }
+    ensures write { IsErrOf result Stop.WriteFault → (pushed : List ℕ) → Follows reader.old pushed count.old → count.old ≡ length (whole_commands reader.old.lines.limit pushed) →
+        Stands engine.old.store engine.old.subscriptions.items (history_of_whole reader.old.lines.limit pushed) → (before : Option (List ℕ)) →
+        Appends before (O.held output.old) (output_of_whole reader.old.lines.limit pushed) → (more : List ℕ) → AppendsProperPrefix before (O.held output.new) (output_of reader.old.lines.limit ((pushed ++ piece.now) ++ more)) }
+    ensures later { O.faults output.old ≤ O.faults output.new }
+    ensures cause { IsErrOf result Stop.WriteFault → Rose (O.faults output.old) (O.faults output.new) }
+    ensures limit { reader.new.lines.limit ≡ reader.old.lines.limit }
+    ensures is_open { reader.new.lines.finished ≡ false }
+{
+    match reader.push(piece) {
+        Ok(()) => answer_commands(alloc, reader, engine, count, output),
+        Err(AllocError) => Err(Stop::NoMemory),
+    }
+}
+
+/// Marks the end, and answers the last command.
+fn answer_rest<O: Sink>(
+    alloc: Global,
+    reader: &mut CommandReader,
+    engine: &mut Engine,
+    count: &mut u64,
+    output: &mut O,
+) -> Result<(), Stop>
+    requires some { (pushed : List ℕ) × Follows reader.old pushed count.old × (length pushed < 2 ^ 59) }
+    requires few { engine.old.store.changes ≤ count.old }
+    ensures counted { OnOk result ((pushed : List ℕ) → Follows reader.old pushed count.old → count.new ≡ length (commands reader.old.lines.limit pushed)) }
+    ensures written { OnOk result ((pushed : List ℕ) → Follows reader.old pushed count.old → count.old ≡ length (whole_commands reader.old.lines.limit pushed) →
+        Stands engine.old.store engine.old.subscriptions.items (history_of_whole reader.old.lines.limit pushed) → (before : Option (List ℕ)) →
+        Appends before (O.held output.old) (output_of_whole reader.old.lines.limit pushed) → Appends before (O.held output.new) (output_of reader.old.lines.limit pushed)) }
+    ensures no_memory { IsErrOf result Stop.NoMemory → (pushed : List ℕ) → Follows reader.old pushed count.old → count.old ≡ length (whole_commands reader.old.lines.limit pushed) →
+        Stands engine.old.store engine.old.subscriptions.items (history_of_whole reader.old.lines.limit pushed) → (before : Option (List ℕ)) →
+        Appends before (O.held output.old) (output_of_whole reader.old.lines.limit pushed) → AppendsPrefix before (O.held output.new) (output_of reader.old.lines.limit pushed) }
+    ensures write { IsErrOf result Stop.WriteFault → (pushed : List ℕ) → Follows reader.old pushed count.old → count.old ≡ length (whole_commands reader.old.lines.limit pushed) →
+        Stands engine.old.store engine.old.subscriptions.items (history_of_whole reader.old.lines.limit pushed) → (before : Option (List ℕ)) →
+        Appends before (O.held output.old) (output_of_whole reader.old.lines.limit pushed) → AppendsProperPrefix before (O.held output.new) (output_of reader.old.lines.limit pushed) }
+    ensures later { O.faults output.old ≤ O.faults output.new }
+    ensures cause { IsErrOf result Stop.WriteFault → Rose (O.faults output.old) (O.faults output.new) }
+    ensures limit { reader.new.lines.limit ≡ reader.old.lines.limit }
+{
+    reader.finish();
+    answer_commands(alloc, reader, engine, count, output)
+}
+
+/// The bytes up to a place.
+fn front_of(bytes: &[u8], end: usize) -> &[u8]
+    requires { end ≤ length bytes.now }
+    ensures { result.now ≡ take end bytes.now }
+{
+    &bytes[..end]
+}
+
+/// How far a session has come, and its limit.
+#[derive(Drop)]
+struct Session {
+    reader: CommandReader,
+    engine: Engine,
+    buffer: Vec<u8>,
+    count: u64,
+    taken: usize,
+    most: usize,
+}
+
+/// Reads a piece and answers what is whole now. It tells how the session ends, where it does.
+fn turn<I: Source, O: Sink>(
+    alloc: Global,
+    session: &mut Session,
+    input: &mut I,
+    output: &mut O,
+) -> Option<Status>
+    requires { IsReady session.old.reader session.old.engine.store.changes session.old.count session.old.taken session.old.most (length session.old.buffer.items) }
+    ensures ready { IfNone result (IsReady session.new.reader session.new.engine.store.changes session.new.count session.new.taken session.old.most (length session.new.buffer.items)) }
+    ensures falls { IfNone result (session.old.taken < session.new.taken) }
+    ensures goes_on { IfNone result ((start : Told) → SoFar session.old.reader session.old.engine.store session.old.engine.subscriptions.items session.old.count session.old.taken start
+        (told (I.left input.old) (O.held output.old) (I.given input.old) (I.faults input.old) (O.faults output.old)) →
+        SoFar session.new.reader session.new.engine.store session.new.engine.subscriptions.items session.new.count session.new.taken start
+        (told (I.left input.new) (O.held output.new) (I.given input.new) (I.faults input.new) (O.faults output.new))) }
+    ensures ends { IfSome result (λ status. (start : Told) → SoFar session.old.reader session.old.engine.store session.old.engine.subscriptions.items session.old.count session.old.taken start
+        (told (I.left input.old) (O.held output.old) (I.given input.old) (I.faults input.old) (O.faults output.old)) →
+        Ended session.old.reader.lines.limit session.old.most start
+        (told (I.left input.new) (O.held output.new) (I.given input.new) (I.faults input.new) (O.faults output.new)) status) }
+    ensures limits { (session.new.most ≡ session.old.most) × (session.new.reader.lines.limit ≡ session.old.reader.lines.limit) }
+{
+    let room = session.most - session.taken;
+    let Ok(got) = fill(input, &mut session.buffer, PIECE.min(room + 1)) else {
+        return Some(Status::ReadFault);
+    };
+    if got == 0 {
+        return match answer_rest(
+            alloc,
+            &mut session.reader,
+            &mut session.engine,
+            &mut session.count,
+            output,
+        ) {
+            Ok(()) => Some(Status::Done),
+            Err(Stop::NoMemory) => Some(Status::NoMemory),
+            Err(Stop::WriteFault) => Some(Status::WriteFault),
+        };
+    }
+    let inside = got.min(room);
+    let piece = front_of(&session.buffer, inside);
+    match answer_piece(
+        alloc,
+        &mut session.reader,
+        &mut session.engine,
+        &mut session.count,
+        output,
+        piece,
+    ) {
+        Ok(()) if got > room => Some(Status::ScriptTooLong),
+        Ok(()) => {
+            session.taken += got;
+            None
+        }
+        Err(Stop::NoMemory) => Some(Status::NoMemory),
+        Err(Stop::WriteFault) => Some(Status::WriteFault),
+    }
+}
+
+/// A session on a script of at most `most` bytes, with lines of at most `limit` bytes.
+fn serve<I: Source, O: Sink>(
+    alloc: Global,
+    input: &mut I,
+    output: &mut O,
+    most: usize,
+    limit: usize,
+) -> Status
+    requires most { most < 2 ^ 59 }
+    requires limit { limit < 2 ^ 59 }
+    ensures { Ended limit most
+        (told (I.left input.old) (O.held output.old) (I.given input.old) (I.faults input.old) (O.faults output.old))
+        (told (I.left input.new) (O.held output.new) (I.given input.new) (I.faults input.new) (O.faults output.new)) result }
+{
+    let Ok(buffer) = vec![in alloc; 0u8; PIECE] else {
+        return Status::NoMemory;
+    };
+    let mut session = Session {
+        reader: CommandReader::new(alloc, limit),
+        engine: Engine::new(alloc),
+        buffer,
+        count: 0,
+        taken: 0,
+        most,
+    };
+    'turns: loop {
+        if let Some(status) = turn(alloc, &mut session, input, output) {
+            return status;
+        }
+    }
+}
+
+/// Whether the words are the one word `run`.
+fn is_run(words: &[&str]) -> bool
+    ensures { IsTrue result ↔ IsRun words.now }
+{
+    match words {
+        [word] => *word == "run",
+        _ => false,
+    }
+}
+
+/// Reads the script from `input` and writes the answer to each of its commands to `output`.
+///
+/// `Usage` comes exactly where the words are not the one word `run`; then nothing is read or written.
+/// `Done` means that the script was read to its end and that `output` was extended by the whole defined output.
+/// `ReadFault` and `WriteFault` come only where a read or a write failed in this call, `ScriptTooLong` only
+/// where the source gave more than `MAX_SCRIPT` bytes in this call. After each of them, and after `NoMemory`, `output` was extended by a
+/// front of the defined output. No row is made yet, so `steps` stays.
+pub fn run<I: Source, O: Sink, L: Ledger>(
+    alloc: Global,
+    words: &[&str],
+    input: &mut I,
+    output: &mut O,
+    steps: &mut Steps<L>,
+) -> Status
+    ensures usage { result ≡ Status.Usage ↔ ¬ IsRun words.now }
+    ensures untouched { result ≡ Status.Usage → (input.new ≡ input.old) × (output.new ≡ output.old) }
+    ensures ended { IsRun words.now → Ended MAX_LINE MAX_SCRIPT
+        (told (I.left input.old) (O.held output.old) (I.given input.old) (I.faults input.old) (O.faults output.old))
+        (told (I.left input.new) (O.held output.new) (I.given input.new) (I.faults input.new) (O.faults output.new)) result }
+    ensures steps { steps.new ≡ steps.old }
+{
+    let _ = steps;
+    if !is_run(words) {
+        return Status::Usage;
+    }
+    serve(alloc, input, output, MAX_SCRIPT, MAX_LINE)
+}
+
+/// The exit code of a status: 0, 2, 3, 4, 5, 6 in the order of the statuses.
+pub fn exit_code(status: Status) -> u8
+    ensures { result ≡ exit_code_of status }
+{
+    match status {
+        Status::Done => 0,
+        Status::Usage => 2,
+        Status::ReadFault => 3,
+        Status::WriteFault => 4,
+        Status::NoMemory => 5,
+        Status::ScriptTooLong => 6,
+    }
+}

@@ -1,0 +1,51 @@
+-- A store, as callers see it.
+use Rattle.std.specs.Prelude.{◌≡◌, ℕ, ◌+◌, ◌<◌, ◌≤◌, List, map, length, slice_get, slice_set, Option, Some, refl, position, Ok, Err}
+use Rattle.std.specs.Coded.{Coded, code_by, coded×, coded_ℕ, coded_list}
+use Rattle.ncq_base.specs.Keys.{is_key}
+use Rattle.ncq_source.specs.declared.change.SourceId.{SourceId}
+use Rattle.ncq_source.specs.declared.declared.Declared.{Declared}
+use Rattle.ncq_source.specs.contracts.declared.Declared.{the_row as declared_row}
+use Rattle.ncq_source.specs.ChangeStates.{ChangeState}
+use Rattle.ncq_source.specs.Stores.{Follows}
+pub use Rattle.ncq_source.specs.Stores.{without_room}
+use Rattle.ncq_source.specs.Changes.{Trial}
+use Rattle.ncq_source.specs.Changes.Trial.{Good, NoKey, NotThere}
+use Rattle.ncq_source.specs.declared.change.Entry.{Entry}
+use Rattle.std.specs.declared.result.Result.{Result}
+use Rattle.ncq_source.specs.declared.change.ChangeError.{ChangeError}
+use Rattle.ncq_source.specs.declared.change.ChangeError.TheVariants.{BadKey, NoSuchKey, NoSource, OutOfMemory}
+
+pub record StoreState : Type 0 where
+  pub sources : List Declared
+  pub changes : ℕ
+
+abbrev pub store_code : Coded StoreState
+store_code = code_by (List Declared × ℕ) (coded× (coded_list declared_row.coded) coded_ℕ) (λ s. (s.sources, s.changes)) (λ p. record { sources = p.0; changes = p.1 }) (λ _. refl)
+
+abbrev pub names : StoreState → List (List ℕ)
+names store = map (λ s. s.name) store.sources
+
+-- the first source of this name
+abbrev pub found : StoreState → List ℕ → Option ℕ
+found store name = position (is_key name) (names store)
+
+abbrev pub IsDeclared : StoreState → SourceId → Type 0
+IsDeclared store id = id.0 < length store.sources
+
+-- the source of the change has room for each of its entries
+abbrev pub HasRoom : StoreState → ChangeState → Type 0
+HasRoom store change = (s : Declared) → slice_get store.sources change.source.0 ≡ Some s → length change.entries ≤ s.elements.room
+
+-- the source of the change follows its entries, and the others are as they were
+pub record IsCommitted (old : StoreState) (change : ChangeState) (new : StoreState) : Type 0 where
+  pub changes : new.changes ≡ old.changes + 1
+  pub sources : (s : Declared) → slice_get old.sources change.source.0 ≡ Some s
+      → (t : Declared) × (new.sources ≡ slice_set old.sources change.source.0 t) × Follows s t change.entries new.changes
+
+-- what an answer tells of the trial of a change to the source at this place
+abbrev pub TellsChange : Result ChangeState ChangeError → ℕ → Trial (List Entry) → Type 0
+TellsChange (Ok change) at trial = (change.source.0 ≡ at) × (trial ≡ Good change.entries)
+TellsChange (Err (BadKey position)) at trial = trial ≡ NoKey position
+TellsChange (Err (NoSuchKey position)) at trial = trial ≡ NotThere position
+TellsChange (Err NoSource) at trial = ⊥
+TellsChange (Err OutOfMemory) at trial = Unit {0}

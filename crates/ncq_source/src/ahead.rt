@@ -1,0 +1,61 @@
+//! The elements of a source as they will be after some items.
+ghost use Rattle.std.specs.Prelude.{◌≡◌, [], OnOk, OnErr};
+ghost use Rattle.std.specs.Option.{option_copied};
+ghost use Rattle.std.specs.FinMap.{get};
+ghost use Rattle.ncq_source.specs.Held.{map_of, with_at};
+
+use crate::elements::Elements;
+use ncq_base::{Bytes, Shared};
+use indexmap::IndexMap;
+use std::alloc::{AllocError, Global};
+use std::marker::Model;
+use ncq_tree::Element;
+
+/// The elements of a source, and over them the keys that items changed.
+#[derive(Drop)]
+pub(crate) struct Ahead<'a> {
+    elements: &'a Elements,
+    changed: IndexMap<Bytes, Option<Shared<Element>>>,
+}
+
+impl<'a> Model for Ahead<'a> {
+    ghost use Rattle.ncq_source.specs.Held.{Kept, kept_code, map_of, over};
+
+    ghost Value = { Kept };
+
+    ghost coded = { kept_code };
+
+    ghost view = { λ a. over (map_of a.elements.now.pairs) a.changed.entries };
+}
+
+impl<'a> Ahead<'a> {
+    pub(crate) fn new(alloc: Global, elements: &'a Elements) -> Ahead<'a>
+        ensures { result ≡ map_of elements.now.pairs }
+    {
+        Ahead {
+            elements,
+            changed: IndexMap::new(alloc),
+        }
+    }
+
+    pub(crate) fn get(&self, key: &Bytes) -> Option<&Shared<Element>>
+        ensures { option_copied result ≡ get self.now key.now }
+    {
+        match self.changed.get(key) {
+            Some(after) => after.as_ref(),
+            None => self.elements.get(key),
+        }
+    }
+
+    pub(crate) fn set(
+        &mut self,
+        key: Bytes,
+        after: Option<Shared<Element>>,
+    ) -> Result<(), AllocError>
+        ensures ok { OnOk result (self.new ≡ with_at self.old key after) }
+        ensures err { OnErr result (self.new ≡ self.old) }
+    {
+        self.changed.insert(key, after)?;
+        Ok(())
+    }
+}

@@ -1,0 +1,36 @@
+//! A declared source.
+ghost use Rattle.std.specs.Prelude.{◌≡◌, ◌≤◌, length, OnOk};
+ghost use Rattle.ncq_source.specs.Stores.{Follows, without_room};
+
+use crate::change::Entries;
+use crate::elements::Elements;
+use crate::key::Key;
+use ncq_base::Bytes;
+use std::alloc::AllocError;
+
+/// A source with its elements, and the number of its last change.
+#[derive(Drop)]
+pub(crate) struct Declared {
+    pub(crate) name: Bytes,
+    pub(crate) root: Bytes,
+    pub(crate) key: Key,
+    pub(crate) elements: Elements,
+    pub(crate) last: u64,
+}
+
+impl Declared {
+    pub(crate) fn reserve(&mut self, additional: usize) -> Result<(), AllocError>
+        ensures same { without_room self.new ≡ without_room self.old }
+        ensures room { OnOk result (additional ≤ self.new.elements.room) }
+    {
+        self.elements.reserve(additional)
+    }
+
+    pub(crate) fn commit(&mut self, entries: Entries, number: u64)
+        requires { length entries ≤ self.old.elements.room }
+        ensures { Follows self.old self.new entries number }
+    {
+        self.elements.apply(entries);
+        self.last = number;
+    }
+}

@@ -1,0 +1,112 @@
+//! The elements of a source.
+ghost use Rattle.std.specs.Prelude.{◌≡◌, [], ◌∷◌, ◌+◌, ◌-◌, ◌<◌, ◌≤◌, length, slice_get, Some, None, OnOk, OnErr, IfSome, map};
+ghost use Rattle.std.specs.Option.{option_copied};
+ghost use Rattle.std.specs.FinMap.{get, insert, remove};
+ghost use Rattle.std.specs.List.{IsDistinct};
+ghost use Rattle.std.specs.Map.{keys_of};
+ghost use Rattle.ncq_base.specs.Keys.{is_key};
+ghost use Rattle.ncq_source.specs.Changes.{after};
+ghost use Rattle.ncq_source.specs.Held.{map_of, with_at};
+
+use crate::change::{Entries, Entry};
+use ncq_base::{Bytes, Shared};
+use indexmap::IndexMap;
+use std::alloc::{AllocError, Global};
+use std::marker::Model;
+use ncq_tree::Element;
+
+/// Elements by their keys, in an order of its own, with room for some more.
+#[derive(Drop)]
+pub(crate) struct Elements {
+    elements: IndexMap<Bytes, Shared<Element>>,
+}
+
+impl Model for Elements {
+    ghost use Rattle.ncq_source.specs.Held.{Held, held_code};
+    ghost use Rattle.indexmap.specs.IndexMap.{spare};
+
+    ghost Value = { Held };
+
+    ghost coded = { held_code };
+
+    ghost view = { λ e. record { pairs = e.elements.entries; room = spare e.elements } };
+}
+
+impl Elements {
+    pub(crate) fn new(alloc: Global) -> Elements
+        ensures { result.pairs ≡ [] }
+    {
+        Elements {
+            elements: IndexMap::new(alloc),
+        }
+    }
+
+    pub(crate) fn len(&self) -> usize
+        ensures count { result ≡ length self.now.pairs }
+        ensures once { IsDistinct is_key (keys_of self.now.pairs) }
+    {
+        self.elements.len()
+    }
+
+    pub(crate) fn at(&self, at: usize) -> &Element
+        requires { at < length self.now.pairs }
+        ensures { slice_get (map (λ p. p.1) self.now.pairs) at ≡ Some result.now }
+    {
+        match self.elements.get_index(at) {
+            Some((_, element)) => element.get(),
+            None => unreachable!(),
+        }
+    }
+
+    pub(crate) fn get(&self, key: &Bytes) -> Option<&Shared<Element>>
+        ensures { option_copied result ≡ get (map_of self.now.pairs) key.now }
+    {
+        self.elements.get(key)
+    }
+
+    /// Room for this many more elements.
+    pub(crate) fn reserve(&mut self, additional: usize) -> Result<(), AllocError>
+        ensures pairs { self.new.pairs ≡ self.old.pairs }
+        ensures room { OnOk result (additional ≤ self.new.room) }
+    {
+        self.elements.reserve(additional)
+    }
+
+    /// The element at the key, or none.
+    pub(crate) fn set(&mut self, key: Bytes, element: Option<Shared<Element>>)
+        requires { 0 < self.old.room }
+        ensures pairs { map_of self.new.pairs ≡ with_at (map_of self.old.pairs) key element }
+        ensures room { self.old.room ≤ self.new.room + 1 }
+    {
+        match element {
+            Some(element) => self.put(key, element),
+            None => self.take(&key),
+        }
+    }
+
+    /// What the entries say of their keys, in order.
+    pub(crate) fn apply(&mut self, entries: Entries)
+        requires { length entries ≤ self.old.room }
+        ensures { map_of self.new.pairs ≡ after (map_of self.old.pairs) entries }
+    {
+        for entry in entries.into_vec() {
+            let Entry { key, after, .. } = entry;
+            self.set(key, after);
+        }
+    }
+
+    fn put(&mut self, key: Bytes, element: Shared<Element>)
+        requires { 0 < self.old.room }
+        ensures pairs { map_of self.new.pairs ≡ insert (map_of self.old.pairs) key element }
+        ensures room { self.old.room ≤ self.new.room + 1 }
+    {
+        let _old = self.elements.insert(key, element).unwrap();
+    }
+
+    fn take(&mut self, key: &Bytes)
+        ensures pairs { map_of self.new.pairs ≡ remove (map_of self.old.pairs) key.now }
+        ensures room { self.old.room ≤ self.new.room }
+    {
+        let _old = self.elements.swap_remove(key);
+    }
+}

@@ -1,0 +1,88 @@
+ghost use Rattle.std.specs.Prelude.{◌≡◌, [], IfOk};
+ghost use Rattle.ncq_source.specs.Keys.{key_of, child_keys, attribute_keys, only, only_behind, option_list};
+ghost use Rattle.std.specs.List.{flat_map};
+
+use ncq_base::{Bytes, Copied};
+use std::alloc::{AllocError, Global};
+use ncq_tree::{Attribute, Element, Node, string_value};
+
+/// Where the key of an element stands.
+#[derive(Debug, Drop)]
+pub enum Key {
+    Child(Bytes),
+    Attribute(Bytes),
+}
+
+/// The element's one key value, where it has exactly one and that is not empty.
+pub fn key_of(alloc: Global, rule: &Key, element: &Element) -> Result<Option<Bytes>, AllocError>
+    ensures { IfOk result (λ key. key ≡ key_of rule.now element.now) }
+{
+    match rule {
+        Key::Child(name) => child_key(alloc, name, element.children.as_slice()),
+        Key::Attribute(name) => attribute_key(alloc, name, element.attributes.as_slice()),
+    }
+}
+
+/// The key that is the string value of the one child of this name.
+fn child_key(alloc: Global, name: &Bytes, nodes: &[Node]) -> Result<Option<Bytes>, AllocError>
+    ensures { IfOk result (λ key. key ≡ only (flat_map (child_keys name.now) nodes.now)) }
+{
+    let mut found: Option<Bytes> = None;
+    for node in nodes {
+        if let Some(value) = child_value(alloc, name, node)? {
+            if found.is_some() {
+                return Ok(None);
+            }
+            found = Some(value);
+        }
+    }
+    Ok(unless_empty(found))
+}
+
+/// The string value of a node that is an element of this name; none of any other node.
+#[tactic(auto, using(crate::proofs::KeyLaws::child_keys_are))]
+pub fn child_value(alloc: Global, name: &Bytes, node: &Node) -> Result<Option<Bytes>, AllocError>
+    ensures { IfOk result (λ value. option_list value ≡ child_keys name.now node.now) }
+{
+    match node {
+        Node::Text(_) => Ok(None),
+        Node::Element(child) => {
+            if *name != child.name {
+                return Ok(None);
+            }
+            Ok(Some(string_value(alloc, &child.children)?))
+        }
+    }
+}
+
+/// The key that is the value of the one attribute of this name.
+fn attribute_key(
+    alloc: Global,
+    name: &Bytes,
+    attributes: &[Attribute],
+) -> Result<Option<Bytes>, AllocError>
+    ensures { IfOk result (λ key. key ≡ only (flat_map (attribute_keys name.now) attributes.now)) }
+{
+    let mut found: Option<&Bytes> = None;
+    for attribute in attributes {
+        if *name == attribute.name {
+            if found.is_some() {
+                return Ok(None);
+            }
+            found = Some(&attribute.value);
+        }
+    }
+    match found {
+        Some(value) if !value.as_slice().is_empty() => Ok(Some(value.copy(alloc)?)),
+        _ => Ok(None),
+    }
+}
+
+fn unless_empty(found: Option<Bytes>) -> Option<Bytes>
+    ensures { result ≡ only_behind found [] }
+{
+    match found {
+        Some(value) if !value.as_slice().is_empty() => Some(value),
+        _ => None,
+    }
+}

@@ -1,0 +1,50 @@
+//! Names in the order in which they came.
+ghost use Rattle.std.specs.Prelude.{◌≡◌, ◌++◌, ◌∷◌, [], ◌<◌, length, OnOk, OnErr, IfSome, position, is_some, false};
+ghost use Rattle.std.specs.List.{list_any};
+ghost use Rattle.ncq_base.specs.Keys.{is_key};
+
+use indexmap::IndexSet;
+use std::alloc::{AllocError, Global};
+use std::marker::Model;
+
+/// Names, each once, that are found by their bytes.
+#[derive(Drop)]
+pub(crate) struct Names {
+    names: IndexSet<Vec<u8>>,
+}
+
+impl Model for Names {
+    ghost use Rattle.std.specs.Prelude.{List, ℕ, map};
+
+    ghost Value = { List (List ℕ) };
+
+    ghost view = { λ n. map (λ v. v.items) n.names.keys };
+}
+
+impl Names {
+    pub(crate) fn new(alloc: Global) -> Names
+        ensures { result ≡ [] }
+    {
+        Names {
+            names: IndexSet::new(alloc),
+        }
+    }
+
+    pub(crate) fn find(&self, name: &[u8]) -> Option<usize>
+        ensures place { result ≡ position (is_key name.now) self.now }
+        ensures there { is_some result ≡ list_any (is_key name.now) self.now }
+        ensures within { IfSome result (λ at. at < length self.now) }
+    {
+        self.names.get_index_of(name)
+    }
+
+    pub(crate) fn push(&mut self, alloc: Global, name: &[u8]) -> Result<(), AllocError>
+        requires { list_any (is_key name.now) self.old ≡ false }
+        ensures ok { OnOk result (self.new ≡ self.old ++ name.now ∷ []) }
+        ensures err { OnErr result (self.new ≡ self.old) }
+    {
+        let name = Vec::from_slice(alloc, name)?;
+        self.names.insert(name)?;
+        Ok(())
+    }
+}

@@ -1,0 +1,111 @@
+//! The entries of items.
+ghost use Rattle.std.specs.Prelude.{◌≡◌, ◌+◌, Ok, IfOk, OnOk, Some};
+ghost use Rattle.ncq_source.specs.Changes.{Tells, entry_of, put_entry, gone_entry, prepared};
+ghost use Rattle.ncq_source.specs.Held.{map_of, with_at};
+ghost use Rattle.ncq_source.specs.Keys.{key_of};
+ghost use Rattle.std.specs.Option.{option_copied};
+ghost use Rattle.std.specs.FinMap.{get};
+
+use crate::ahead::Ahead;
+use crate::change::{ChangeError, Entries, Entry};
+use crate::elements::Elements;
+use crate::key::{Key, key_of};
+use ncq_base::{Bytes, Copied, Shared};
+use std::alloc::{AllocError, Global};
+use ncq_pyx::Item;
+use ncq_tree::Element;
+
+/// One entry for each item, in order.
+pub(crate) fn prepare(
+    alloc: Global,
+    rule: &Key,
+    elements: &Elements,
+    items: &[Item],
+) -> Result<Entries, ChangeError>
+    ensures { Tells result (prepared rule.now 1 (map_of elements.now.pairs) items.now) }
+{
+    let mut ahead = Ahead::new(alloc, elements);
+    let mut entries = Entries::new(alloc);
+    for item in items {
+        let position = entries.len() as u64 + 1;
+        let entry = entry_of(alloc, rule, &ahead, item, position)?;
+        note(alloc, &mut ahead, &entry)?;
+        entries.push(entry)?;
+    }
+    Ok(entries)
+}
+
+fn entry_of(
+    alloc: Global,
+    rule: &Key,
+    ahead: &Ahead<'_>,
+    item: &Item,
+    position: u64,
+) -> Result<Entry, ChangeError>
+    ensures { Tells result (entry_of rule.now position ahead.now item.now) }
+{
+    match item {
+        Item::Put(element) => {
+            let key = key_of(alloc, rule, element)?;
+            put_entry(alloc, ahead, key, element, position)
+        }
+        Item::Remove(key) => gone_entry(alloc, ahead, key, position),
+    }
+}
+
+fn put_entry(
+    alloc: Global,
+    ahead: &Ahead<'_>,
+    key: Option<Bytes>,
+    element: &Element,
+    position: u64,
+) -> Result<Entry, ChangeError>
+    ensures { Tells result (put_entry position ahead.now key element.now) }
+{
+    let Some(key) = key else {
+        return Err(ChangeError::BadKey { position });
+    };
+    let before = shared(ahead.get(&key))?;
+    let after = Shared::new(alloc, element.copy(alloc)?)?;
+    Ok(Entry {
+        key,
+        before,
+        after: Some(after),
+    })
+}
+
+fn gone_entry(
+    alloc: Global,
+    ahead: &Ahead<'_>,
+    key: &Bytes,
+    position: u64,
+) -> Result<Entry, ChangeError>
+    ensures { Tells result (gone_entry position key.now (get ahead.now key.now)) }
+{
+    let Some(before) = ahead.get(key) else {
+        return Err(ChangeError::NoSuchKey { position });
+    };
+    let before = before.share()?;
+    Ok(Entry {
+        key: key.copy(alloc)?,
+        before: Some(before),
+        after: None,
+    })
+}
+
+fn note(alloc: Global, ahead: &mut Ahead<'_>, entry: &Entry) -> Result<(), AllocError>
+    ensures { OnOk result (ahead.new ≡ with_at ahead.old entry.now.key entry.now.after) }
+{
+    let key = entry.key.copy(alloc)?;
+    let after = shared(entry.after.as_ref())?;
+    ahead.set(key, after)
+}
+
+fn shared(element: Option<&Shared<Element>>) -> Result<Option<Shared<Element>>, AllocError>
+    ensures { IfOk result (λ s. s ≡ option_copied element.entry) }
+{
+    match element {
+        Some(element) => Ok(Some(element.share()?)),
+        None => Ok(None),
+    }
+}

@@ -1,0 +1,211 @@
+//! Sources.
+ghost use Rattle.std.specs.Prelude.{◌≡◌, ◌≢◌, ◌+◌, ◌-◌, ◌<◌, ◌≤◌, ◌^◌, ◌++◌, ◌∷◌, [], length, map, slice_get, slice_set, Some, None, Ok, Err, IfOk, OnOk, OnErr, IsSome, ◌↔◌};
+ghost use Rattle.std.specs.Option.{option_map};
+ghost use Rattle.std.specs.List.{IsDistinct};
+ghost use Rattle.std.specs.Map.{keys_of};
+ghost use Rattle.ncq_base.specs.Keys.{is_key};
+ghost use Rattle.ncq_source.specs.Changes.{Tells, prepared};
+ghost use Rattle.ncq_source.specs.Stores.{kept, Follows};
+ghost use Rattle.ncq_source.specs.StoreStates.{StoreState, IsCommitted, IsDeclared, names, without_room, HasRoom, found, TellsChange};
+ghost use Rattle.ncq_source.specs.Keys.{key_of};
+
+use crate::change::{Change, ChangeError, SourceId};
+use crate::declared::Declared;
+use crate::elements::Elements;
+use crate::key::{Key, key_of};
+use crate::names::Names;
+use crate::prepare::prepare;
+use ncq_base::Bytes;
+use std::alloc::{AllocError, Global};
+use std::marker::Model;
+use thiserror::Error;
+use ncq_pyx::Items;
+use ncq_tree::Element;
+
+/// Declared sources, and the number of changes that were made.
+#[derive(Drop)]
+pub struct Store {
+    names: Names,
+    sources: Vec<Declared>,
+    changes: u64,
+}
+
+impl Model for Store {
+    ghost use Rattle.ncq_source.specs.StoreStates.{StoreState, store_code};
+    ghost use Rattle.std.specs.Prelude.{◌≡◌, map};
+
+    ghost Value = { StoreState };
+
+    ghost coded = { store_code };
+
+    ghost view = { λ s. record { sources = s.sources.items; changes = s.changes } };
+
+    ghost invariant = { λ s. s.names ≡ map (λ d. d.name) s.sources.items };
+}
+
+/// Why a source was not declared.
+#[derive(Debug, Drop, Error)]
+pub enum DeclareError {
+    #[error("the source exists")]
+    Exists,
+    #[error("out of memory")]
+    OutOfMemory,
+}
+
+impl From<AllocError> for DeclareError {
+    ghost use Rattle.ncq_source.specs.declared.store.DeclareError.TheVariants.{OutOfMemory};
+
+    ghost from_gives = { λ _ e. e ≡ OutOfMemory };
+
+    fn from(_refused: AllocError) -> DeclareError {
+        DeclareError::OutOfMemory
+    }
+}
+
+impl Store {
+    pub fn new(alloc: Global) -> Store
+        ensures { result ≡ record { sources = []; changes = 0 } }
+    {
+        Store {
+            names: Names::new(alloc),
+            sources: Vec::new(alloc),
+            changes: 0,
+        }
+    }
+
+    pub fn count(&self) -> usize
+        ensures { result ≡ length self.now.sources }
+    {
+        self.sources.len()
+    }
+
+    pub fn changes(&self) -> u64
+        ensures { result ≡ self.now.changes }
+    {
+        self.changes
+    }
+
+    pub fn find(&self, name: &[u8]) -> Option<SourceId>
+        ensures { option_map (λ s. s.0) result ≡ found self.now name.now }
+    {
+        Some(SourceId(self.names.find(name)?))
+    }
+
+    /// A new source without elements.
+    pub fn declare(
+        &mut self,
+        alloc: Global,
+        name: Bytes,
+        root: Bytes,
+        key: Key,
+    ) -> Result<SourceId, DeclareError>
+        ensures exists { result ≡ Err DeclareError.Exists ↔ IsSome (found self.old name) }
+        ensures id { IfOk result (λ id. id.0 ≡ length self.old.sources) }
+        ensures ok { OnOk result ((self.new.changes ≡ self.old.changes) × (map without_room self.new.sources ≡ map without_room self.old.sources ++ (name, root, key, [], 0) ∷ [])) }
+        ensures err { OnErr result (self.new ≡ self.old) }
+    {
+        if self.names.find(name.as_slice()).is_some() {
+            return Err(DeclareError::Exists);
+        }
+        self.sources.reserve(1)?;
+        self.names.push(alloc, name.as_slice())?;
+        let at = self.sources.len();
+        let declared = Declared {
+            name,
+            root,
+            key,
+            elements: Elements::new(alloc),
+            last: 0,
+        };
+        self.sources.push(declared).unwrap();
+        Ok(SourceId(at))
+    }
+
+    /// What the source is called.
+    pub fn name_of(&self, id: SourceId) -> &Bytes
+        requires { IsDeclared self.now id }
+        ensures { (s : _) → slice_get self.now.sources id.0 ≡ Some s → result.now ≡ s.name }
+    {
+        &self.sources[id.0].name
+    }
+
+    /// The tag of the source's root.
+    pub fn root_of(&self, id: SourceId) -> &Bytes
+        requires { IsDeclared self.now id }
+        ensures { (s : _) → slice_get self.now.sources id.0 ≡ Some s → result.now ≡ s.root }
+    {
+        &self.sources[id.0].root
+    }
+
+    /// The key of an element by the rule of the source: none exactly where it has not exactly one key value that is not empty.
+    pub fn key_of(
+        &self,
+        alloc: Global,
+        id: SourceId,
+        element: &Element,
+    ) -> Result<Option<Bytes>, AllocError>
+        requires { IsDeclared self.now id }
+        ensures { IfOk result (λ key. (s : _) → slice_get self.now.sources id.0 ≡ Some s → key ≡ key_of s.key element.now) }
+    {
+        key_of(alloc, &self.sources[id.0].key, element)
+    }
+
+    /// The number of the source's last change, or 0.
+    pub fn last_change(&self, id: SourceId) -> u64
+        requires { IsDeclared self.now id }
+        ensures { (s : _) → slice_get self.now.sources id.0 ≡ Some s → result ≡ s.last }
+    {
+        self.sources[id.0].last
+    }
+
+    pub fn size(&self, id: SourceId) -> usize
+        requires { IsDeclared self.now id }
+        ensures { (s : _) → slice_get self.now.sources id.0 ≡ Some s → (result ≡ length s.elements.pairs) × IsDistinct is_key (keys_of s.elements.pairs) }
+    {
+        self.sources[id.0].elements.len()
+    }
+
+    /// One of the elements, in an order of the store's own.
+    pub fn element(&self, id: SourceId, at: usize) -> &Element
+        requires id { IsDeclared self.now id }
+        requires at { (s : _) → slice_get self.now.sources id.0 ≡ Some s → at < length s.elements.pairs }
+        ensures { (s : _) → slice_get self.now.sources id.0 ≡ Some s → slice_get (map (λ p. p.1) s.elements.pairs) at ≡ Some result.now }
+    {
+        self.sources[id.0].elements.at(at)
+    }
+
+    pub fn prepare(&self, alloc: Global, name: &[u8], items: &Items) -> Result<Change, ChangeError>
+        ensures declared { IfOk result (λ change. IsDeclared self.now change.source) }
+        ensures none { found self.now name.now ≡ None → result ≡ Err ChangeError.NoSource }
+        ensures some { (at : _) (s : _) → found self.now name.now ≡ Some at → slice_get self.now.sources at ≡ Some s → TellsChange result at (prepared s.key 1 (kept s) items.now) }
+    {
+        let Some(source) = self.find(name) else {
+            return Err(ChangeError::NoSource);
+        };
+        let declared = &self.sources[source.0];
+        let entries = prepare(alloc, &declared.key, &declared.elements, items.as_slice())?;
+        Ok(Change::new(source, entries))
+    }
+
+    pub fn reserve(&mut self, change: &Change) -> Result<(), AllocError>
+        requires { IsDeclared self.old change.now.source }
+        ensures same { (self.new.changes ≡ self.old.changes) × (map without_room self.new.sources ≡ map without_room self.old.sources) }
+        ensures room { OnOk result (HasRoom self.new change.now) }
+    {
+        let additional = change.entries().len();
+        let source = change.source();
+        self.sources[source.0].reserve(additional)
+    }
+
+    pub fn commit(&mut self, change: Change)
+        requires declared { IsDeclared self.old change.source }
+        requires room { HasRoom self.old change }
+        requires more { self.old.changes < 2 ^ 64 - 1 }
+        ensures { IsCommitted self.old change self.new }
+    {
+        self.changes += 1;
+        let number = self.changes;
+        let source = change.source();
+        self.sources[source.0].commit(change.into_entries(), number);
+    }
+}
