@@ -1,8 +1,8 @@
 ghost use Rattle.std.specs.Prelude.{◌≡◌, ◌+◌, ◌<◌, ◌^◌, IfOk, OnOk, OnErr, ◌++◌, ◌≤◌, nat_abs, ◌+ℤ◌};
 ghost use Rattle.ncq_bag.specs.Bags.{added, differences, difference_of, no_counts, step};
 
-use ncq_base::{Bytes, Sequence};
 use indexmap::IndexMap;
+use ncq_base::{Bytes, Sequence};
 use std::alloc::{AllocError, Global};
 use std::marker::Model;
 

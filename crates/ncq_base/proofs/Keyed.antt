@@ -57,7 +57,7 @@ strictly ks up apart = sorted_from_all_adjacent nat_list_cmp_total ks [] (λ k h
     let a = get_or ks k [] in
     let b = get_or ks (k + 1) [] in
     less_of (slice_cmp nat_cmp a b) (slice_cmp nat_cmp b a) (nat_list_cmp_total.antisymm a b) (up k [] (omega arith) h)
-        (sym (texts_ties a b) ∙ apart_from_distinct is_key ks k (k + 1) [] apart (omega arith) h))
+    (sym (texts_ties a b) ∙ apart_from_distinct is_key ks k (k + 1) [] apart (omega arith) h))
 
 module _ {X : Type 0} where
   below : (k : List ℕ) (es : List (List ℕ × X)) → AllByRecursion (λ y. slice_cmp nat_cmp k y ≡ Less) (keys_of es) → below_all (slice_cmp nat_cmp) k es ≡ true
@@ -73,7 +73,7 @@ module _ {X : Type 0} where
   entries_sorted old es up apart is =
       let up_to : T (is_sorted (slice_cmp nat_cmp) es) = subst T (sym (rising es (strictly (keys_of es) up apart))) tt in
       ap entries (same_map nat_list_cmp_total bytes_apart (map_of old) (from_sorted es) (λ q.
-          get_map_of old q ∙ sym (is q) ∙ sym (find_is q es) ∙ sym (get-from_sorted (slice_cmp nat_cmp) es q up_to)))
+      get_map_of old q ∙ sym (is q) ∙ sym (find_is q es) ∙ sym (get-from_sorted (slice_cmp nat_cmp) es q up_to)))
       ∙ entries-from_sorted (slice_cmp nat_cmp) es up_to
 
 module _ {X : Type 0} (test : List ℕ × X → Bool) where

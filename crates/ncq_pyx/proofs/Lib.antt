@@ -1,5 +1,6 @@
 pub mod Steps
 pub mod Blocks
+pub mod FaultLaws
 pub mod LineLaws
 pub mod CanonicalLaws
 pub mod Exactly

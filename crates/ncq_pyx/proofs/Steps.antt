@@ -129,7 +129,7 @@ pub map_map : {A B C : Type 0} (s : Option A) (f : B → C) (g : A → B) (h : A
 map_map None f g h e = refl
 map_map (Some r) f g h e = ap Some (sym (e r))
 
-fits_more : (limit bound depth : ℕ) (found : Turn) → limit ≤ bound → fits limit depth found ≡ true → fits bound depth found ≡ true
+pub fits_more : (limit bound depth : ℕ) (found : Turn) → limit ≤ bound → fits limit depth found ≡ true → fits bound depth found ≡ true
 fits_more limit bound depth Nothing le h = refl
 fits_more limit bound depth (Begin name) le h = grind (arith, nat_tests)
 fits_more limit bound depth (Give attribute) le h = refl
@@ -137,7 +137,7 @@ fits_more limit bound depth (Say text) le h = refl
 fits_more limit bound depth Finish le h = refl
 fits_more limit bound depth (Erase key) le h = refl
 
-fits_deeper : (limit bound depth : ℕ) (found : Turn) → limit < bound → depth ≤ limit → fits bound depth found ≡ true
+pub fits_deeper : (limit bound depth : ℕ) (found : Turn) → limit < bound → depth ≤ limit → fits bound depth found ≡ true
 fits_deeper limit bound depth Nothing lt le = refl
 fits_deeper limit bound depth (Begin name) lt le = grind (arith, nat_tests)
 fits_deeper limit bound depth (Give attribute) lt le = refl
@@ -163,7 +163,7 @@ outer_depth : (names : List (List ℕ)) → length (outer names) ≤ length name
 outer_depth [] = omega arith
 outer_depth (name ∷ names) = omega arith
 
-moved_depth : (limit : ℕ) (place : Place) (found : Turn) → fits limit (length place.open_names) found ≡ true → length place.open_names ≤ limit → length (moved found place).open_names ≤ limit
+pub moved_depth : (limit : ℕ) (place : Place) (found : Turn) → fits limit (length place.open_names) found ≡ true → length place.open_names ≤ limit → length (moved found place).open_names ≤ limit
 moved_depth limit place Nothing h le = le
 moved_depth limit place (Begin name) h le = grind (arith, nat_tests)
 moved_depth limit place (Give attribute) h le = le

@@ -1,4 +1,5 @@
 pub mod LineKinds
+pub mod Faults
 pub mod Spells
 pub mod Answers
 pub mod Reading

@@ -3,6 +3,7 @@ ghost use Rattle.std.specs.Prelude.{◌≡◌, ◌≤◌, ◌<◌, ◌+◌, ◌^
 ghost use Rattle.std.specs.Option.{option_copied};
 ghost use Rattle.std.specs.List.{list_all};
 ghost use Rattle.ncq_pyx.specs.Canonical.{item_is_proper};
+ghost use Rattle.ncq_pyx.specs.Faults.{block_of};
 ghost use Rattle.ncq_pyx.specs.Spells.{innermost, fits, Reads, IsAnswer, Gives};
 ghost use Rattle.std.specs.Prelude.{List, Result, true};
 ghost use Rattle.ncq_pyx.specs.declared.turns.Item.{Item};
@@ -194,6 +195,7 @@ pub fn read_block(alloc: Global, lines: &Lines) -> Result<Items, PyxError>
     ensures reads { Reads MAX_NESTING lines.now result }
     ensures exactly { (answer : Result (List Item) PyxError) → Reads MAX_NESTING lines.now answer → IsAnswer answer → Gives result answer }
     ensures proper { IfOk result (λ items. list_all item_is_proper items ≡ true) }
+    ensures block { Gives result (block_of MAX_NESTING lines.now) }
 {
     read_nested(alloc, lines, MAX_NESTING)
 }

@@ -13,7 +13,7 @@ use Rattle.ncq_source.specs.Changes.Trial.{Good, NoKey, NotThere}
 use Rattle.ncq_source.specs.Held.{Kept}
 use Rattle.ncq_source.specs.Stores.{kept, without_room, Follows}
 use Rattle.std.proofs.Common.{inl, inr}
-use Rattle.std.specs.Prelude.{◌⊎◌}
+use Rattle.std.specs.Prelude.{◌⊎◌, IsSome}
 use Rattle.std.specs.Option.{option_map}
 use Rattle.ncq_source.specs.declared.change.SourceId.{SourceId}
 use Rattle.std.proofs.lemmas.Option.{slice_get_cases}
@@ -24,19 +24,22 @@ use Rattle.ncq_source.specs.StoreStates.{StoreState, found, IsCommitted, TellsCh
 use Rattle.ncq_source.specs.declared.change.Entry.{Entry}
 use Rattle.ncq_source.specs.declared.declared.Declared.{Declared}
 use Rattle.ncq_source.specs.declared.key.Key.{Key}
+use Rattle.ncq_source.specs.declared.store.DeclareError.{DeclareError}
+use Rattle.ncq_source.specs.declared.store.DeclareError.TheVariants.{Exists}
 use Rattle.ncq_source.proofs.Folds.{fold_of_entries}
 use Rattle.ncq_script.specs.Refusals.{refused_text}
 use Rattle.ncq_script.specs.declared.refusal.Refusal.{Refusal}
 use Rattle.ncq_script.specs.declared.refusal.Refusal.TheVariants as refusal
 use Rattle.ncq_run.specs.declared.command.ChildQuery.{ChildQuery}
 use Rattle.ncq_run.specs.declared.command.Subscription.{Subscription}
-use Rattle.ncq_run.specs.declared.command.Command.{Command}
-use Rattle.ncq_run.specs.declared.command.Command.TheVariants.{Declare, Delta, Create}
+use Rattle.ncq_run.specs.declared.command.BuiltCommand.{BuiltCommand}
+use Rattle.ncq_run.specs.declared.command.BuiltCommand.TheVariants.{Declare, Delta, Create}
 use Rattle.ncq_run.specs.History.{History, Source, sources, source_in, with_items, subscriptions, creates}
 use Rattle.ncq_run.specs.Firing.{notices}
 use Rattle.ncq_script.specs.declared.command_lines.CommandLines.{CommandLines}
-use Rattle.ncq_run.specs.Built.{command_of}
-use Rattle.ncq_run.specs.Output.{answered, refusal_in, with_accepted, with_known, known_answer, answer_to, after as after_lines, delta_refusal, create_refusal, trial_refusal, is_none}
+use Rattle.ncq_script.specs.Reads.{read}
+use Rattle.ncq_run.specs.Built.{built}
+use Rattle.ncq_run.specs.Output.{answered, refusal_in, with_accepted, with_known, known_answer, answer_to, after as after_lines, declare_refusal, delta_refusal, create_refusal, trial_refusal, is_none}
 use Rattle.ncq_run.specs.Stands.{Stands, Applies, content_of}
 use Rattle.ncq_run.specs.Weights.{answer_in, told_change}
 use Rattle.ncq_run.proofs.HistoryLaws.{declare_tells, delta_tells, create_tells, no_creates}
@@ -45,55 +48,67 @@ use Rattle.ncq_run.proofs.Locating.{not_found, is_found, found_within, moved_by,
 abbrev ok_text : ℕ → List ℕ
 ok_text number = decimal number ++ codes " ok\n"
 
+-- a name is found nowhere, or at a place where a source stands
+abbrev pub IsPlace : StoreState → List ℕ → Type 0
+IsPlace store name = (found store name ≡ None) ⊎ ((at : ℕ) × (d : Declared) × (found store name ≡ Some at) × (slice_get store.sources at ≡ Some d))
+
+place_of : (store : StoreState) (name : List ℕ) (o : Option ℕ) → found store name ≡ o → IsPlace store name
+place_of store name None e = inl e
+place_of store name (Some at) e =
+    elim (slice_get_cases store.sources at).1 [
+      | inl here ↦ inr (at, here.0, e, here.2)
+      | inr gone ↦ absurd (let within = found_within name store.sources at e in let past = gone.0 in omega (arith, within, past))
+    ]
+
+pub place : (store : StoreState) (name : List ℕ) → IsPlace store name
+place store name = place_of store name (found store name) refl
+
 module _ (store : StoreState) (live : List Subscription) (number : ℕ) (out : List ℕ) where
   -- a refused command leaves all as it was
-  refuse : (command : Command) (why : Refusal) (out' : List ℕ) → out' ≡ out ++ refused_text number why
+  refuse : (command : BuiltCommand) (why : Refusal) (out' : List ℕ) → out' ≡ out ++ refused_text number why
       → ((history : History) → Stands store live history → refusal_in history command ≡ Some why) → Applies store live number command out store live out'
-  refuse command why out' e is history s =
-      (e ∙ ap (λ (o : Option Refusal). out ++ answered history number command o) (sym (is history s)),
-      subst (λ (o : Option Refusal). Stands store live (with_accepted history command o)) (sym (is history s)) s)
+  refuse command why out' e is history s = (
+    e ∙ ap (λ (o : Option Refusal). out ++ answered history number command o) (sym (is history s)),
+    subst (λ (o : Option Refusal). Stands store live (with_accepted history command o)) (sym (is history s)) s,
+  )
 
   -- an accepted one is answered by its line and its notices
-  accept : (command : Command) (store' : StoreState) (live' : List Subscription) (out' : List ℕ)
+  accept : (command : BuiltCommand) (store' : StoreState) (live' : List Subscription) (out' : List ℕ)
       → ((history : History) → Stands store live history → (refusal_in history command ≡ None) × (out' ≡ out ++ (ok_text number ++ notices history command)) × Stands store' live' (command ∷ history))
       → Applies store live number command out store' live' out'
   accept command store' live' out' all history s =
-      let a = all history s in
-      (a.1 ∙ ap (λ (o : Option Refusal). out ++ answered history number command o) (sym a.0),
-      subst (λ (o : Option Refusal). Stands store' live' (with_accepted history command o)) (sym a.0) a.2)
-
-  no_sources : (history : History) → Stands store live history → length store.sources ≡ 0 → sources history ≡ []
-  no_sources history s none = sym s.sources_are ∙ ap (map content_of) (nil_from_length store.sources none)
+      let a = all history s in (
+        a.1 ∙ ap (λ (o : Option Refusal). out ++ answered history number command o) (sym a.0),
+        subst (λ (o : Option Refusal). Stands store' live' (with_accepted history command o)) (sym a.0) a.2,
+      )
 
   is_none_of : {A : Type 0} (xs : List A) → xs ≡ [] → is_none xs ≡ true
   is_none_of xs e = ap is_none e
 
-  is_none_not : {A B : Type 0} (f : A → B) (xs : List A) (ys : List B) → 0 < length xs → map f xs ≡ ys → is_none ys ≡ false
-  is_none_not f [] ys some e = absurd (omega arith)
-  is_none_not f (x ∷ xs) ys some e = ap is_none (sym e)
-
-  is_none_no : {A : Type 0} (xs ys : List A) → 0 < length xs → xs ≡ ys → is_none ys ≡ false
-  is_none_no [] ys some e = absurd (omega arith)
-  is_none_no (x ∷ xs) ys some e = ap is_none (sym e)
-
-  -- a source is declared already
-  pub declare_refused : (name root : List ℕ) (key : Key) (out' : List ℕ) → 0 < length store.sources → out' ≡ out ++ refused_text number refusal.Unbuilt
+  -- a source of the name is declared already
+  pub declare_refused : (name root : List ℕ) (key : Key) (out' : List ℕ) → IsSome (found store name) → out' ≡ out ++ refused_text number refusal.SourceExists
       → Applies store live number (Declare name root key) out store live out'
-  declare_refused name root key out' some e = refuse (Declare name root key) refusal.Unbuilt out' e
-      (λ history s. ap (λ (t : Bool). if t then None else Some refusal.Unbuilt) (is_none_not content_of store.sources (sources history) some s.sources_are))
+  declare_refused name root key out' some e = elim (place store name) [
+    | inl none ↦ absurd (let bad = subst IsSome none some in (let w : ⊥ = cc in w))
+    | inr p ↦ refuse (Declare name root key) refusal.SourceExists out' e
+        (λ history s. ap declare_refusal (ap (source_in name) (sym s.sources_are) ∙ is_found name store.sources p.0 p.1 p.2 p.3))
+  ]
 
-  pub declare_accepted : (name root : List ℕ) (key : Key) (store' : StoreState) (out' : List ℕ) → length store.sources ≡ 0
+  pub declare_accepted : (name root : List ℕ) (key : Key) (store' : StoreState) (out' : List ℕ) → (IsSome (found store name) → ⊥)
       → map without_room store'.sources ≡ map without_room store.sources ++ (name, root, key, [], 0) ∷ [] → out' ≡ out ++ ok_text number
       → Applies store live number (Declare name root key) out store' live out'
-  declare_accepted name root key store' out' none more e = accept (Declare name root key) store' live out' (λ history s. (
-      ap (λ (t : Bool). if t then None else Some refusal.Unbuilt) (is_none_of (sources history) (no_sources history s none)),
+  declare_accepted name root key store' out' new more e = elim (place store name) [
+    | inr p ↦ absurd (new (subst IsSome (sym p.2) refl))
+    | inl none ↦ accept (Declare name root key) store' live out' (λ history s. (
+      ap declare_refusal (ap (source_in name) (sym s.sources_are) ∙ not_found name store.sources none),
       e ∙ ap (λ (xs : List ℕ). out ++ xs) (sym (append-nil (ok_text number)) ∙ ap (λ (xs : List ℕ). ok_text number ++ xs) (sym (declare_tells history name root key))),
       record {
         sources_are = one_declared store.sources store'.sources name root key more
             ∙ ap (λ (ss : List Source). ss ++ record { name = name; root = root; key = key; elements = empty } ∷ []) s.sources_are;
         live_are = s.live_are;
-      }
-  ))
+      },
+    ))
+  ]
 
   -- a delta of a source that is not declared
   pub delta_of_none : (name : List ℕ) (items : List Item) (out' : List ℕ) → found store name ≡ None → out' ≡ out ++ refused_text number refusal.NoSource
@@ -120,14 +135,13 @@ module _ (store : StoreState) (live : List Subscription) (number : ℕ) (out : L
     delta_accepted entries ready store' out' good same changed told = accept (Delta name items) store' live out' (λ history s.
         let fold = fold_of_entries d.key 1 (kept d) items entries good in
         let tells : flat_map (told_change name (kept d) (after (kept d) entries)) live ≡ notices history (Delta name items) =
-        (λ i. flat_map (told_change name (kept d) (fold.0 i)) (s.live_are i)) ∙ sym (delta_tells history name items (content_of d) (source_is history s)) in
-        (
+        (λ i. flat_map (told_change name (kept d) (fold.0 i)) (s.live_are i)) ∙ sym (delta_tells history name items (content_of d) (source_is history s)) in (
           ap (delta_refusal (Delta name items)) (source_is history s) ∙ ap trial_refusal good,
           told (kept d) fold.1 ∙ append_assoc out (ok_text number) _ ∙ ap (λ (xs : List ℕ). out ++ (ok_text number ++ xs)) tells,
           record {
             sources_are = moved_by name items store.sources ready.sources store'.sources at d entries store'.changes is here same changed fold.0 ∙ ap (with_items name items) s.sources_are;
             live_are = s.live_are;
-          }
+          },
         ))
 
   module _ (query : ChildQuery) where
@@ -137,11 +151,6 @@ module _ (store : StoreState) (live : List Subscription) (number : ℕ) (out : L
     create_is : (history : History) → Stands store live history → length live ≡ 0 → refusal_in history (Create query) ≡ create_refusal query (source_in query.source (sources history))
     create_is history s none =
         ap (λ (t : Bool). if t then create_refusal query (source_in query.source (sources history)) else Some refusal.Unbuilt) (is_none_of (subscriptions history) (no_live history s none))
-
-    -- a subscription is live already
-    pub create_refused : (out' : List ℕ) → 0 < length live → out' ≡ out ++ refused_text number refusal.Unbuilt → Applies store live number (Create query) out store live out'
-    create_refused out' some e = refuse (Create query) refusal.Unbuilt out' e (λ history s.
-        ap (λ (t : Bool). if t then create_refusal query (source_in query.source (sources history)) else Some refusal.Unbuilt) (is_none_no live (subscriptions history) some s.live_are))
 
     -- a create on a source that is not declared
     pub create_of_none : (out' : List ℕ) → length live ≡ 0 → found store query.source ≡ None → out' ≡ out ++ refused_text number refusal.NoSource
@@ -162,67 +171,51 @@ module _ (store : StoreState) (live : List Subscription) (number : ℕ) (out : L
           → out' ≡ (out ++ ok_text number) ++ print_text query.name 0 (difference (answer_in query (kept d)) []) → Applies store live number (Create query) out store live' out'
       create_accepted live' out' root more told = accept (Create query) store live' out' (λ history s.
           let there = ap (source_in query.source) (sym s.sources_are) ∙ is_found query.source store.sources at d is here in
-          let first : creates history + 1 ≡ 1 = omega (arith, no_creates history (no_live history s none)) in
-          (
+          let first : creates history + 1 ≡ 1 = omega (arith, no_creates history (no_live history s none)) in (
             root_is history s ∙ ap (λ (t : Bool). if t then None else Some refusal.Unbuilt) root,
             told ∙ append_assoc out (ok_text number) _ ∙ ap (λ (xs : List ℕ). out ++ (ok_text number ++ xs)) (sym (create_tells history query (content_of d) (no_live history s none) there)),
             record {
               sources_are = s.sources_are;
               live_are = more ∙ (λ i. s.live_are i ++ record { query = query; install = sym first i } ∷ []);
-            }
+            },
           ))
 
 module _ (lines : CommandLines) where
-  known_at : (command : Command) → command_of lines ≡ Some command → (history : History) (number : ℕ) → answered history number command (refusal_in history command) ≡ answer_to history number lines
+  known_at : (command : BuiltCommand) → built (read lines) ≡ Ok command → (history : History) (number : ℕ) → answered history number command (refusal_in history command) ≡ answer_to history number lines
   unfolding answer_to
   known_at command is history number = sym (ap (known_answer history number) is)
 
-  known_after : (command : Command) → command_of lines ≡ Some command → (history : History) → with_accepted history command (refusal_in history command) ≡ after_lines history lines
+  known_after : (command : BuiltCommand) → built (read lines) ≡ Ok command → (history : History) → with_accepted history command (refusal_in history command) ≡ after_lines history lines
   unfolding after_lines
   known_after command is history = sym (ap (with_known history) is)
 
-  -- lines that spell a command of a built form
-  pub known_command : (command : Command) → command_of lines ≡ Some command → (store : StoreState) (live : List Subscription) (number : ℕ) (out out' : List ℕ) (store' : StoreState) (live' : List Subscription) (history : History)
+  -- lines that say a command of a built form
+  pub known_command : (command : BuiltCommand) → built (read lines) ≡ Ok command → (store : StoreState) (live : List Subscription) (number : ℕ) (out out' : List ℕ) (store' : StoreState) (live' : List Subscription) (history : History)
       → (out' ≡ out ++ answered history number command (refusal_in history command)) × Stands store' live' (with_accepted history command (refusal_in history command))
       → (out' ≡ out ++ answer_to history number lines) × Stands store' live' (after_lines history lines)
   known_command command is store live number out out' store' live' history h =
       (h.0 ∙ ap (λ (xs : List ℕ). out ++ xs) (known_at command is history number), subst (λ (h : History). Stands store' live' h) (known_after command is history) h.1)
 
-  unknown_at : command_of lines ≡ None → (history : History) (number : ℕ) → refused_text number refusal.Unbuilt ≡ answer_to history number lines
+  unknown_at : (why : Refusal) → built (read lines) ≡ Err why → (history : History) (number : ℕ) → refused_text number why ≡ answer_to history number lines
   unfolding answer_to
-  unknown_at is history number = sym (ap (known_answer history number) is)
+  unknown_at why is history number = sym (ap (known_answer history number) is)
 
-  unknown_after : command_of lines ≡ None → (history : History) → history ≡ after_lines history lines
+  unknown_after : (why : Refusal) → built (read lines) ≡ Err why → (history : History) → history ≡ after_lines history lines
   unfolding after_lines
-  unknown_after is history = sym (ap (with_known history) is)
+  unknown_after why is history = sym (ap (with_known history) is)
 
-  -- lines that spell none
-  pub unknown_command : command_of lines ≡ None → (store : StoreState) (live : List Subscription) (number : ℕ) (out out' : List ℕ) (history : History)
-      → out' ≡ out ++ refused_text number refusal.Unbuilt → Stands store live history → (out' ≡ out ++ answer_to history number lines) × Stands store live (after_lines history lines)
-  unknown_command is store live number out out' history e s =
-      (e ∙ ap (λ (xs : List ℕ). out ++ xs) (unknown_at is history number), subst (λ (h : History). Stands store live h) (unknown_after is history) s)
-
--- a name is found nowhere, or at a place where a source stands
-abbrev pub IsPlace : StoreState → List ℕ → Type 0
-IsPlace store name = (found store name ≡ None) ⊎ ((at : ℕ) × (d : Declared) × (found store name ≡ Some at) × (slice_get store.sources at ≡ Some d))
-
-place_of : (store : StoreState) (name : List ℕ) (o : Option ℕ) → found store name ≡ o → IsPlace store name
-place_of store name None e = inl e
-place_of store name (Some at) e =
-    elim (slice_get_cases store.sources at).1 [
-      | inl here ↦ inr (at, here.0, e, here.2)
-      | inr gone ↦ absurd (let within = found_within name store.sources at e in let past = gone.0 in omega (arith, within, past))
-    ]
-
-pub place : (store : StoreState) (name : List ℕ) → IsPlace store name
-place store name = place_of store name (found store name) refl
+  -- lines that are refused before the history is asked
+  pub unknown_command : (why : Refusal) → built (read lines) ≡ Err why → (store : StoreState) (live : List Subscription) (number : ℕ) (out out' : List ℕ) (history : History)
+      → out' ≡ out ++ refused_text number why → Stands store live history → (out' ≡ out ++ answer_to history number lines) × Stands store live (after_lines history lines)
+  unknown_command why is store live number out out' history e s =
+      (e ∙ ap (λ (xs : List ℕ). out ++ xs) (unknown_at why is history number), subst (λ (h : History). Stands store live h) (unknown_after why is history) s)
 
 -- a source that is found stands at its place
 pub source_at : (store : StoreState) (name : List ℕ) (at : ℕ) → found store name ≡ Some at → (d : Declared) × (slice_get store.sources at ≡ Some d)
 source_at store name at e = elim (slice_get_cases store.sources at).1 [
-    | inl here ↦ (here.0, here.2)
-    | inr gone ↦ absurd (let within = found_within name store.sources at e in let past = gone.0 in omega (arith, within, past))
-  ]
+  | inl here ↦ (here.0, here.2)
+  | inr gone ↦ absurd (let within = found_within name store.sources at e in let past = gone.0 in omega (arith, within, past))
+]
 
 pub find_none : (store : StoreState) (name name' : List ℕ) (result : Option SourceId) → name' ≡ name → option_map (λ (id : SourceId). id.0) result ≡ found store name' → result ≡ None → found store name ≡ None
 find_none store name name' result same is none = ap (found store) (sym same) ∙ sym is ∙ ap (option_map (λ (id : SourceId). id.0)) none
@@ -247,31 +240,34 @@ module _ (store : StoreState) (live : List Subscription) (number : ℕ) (out : L
 
   pub prepared_none : (out' : List ℕ) → result ≡ Err NoSource → out' ≡ out ++ refused_text number refusal.NoSource → Applies store live number (Delta name items) out store live out'
   prepared_none out' e text = elim (place store name) [
-      | inl is ↦ delta_of_none store live number out name items out' is text
-      | inr p ↦ absurd (subst (λ (r : Result ChangeState ChangeError). TellsChange r p.0 (prepared p.1.key 1 (kept p.1) items)) e (tells p.0 p.1 p.2 p.3))
-    ]
+    | inl is ↦ delta_of_none store live number out name items out' is text
+    | inr p ↦ absurd (subst (λ (r : Result ChangeState ChangeError). TellsChange r p.0 (prepared p.1.key 1 (kept p.1) items)) e (tells p.0 p.1 p.2 p.3))
+  ]
 
   pub prepared_bad : (position : ℕ) (out' : List ℕ) → result ≡ Err (BadKey position) → out' ≡ out ++ refused_text number (refusal.Key position) → Applies store live number (Delta name items) out store live out'
   prepared_bad position out' e text = elim (place store name) [
-      | inl is ↦ absurd (not_missing (BadKey position) (sym e ∙ missing is) (λ bad. let wrong : BadKey position ≡ NoSource = bad in cc))
-      | inr p ↦ delta_refused store live number out name items p.0 p.1 p.2 p.3 (refusal.Key position) out'
-          (ap trial_refusal (subst (λ (r : Result ChangeState ChangeError). TellsChange r p.0 (prepared p.1.key 1 (kept p.1) items)) e (tells p.0 p.1 p.2 p.3))) text
-    ]
+    | inl is ↦ absurd (not_missing (BadKey position) (sym e ∙ missing is) (λ bad. let wrong : BadKey position ≡ NoSource = bad in cc))
+    | inr p ↦ delta_refused store live number out name items p.0 p.1 p.2 p.3 (refusal.Key position) out'
+        (ap trial_refusal (subst (λ (r : Result ChangeState ChangeError). TellsChange r p.0 (prepared p.1.key 1 (kept p.1) items)) e (tells p.0 p.1 p.2 p.3))) text
+  ]
 
   pub prepared_gone : (position : ℕ) (out' : List ℕ) → result ≡ Err (NoSuchKey position) → out' ≡ out ++ refused_text number (refusal.NoKey position) → Applies store live number (Delta name items) out store live out'
   prepared_gone position out' e text = elim (place store name) [
-      | inl is ↦ absurd (not_missing (NoSuchKey position) (sym e ∙ missing is) (λ bad. let wrong : NoSuchKey position ≡ NoSource = bad in cc))
-      | inr p ↦ delta_refused store live number out name items p.0 p.1 p.2 p.3 (refusal.NoKey position) out'
-          (ap trial_refusal (subst (λ (r : Result ChangeState ChangeError). TellsChange r p.0 (prepared p.1.key 1 (kept p.1) items)) e (tells p.0 p.1 p.2 p.3))) text
-    ]
+    | inl is ↦ absurd (not_missing (NoSuchKey position) (sym e ∙ missing is) (λ bad. let wrong : NoSuchKey position ≡ NoSource = bad in cc))
+    | inr p ↦ delta_refused store live number out name items p.0 p.1 p.2 p.3 (refusal.NoKey position) out'
+        (ap trial_refusal (subst (λ (r : Result ChangeState ChangeError). TellsChange r p.0 (prepared p.1.key 1 (kept p.1) items)) e (tells p.0 p.1 p.2 p.3))) text
+  ]
 
   pub prepared_good : (change : ChangeState) (ready store' : StoreState) (out' : List ℕ) → result ≡ Ok change → map without_room ready.sources ≡ map without_room store.sources → IsCommitted ready change store'
       → ((before : Kept) → Chains before change.entries → out' ≡ (out ++ ok_text number) ++ flat_map (told_change name before (after before change.entries)) live)
       → Applies store live number (Delta name items) out store' live out'
   prepared_good change ready store' out' e kept_same done told = elim (place store name) [
-      | inl is ↦ absurd (let bad : Ok change ≡ Err NoSource = sym e ∙ missing is in cc)
-      | inr p ↦
-          let t = subst (λ (r : Result ChangeState ChangeError). TellsChange r p.0 (prepared p.1.key 1 (kept p.1) items)) e (tells p.0 p.1 p.2 p.3) in
-          delta_accepted store live number out name items p.0 p.1 p.2 p.3 change.entries ready store' out' t.1 kept_same
-              (subst (λ (at : ℕ). (r : Declared) → slice_get ready.sources at ≡ Some r → (t : Declared) × (store'.sources ≡ set ready.sources at t) × Follows r t change.entries store'.changes) t.0 done.sources) told
-    ]
+    | inl is ↦ absurd (let bad : Ok change ≡ Err NoSource = sym e ∙ missing is in cc)
+    | inr p ↦
+        let t = subst (λ (r : Result ChangeState ChangeError). TellsChange r p.0 (prepared p.1.key 1 (kept p.1) items)) e (tells p.0 p.1 p.2 p.3) in
+        delta_accepted store live number out name items p.0 p.1 p.2 p.3 change.entries ready store' out' t.1 kept_same
+        (subst (λ (at : ℕ). (r : Declared) → slice_get ready.sources at ≡ Some r → (t : Declared) × (store'.sources ≡ set ready.sources at t) × Follows r t change.entries store'.changes) t.0 done.sources) told
+  ]
+
+pub not_exists : (result : Result SourceId DeclareError) (id : SourceId) → result ≡ Ok id → result ≡ Err Exists → ⊥
+not_exists result id ok err = let e : ◌≡◌ {A = Result SourceId DeclareError} (Ok id) (Err Exists) = sym ok ∙ err in (let w : ⊥ = cc in w)

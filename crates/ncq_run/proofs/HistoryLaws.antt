@@ -20,8 +20,8 @@ use Rattle.ncq_source.specs.Held.{Kept}
 use Rattle.ncq_source.specs.declared.key.Key.{Key}
 use Rattle.ncq_run.specs.declared.command.ChildQuery.{ChildQuery}
 use Rattle.ncq_run.specs.declared.command.Subscription.{Subscription}
-use Rattle.ncq_run.specs.declared.command.Command.{Command}
-use Rattle.ncq_run.specs.declared.command.Command.TheVariants.{Declare, Delta, Create}
+use Rattle.ncq_run.specs.declared.command.BuiltCommand.{BuiltCommand}
+use Rattle.ncq_run.specs.declared.command.BuiltCommand.TheVariants.{Declare, Delta, Create}
 use Rattle.ncq_run.specs.History.{History, Source, changes, creates, sources, with_items, source_in, elements_of, world, up_to, subscriptions}
 use Rattle.ncq_run.specs.Answer.{answer_bytes, answer_after}
 use Rattle.ncq_run.specs.Firing.{fires, mark, answer_at, answer_before, notice, notices}
@@ -89,14 +89,14 @@ pub this_source : (name : List ℕ) (items : List Item) (all : List Source) (sou
 this_source name items [] source e = cc
 this_source name items (s ∷ all) source e =
     elim (is_key name s.name) as (λ t. is_key name s.name ≡ t → (if t then Some s else source_in name all) ≡ Some source
-        → source_in name (if t then record s { elements = store_after s.key s.elements items } ∷ all else s ∷ with_items name items all) ≡ Some (record source { elements = store_after source.key source.elements items })) [
+    → source_in name (if t then record s { elements = store_after s.key s.elements items } ∷ all else s ∷ with_items name items all) ≡ Some (record source { elements = store_after source.key source.elements items })) [
       | true ↦ λ p h.
           (λ i. if p i then Some (record s { elements = store_after s.key s.elements items }) else source_in name all)
           ∙ ap (λ (o : Option Source). elim o [ None ↦ None | Some x ↦ Some (record x { elements = store_after x.key x.elements items }) ]) h
       | false ↦ λ p h. (λ i. if p i then Some s else source_in name (with_items name items all)) ∙ this_source name items all source h
     ] refl e
 
-module _ (s : Subscription) (command : Command) (before : History) where
+module _ (s : Subscription) (command : BuiltCommand) (before : History) where
   -- a subscription that fires is told its answer now
   step_fires : fires s before command ≡ true → answer_before s (command ∷ before) ≡ answer_after s.query (command ∷ before)
   step_fires f =
@@ -123,18 +123,22 @@ abbrev pub IsCurrent : History → Subscription → Type 0
 IsCurrent history s = (s.install ≤ creates history) × (answer_before s history ≡ answer_after s.query history)
 
 current_declare : (name root : List ℕ) (key : Key) (before : History) (s : Subscription) → IsCurrent before s → IsCurrent (Declare name root key ∷ before) s
-current_declare name root key before s h =
-    (h.0, step_quiet s (Declare name root key) before refl
-        (ap (answer_bytes s.query) (declared_more s.query.source (record { name = name; root = root; key = key; elements = empty }) refl (sources before))) h.1)
+current_declare name root key before s h = (
+  h.0,
+  step_quiet s (Declare name root key) before refl
+      (ap (answer_bytes s.query) (declared_more s.query.source (record { name = name; root = root; key = key; elements = empty }) refl (sources before))) h.1,
+)
 
 current_delta : (name : List ℕ) (items : List Item) (before : History) (s : Subscription) → IsCurrent before s → IsCurrent (Delta name items ∷ before) s
 current_delta name items before s h =
-    let installed : nat_le s.install (creates before) ≡ true = let few = h.0 in grind (arith, nat_tests) in
-    (h.0, elim (is_key name s.query.source) as (λ t. is_key name s.query.source ≡ t → answer_before s (Delta name items ∷ before) ≡ answer_after s.query (Delta name items ∷ before)) [
-      | true ↦ λ p. step_fires s (Delta name items) before (λ i. installed i && p i)
-      | false ↦ λ p. step_quiet s (Delta name items) before (λ i. installed i && p i)
-          (ap (λ (o : Option Source). answer_bytes s.query (elements_of o)) (other_source name s.query.source items p (sources before))) h.1
-    ] refl)
+    let installed : nat_le s.install (creates before) ≡ true = let few = h.0 in grind (arith, nat_tests) in (
+      h.0,
+      elim (is_key name s.query.source) as (λ t. is_key name s.query.source ≡ t → answer_before s (Delta name items ∷ before) ≡ answer_after s.query (Delta name items ∷ before)) [
+        | true ↦ λ p. step_fires s (Delta name items) before (λ i. installed i && p i)
+        | false ↦ λ p. step_quiet s (Delta name items) before (λ i. installed i && p i)
+            (ap (λ (o : Option Source). answer_bytes s.query (elements_of o)) (other_source name s.query.source items p (sources before))) h.1
+      ] refl,
+    )
 
 current_create : (query : ChildQuery) (before : History) (s : Subscription) → IsCurrent before s → IsCurrent (Create query ∷ before) s
 current_create query before s h =
@@ -177,8 +181,8 @@ delta_tells_one history name items source at s h =
     let installed : nat_le s.install (creates history) ≡ true = grind (arith, nat_tests) in
     let command = Delta name items in
     elim (is_key name s.query.source) as (λ t. is_key name s.query.source ≡ t →
-        (if nat_le s.install (creates history) && t then print_text s.query.name 0 (difference (answer_after s.query (command ∷ history)) (answer_before s history)) else [])
-        ≡ (if t then print_text s.query.name 0 (difference (answer_in s.query (store_after source.key source.elements items)) (answer_in s.query source.elements)) else [])) [
+    (if nat_le s.install (creates history) && t then print_text s.query.name 0 (difference (answer_after s.query (command ∷ history)) (answer_before s history)) else [])
+    ≡ (if t then print_text s.query.name 0 (difference (answer_in s.query (store_after source.key source.elements items)) (answer_in s.query source.elements)) else [])) [
       | true ↦ λ p.
           let same : name ≡ s.query.source = key_is name s.query.source p in
           let now : answer_after s.query (command ∷ history) ≡ answer_in s.query (store_after source.key source.elements items) =

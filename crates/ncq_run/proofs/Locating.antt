@@ -28,7 +28,7 @@ none_from : (name : List ℕ) (all : List Declared) → nat_lt (position_or_len 
 none_from name [] e = refl
 none_from name (d ∷ all) e =
     elim (is_key name d.name) as (λ t. nat_lt (cond (not t) (1 + position_or_len (is_key name) (names_of all)) 0) (suc (length (names_of all))) ≡ false
-        → (if t then Some (content_of d) else source_in name (map content_of all)) ≡ None) [
+    → (if t then Some (content_of d) else source_in name (map content_of all)) ≡ None) [
       | true ↦ λ h. let bad : true ≡ false = grind (arith, nat_tests, h) in absurd (true≢false bad)
       | false ↦ λ h. none_from name all (let less : nat_lt (position_or_len (is_key name) (names_of all)) (length (names_of all)) ≡ false = grind (arith, nat_tests, h) in less)
     ] e

@@ -50,7 +50,7 @@ out_join history number [] ys = ap (λ (n : ℕ). out_of history n ys) (let e : 
 out_join history number (x ∷ xs) ys =
     let shift : number + 1 + length xs ≡ number + suc (length xs) = omega arith in
     ap (λ (bytes : List ℕ). answer_to history number x ++ bytes) (out_join (after history x) (number + 1) xs ys
-        ∙ ap (λ (n : ℕ). out_of (after history x) (number + 1) xs ++ out_of (history_of (after history x) xs) n ys) shift)
+    ∙ ap (λ (n : ℕ). out_of (after history x) (number + 1) xs ++ out_of (history_of (after history x) xs) n ys) shift)
     ∙ sym (append_assoc (answer_to history number x) (out_of (after history x) (number + 1) xs) (out_of (history_of (after history x) xs) (number + suc (length xs)) ys))
 
 history_join : (history : History) (xs ys : Texts) → history_of history (xs ++ ys) ≡ history_of (history_of history xs) ys
@@ -106,10 +106,12 @@ module _ (a b c : Option (List ℕ)) (limit count : ℕ) (bytes : List ℕ) (kno
   whole_all : (piece more : List ℕ) → known ≡ whole_commands limit (bytes ++ piece)
       → (rest : List ℕ) × (output_of limit ((bytes ++ piece) ++ more) ≡ output_of_whole limit bytes ++ (piece_out ++ rest))
   whole_all piece more e =
-      let first = whole_first limit (bytes ++ piece) more in
-      (first.0, first.1 ∙ ap (λ (xs : List ℕ). xs ++ first.0) (whole_then limit count bytes piece counted
-          ∙ ap (λ (ls : Texts). output_of_whole limit bytes ++ out_of (history_of_whole limit bytes) (count + 1) (drop count ls)) (sym e))
-          ∙ append_assoc (output_of_whole limit bytes) piece_out first.0)
+      let first = whole_first limit (bytes ++ piece) more in (
+        first.0,
+        first.1 ∙ ap (λ (xs : List ℕ). xs ++ first.0) (whole_then limit count bytes piece counted
+            ∙ ap (λ (ls : Texts). output_of_whole limit bytes ++ out_of (history_of_whole limit bytes) (count + 1) (drop count ls)) (sym e))
+            ∙ append_assoc (output_of_whole limit bytes) piece_out first.0,
+      )
 
   pub piece_prefix : (piece more : List ℕ) → known ≡ whole_commands limit (bytes ++ piece) → AppendsPrefix b c piece_out → AppendsPrefix a c (output_of limit ((bytes ++ piece) ++ more))
   piece_prefix piece more e p = let all = whole_all piece more e in stopped_front a b c _ _ _ all.0 all.1 was p

@@ -1,24 +1,21 @@
 -- What is built of the language of commands: the one place where it is narrower than the whole.
 --
--- A command that has no form here is answered `refused 99 unbuilt`.
-use Rattle.std.specs.Prelude.{ℕ, Bool, true, false, ◌&&◌, ◌||◌, not, ◌==◌, nat_lt, if◌then◌else◌, List, [], ◌∷◌, length, take, drop, map, codes, Option, Some, None}
+-- `delete`, `clock`, `report`, and a `create` whose text is not of the form below, are answered `refused 99 unbuilt`.
+use Rattle.std.specs.Prelude.{ℕ, Bool, ◌&&◌, ◌||◌, not, ◌==◌, nat_lt, if◌then◌else◌, List, [], ◌∷◌, length, take, drop, codes, Option, Some, None, Result, Ok, Err}
 use Rattle.std.specs.List.{list_all, prefix_len}
 use Rattle.std.specs.Option.{option_map, option_and_then}
 use Rattle.std.specs.Char.{is_ascii_digit, is_ascii_alphabetic}
 use Rattle.ncq_base.specs.Atoms.{atom_of}
-use Rattle.ncq_base.specs.Names.{is_space, is_pyx_name, is_name_byte, is_name}
+use Rattle.ncq_base.specs.Names.{is_space, is_name_byte, is_name}
 use Rattle.ncq_base.specs.Keys.{is_key}
-use Rattle.ncq_pyx.specs.Spells.{spelled}
-use Rattle.ncq_source.specs.declared.key.Key.TheVariants.{Child}
-use Rattle.ncq_script.specs.declared.command_lines.CommandLines.{CommandLines}
-use Rattle.ncq_script.specs.declared.word.Keyword.{Keyword}
-use Rattle.ncq_script.specs.declared.word.Keyword.TheVariants as keyword
-use Rattle.ncq_script.specs.Forms.{source_form, one_argument, is_source_name, has_long, statement_text}
-use Rattle.ncq_script.specs.Lines.{LineText}
-use Rattle.ncq_script.specs.Words.{words}
+use Rattle.ncq_script.specs.Forms.{is_source_name}
+use Rattle.ncq_script.specs.declared.command.Command.{Command}
+use Rattle.ncq_script.specs.declared.command.Command.TheVariants as script
+use Rattle.ncq_script.specs.declared.refusal.Refusal.{Refusal}
+use Rattle.ncq_script.specs.declared.refusal.Refusal.TheVariants.{Unbuilt}
 use Rattle.ncq_run.specs.declared.command.ChildQuery.{ChildQuery}
-use Rattle.ncq_run.specs.declared.command.Command.{Command}
-use Rattle.ncq_run.specs.declared.command.Command.TheVariants.{Declare, Delta, Create}
+use Rattle.ncq_run.specs.declared.command.BuiltCommand.{BuiltCommand}
+use Rattle.ncq_run.specs.declared.command.BuiltCommand.TheVariants.{Declare, Delta, Create}
 
 -- what stands behind this text at the front
 abbrev pub after_front : List ℕ → List ℕ → Option (List ℕ)
@@ -51,9 +48,9 @@ pub record Places : Type 0 where
 abbrev pub front_places : List ℕ → Option (List ℕ × List ℕ × List ℕ × List ℕ × List ℕ)
 front_places text =
     option_and_then (λ begun. option_and_then (λ name. option_and_then (λ root. option_and_then (λ tag. option_map (λ child.
-        (name.0, root.0, tag.0, child.0, child.1))
-        (cut is_name_byte (codes ">") tag.1)) (cut is_name_byte (codes "><") root.1)) (cut is_name_byte (codes "><") name.1))
-        (cut is_name_byte (codes " WHERE <") begun)) (after_front (codes "create ") text)
+    (name.0, root.0, tag.0, child.0, child.1))
+    (cut is_name_byte (codes ">") tag.1)) (cut is_name_byte (codes "><") root.1)) (cut is_name_byte (codes "><") name.1))
+    (cut is_name_byte (codes " WHERE <") begun)) (after_front (codes "create ") text)
 
 -- the value, where nothing is left
 abbrev pub if_nothing : {A : Type 0} → List ℕ → A → Option A
@@ -64,16 +61,16 @@ if_nothing (b ∷ rest) value = None
 abbrev pub back_places : List ℕ → Option (List ℕ × List ℕ)
 back_places text =
     option_and_then (λ literal. option_and_then (λ source. if_nothing source.1 (literal.0, source.0))
-        (cut is_no_quote (codes "\" CONSTRUCT $g DO print") literal.1))
-        (cut is_literal_byte (codes "</></> ELEMENT_AS $g</> IN \"") text)
+    (cut is_no_quote (codes "\" CONSTRUCT $g DO print") literal.1))
+    (cut is_literal_byte (codes "</></> ELEMENT_AS $g</> IN \"") text)
 
 -- the places of a statement that is, byte for byte,
 -- `create <name> WHERE <<root>><<tag>><<child>><literal></></> ELEMENT_AS $g</> IN "<source>" CONSTRUCT $g DO print`
 abbrev pub places_of : List ℕ → Option Places
 places_of text =
     option_and_then (λ front. option_map (λ back.
-        record { name = front.0; root = front.1; tag = front.2; child = front.3; literal = back.0; source = back.1 })
-        (back_places front.4)) (front_places text)
+    record { name = front.0; root = front.1; tag = front.2; child = front.3; literal = back.0; source = back.1 })
+    (back_places front.4)) (front_places text)
 
 -- names where names stand, a literal that is not empty, and a word that a source can have
 abbrev pub are_good : Places → Bool
@@ -94,44 +91,17 @@ query_at places = record {
 abbrev pub query_of : List ℕ → Option ChildQuery
 query_of text = option_and_then (λ places. if are_good places then Some (query_at places) else None) (places_of text)
 
--- a tag as the key rule: not `@<attribute>`
-abbrev pub is_key_tag : List ℕ → Bool
-is_key_tag [] = false
-is_key_tag (b ∷ rest) = not (b == 64) && is_pyx_name (b ∷ rest)
+-- a create of this query, where its text is built
+abbrev pub create_of : Option ChildQuery → Result BuiltCommand Refusal
+create_of None = Err Unbuilt
+create_of (Some query) = Ok (Create query)
 
--- the command of a `source` line that declares a source keyed by a child
-abbrev pub declare_of : List (List ℕ) → Option Command
-declare_of line_words = option_and_then (λ form. if is_key_tag form.rule then Some (Declare form.name form.root (Child form.rule)) else None) (source_form line_words)
-
-abbrev pub is_no_backslash : ℕ → Bool
-is_no_backslash b = not (b == 92)
-
--- a text that begins with `(` or `)`, or with `-` and has no backslash
-abbrev pub is_plain_text : List ℕ → Bool
-is_plain_text [] = false
-is_plain_text (b ∷ text) = ((b == 40) || (b == 41)) || ((b == 45) && list_all is_no_backslash text)
-
-abbrev pub is_plain : LineText → Bool
-is_plain line = is_plain_text line.bytes
-
-abbrev pub bytes_of_lines : List LineText → List (List ℕ)
-bytes_of_lines lines = map (λ line. line.bytes) lines
-
--- the command of a `delta` line with this block
-abbrev pub delta_of : List (List ℕ) → List LineText → Option Command
-delta_of line_words block =
-    option_and_then (λ source. if list_all is_plain block then option_map (Delta source) (spelled 64 (bytes_of_lines block)) else None) (one_argument line_words)
-
--- the command of lines that are not long and whose block has its end
-abbrev pub by_keyword : Keyword → CommandLines → Option Command
-by_keyword keyword.Source lines = declare_of (words lines.head.bytes)
-by_keyword keyword.Delta lines = delta_of (words lines.head.bytes) lines.block
-by_keyword keyword.Create lines = option_map Create (query_of (statement_text lines))
-by_keyword keyword.Delete lines = None
-by_keyword keyword.Clock lines = None
-by_keyword keyword.Report lines = None
-by_keyword keyword.Unknown lines = None
-
--- the command that the lines spell, where its form is built
-abbrev pub command_of : CommandLines → Option Command
-command_of lines = if not (has_long lines) && lines.closed then by_keyword lines.keyword lines else None
+-- the command where its form is built, or its refusal
+abbrev pub built : Command → Result BuiltCommand Refusal
+built (script.Declare name root key) = Ok (Declare name root key)
+built (script.Delta source items) = Ok (Delta source items)
+built (script.Create text) = create_of (query_of text)
+built (script.Delete name) = Err Unbuilt
+built (script.Clock instant) = Err Unbuilt
+built script.Report = Err Unbuilt
+built (script.Malformed why) = Err why

@@ -5,13 +5,13 @@ use Rattle.ncq_base.specs.Keys.{is_key}
 use Rattle.ncq_bag.specs.Bags.{difference}
 use Rattle.ncq_callback.specs.Texts.{print_text}
 use Rattle.ncq_run.specs.declared.command.Subscription.{Subscription}
-use Rattle.ncq_run.specs.declared.command.Command.{Command}
-use Rattle.ncq_run.specs.declared.command.Command.TheVariants.{Declare, Delta, Create}
+use Rattle.ncq_run.specs.declared.command.BuiltCommand.{BuiltCommand}
+use Rattle.ncq_run.specs.declared.command.BuiltCommand.TheVariants.{Declare, Delta, Create}
 use Rattle.ncq_run.specs.History.{History, changes, creates, up_to, subscriptions}
 use Rattle.ncq_run.specs.Answer.{answer_after}
 
 -- whether the command, accepted after the history, fires the subscription: its own create does, and from then on each delta of its source
-abbrev pub fires : Subscription → History → Command → Bool
+abbrev pub fires : Subscription → History → BuiltCommand → Bool
 fires subscription history (Declare name root key) = false
 fires subscription history (Delta name items) = nat_le subscription.install (creates history) && is_key name subscription.query.source
 fires subscription history (Create query) = subscription.install == creates history + 1
@@ -31,12 +31,12 @@ abbrev pub answer_before : Subscription → History → List (List ℕ)
 answer_before subscription history = answer_at subscription history (mark subscription history)
 
 -- the notice that a command gives a subscription: none where it does not fire or nothing differs. The instant is 0, since no clock is built
-abbrev pub notice : History → Command → Subscription → List ℕ
+abbrev pub notice : History → BuiltCommand → Subscription → List ℕ
 notice history command subscription =
     if fires subscription history command
     then print_text subscription.query.name 0 (difference (answer_after subscription.query (command ∷ history)) (answer_before subscription history))
     else []
 
 -- the notices of a command, in the order of the creates
-abbrev pub notices : History → Command → List ℕ
+abbrev pub notices : History → BuiltCommand → List ℕ
 notices history command = flat_map (notice history command) (subscriptions (command ∷ history))

@@ -9,11 +9,11 @@ use Rattle.ncq_source.specs.Held.{Kept}
 use Rattle.ncq_source.specs.Changes.{store_after}
 use Rattle.ncq_run.specs.declared.command.ChildQuery.{ChildQuery}
 use Rattle.ncq_run.specs.declared.command.Subscription.{Subscription}
-use Rattle.ncq_run.specs.declared.command.Command.{Command}
-use Rattle.ncq_run.specs.declared.command.Command.TheVariants.{Declare, Delta, Create}
+use Rattle.ncq_run.specs.declared.command.BuiltCommand.{BuiltCommand}
+use Rattle.ncq_run.specs.declared.command.BuiltCommand.TheVariants.{Declare, Delta, Create}
 
 abbrev pub History : Type 0
-History = List Command
+History = List BuiltCommand
 
 -- how many deltas were accepted
 abbrev pub changes : History → ℕ

@@ -1,5 +1,5 @@
 -- What is written for a script: the answer of each command in turn.
-use Rattle.std.specs.Prelude.{ℕ, ◌+◌, Bool, true, false, ◌&&◌, not, if◌then◌else◌, List, [], ◌∷◌, ◌++◌, codes, Option, Some, None, is_some, decimal}
+use Rattle.std.specs.Prelude.{ℕ, ◌+◌, Bool, true, false, ◌&&◌, not, if◌then◌else◌, List, [], ◌∷◌, ◌++◌, codes, Option, Some, None, Result, Ok, Err, decimal}
 use Rattle.std.specs.Option.{option_map}
 use Rattle.ncq_base.specs.Keys.{is_key}
 use Rattle.ncq_source.specs.Changes.{prepared, Trial}
@@ -11,9 +11,10 @@ use Rattle.ncq_script.specs.declared.refusal.Refusal.TheVariants as refusal
 use Rattle.ncq_script.specs.declared.command_lines.CommandLines.{CommandLines}
 use Rattle.ncq_script.specs.Commands.{commands, whole_commands}
 use Rattle.ncq_run.specs.declared.command.ChildQuery.{ChildQuery}
-use Rattle.ncq_run.specs.declared.command.Command.{Command}
-use Rattle.ncq_run.specs.declared.command.Command.TheVariants.{Declare, Delta, Create}
-use Rattle.ncq_run.specs.Built.{command_of}
+use Rattle.ncq_run.specs.declared.command.BuiltCommand.{BuiltCommand}
+use Rattle.ncq_run.specs.declared.command.BuiltCommand.TheVariants.{Declare, Delta, Create}
+use Rattle.ncq_script.specs.Reads.{read}
+use Rattle.ncq_run.specs.Built.{built}
 use Rattle.ncq_run.specs.History.{History, Source, sources, source_in, subscriptions}
 use Rattle.ncq_run.specs.Firing.{notices}
 
@@ -28,49 +29,54 @@ abbrev pub is_none : {A : Type 0} → List A → Bool
 is_none [] = true
 is_none (item ∷ items) = false
 
+-- a source of this name
+abbrev pub declare_refusal : Option Source → Option Refusal
+declare_refusal None = None
+declare_refusal (Some source) = Some refusal.SourceExists
+
 -- a create on this source: its root has to be the query's
 abbrev pub create_refusal : ChildQuery → Option Source → Option Refusal
 create_refusal query None = Some refusal.NoSource
 create_refusal query (Some source) = if is_key source.root query.root then None else Some refusal.Unbuilt
 
 -- a delta of this source: the first item that cannot be applied decides
-abbrev pub delta_refusal : Command → Option Source → Option Refusal
+abbrev pub delta_refusal : BuiltCommand → Option Source → Option Refusal
 delta_refusal (Delta name items) (Some source) = trial_refusal (prepared source.key 1 source.elements items)
 delta_refusal command source = Some refusal.NoSource
 
 -- the first refusal of a command of a built form after a history
-abbrev pub refusal_in : History → Command → Option Refusal
-refusal_in history (Declare name root key) = if is_none (sources history) then None else Some refusal.Unbuilt
+abbrev pub refusal_in : History → BuiltCommand → Option Refusal
+refusal_in history (Declare name root key) = declare_refusal (source_in name (sources history))
 refusal_in history (Delta name items) = delta_refusal (Delta name items) (source_in name (sources history))
 refusal_in history (Create query) = if is_none (subscriptions history) then create_refusal query (source_in query.source (sources history)) else Some refusal.Unbuilt
 
 -- the answer to an accepted command with this number: its line, then the notices
-abbrev pub accepted_text : History → ℕ → Command → List ℕ
+abbrev pub accepted_text : History → ℕ → BuiltCommand → List ℕ
 accepted_text history number command = decimal number ++ codes " ok\n" ++ notices history command
 
-abbrev pub answered : History → ℕ → Command → Option Refusal → List ℕ
+abbrev pub answered : History → ℕ → BuiltCommand → Option Refusal → List ℕ
 answered history number command None = accepted_text history number command
 answered history number command (Some why) = refused_text number why
 
-abbrev pub known_answer : History → ℕ → Option Command → List ℕ
-known_answer history number None = refused_text number refusal.Unbuilt
-known_answer history number (Some command) = answered history number command (refusal_in history command)
+abbrev pub known_answer : History → ℕ → Result BuiltCommand Refusal → List ℕ
+known_answer history number (Ok command) = answered history number command (refusal_in history command)
+known_answer history number (Err why) = refused_text number why
 
 -- the answer to the command with this number
 unfoldable pub answer_to : History → ℕ → CommandLines → List ℕ
-answer_to history number lines = known_answer history number (command_of lines)
+answer_to history number lines = known_answer history number (built (read lines))
 
-abbrev pub with_accepted : History → Command → Option Refusal → History
+abbrev pub with_accepted : History → BuiltCommand → Option Refusal → History
 with_accepted history command None = command ∷ history
 with_accepted history command (Some why) = history
 
-abbrev pub with_known : History → Option Command → History
-with_known history None = history
-with_known history (Some command) = with_accepted history command (refusal_in history command)
+abbrev pub with_known : History → Result BuiltCommand Refusal → History
+with_known history (Ok command) = with_accepted history command (refusal_in history command)
+with_known history (Err why) = history
 
 -- the history after a command: a refused one changes nothing
 unfoldable pub after : History → CommandLines → History
-after history lines = with_known history (command_of lines)
+after history lines = with_known history (built (read lines))
 
 -- the answers to commands, the first with this number
 abbrev pub out_of : History → ℕ → List CommandLines → List ℕ

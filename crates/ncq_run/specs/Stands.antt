@@ -3,7 +3,7 @@ use Rattle.std.specs.Prelude.{◌≡◌, ℕ, List, ◌++◌, map}
 use Rattle.ncq_source.specs.Stores.{kept}
 use Rattle.ncq_source.specs.StoreStates.{StoreState}
 use Rattle.ncq_source.specs.declared.declared.Declared.{Declared}
-use Rattle.ncq_run.specs.declared.command.Command.{Command}
+use Rattle.ncq_run.specs.declared.command.BuiltCommand.{BuiltCommand}
 use Rattle.ncq_run.specs.declared.command.Subscription.{Subscription}
 use Rattle.ncq_run.specs.History.{History, Source, sources, subscriptions}
 use Rattle.ncq_run.specs.Output.{answered, refusal_in, with_accepted}
@@ -18,6 +18,6 @@ pub record Stands (store : StoreState) (live : List Subscription) (history : His
   pub live_are : live ≡ subscriptions history
 
 -- the command with this number was answered, and the engine stands for the history behind it
-abbrev pub Applies : StoreState → List Subscription → ℕ → Command → List ℕ → StoreState → List Subscription → List ℕ → Type 0
+abbrev pub Applies : StoreState → List Subscription → ℕ → BuiltCommand → List ℕ → StoreState → List Subscription → List ℕ → Type 0
 Applies store live number command out store' live' out' = (history : History) → Stands store live history
     → (out' ≡ out ++ answered history number command (refusal_in history command)) × Stands store' live' (with_accepted history command (refusal_in history command))

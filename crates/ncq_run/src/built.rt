@@ -1,124 +1,40 @@
-//! Reading the commands of the built forms; every other command has none.
-ghost use Rattle.std.specs.Prelude.{◌≡◌, ◌≤◌, Some, None, IfOk, MatchOption, length, take, drop, codes};
+//! What is built of the language of commands; every other command is refused.
+ghost use Rattle.std.specs.Prelude.{◌≡◌, ◌≤◌, Some, None, IfOk, MatchOption, length, take, drop};
 ghost use Rattle.std.specs.List.{list_all, prefix_len};
 ghost use Rattle.ncq_base.specs.Names.{is_name_byte};
-ghost use Rattle.ncq_script.specs.Lines.{LineText};
-ghost use Rattle.ncq_script.specs.Words.{words};
-ghost use Rattle.ncq_run.specs.Built.{after_front, cut, is_literal_byte, is_no_quote, is_no_space, is_no_backslash, front_places, back_places, places_of, are_good, query_at, query_of, is_key_tag, declare_of, is_plain, is_plain_text, bytes_of_lines, delta_of, by_keyword, command_of};
+ghost use Rattle.ncq_run.specs.Built.{after_front, cut, is_literal_byte, is_no_quote, is_no_space, front_places, back_places, places_of, are_good, query_at, query_of, create_of, built};
 
-use crate::command::{ChildQuery, Command};
-use ncq_base::{Lines, atom_of, bytes_of, is_name, is_name_byte, is_pyx_name, is_space};
-use ncq_pyx::{PyxError, read_block};
-use ncq_script::{CommandLines, Keyword, Line, has_long, is_source_name, one_argument, source_form, statement_text};
-use ncq_source::Key;
+use crate::command::{BuiltCommand, ChildQuery};
+use ncq_base::{atom_of, bytes_of, is_name, is_name_byte, is_space};
+use ncq_script::{Command, Refusal, is_source_name};
 use std::alloc::{AllocError, Global};
 
-/// The command that the lines spell, where its form is built.
-pub(crate) fn command_of(alloc: Global, lines: &CommandLines) -> Result<Option<Command>, AllocError>
-    ensures { IfOk result (λ command. command ≡ command_of lines.now) }
+/// The command where its form is built, or its refusal.
+pub(crate) fn built(
+    alloc: Global,
+    command: Command,
+) -> Result<Result<BuiltCommand, Refusal>, AllocError>
+    ensures { IfOk result (λ answer. answer ≡ built command) }
 {
-    if has_long(lines) || !lines.closed {
-        return Ok(None);
-    }
-    by_keyword(alloc, lines)
-}
-
-fn by_keyword(alloc: Global, lines: &CommandLines) -> Result<Option<Command>, AllocError>
-    ensures { IfOk result (λ command. command ≡ by_keyword lines.now.keyword lines.now) }
-{
-    match lines.keyword {
-        Keyword::Source => declare_of(alloc, lines.head.bytes()),
-        Keyword::Delta => delta_of(alloc, lines.head.bytes(), lines.block.as_slice()),
-        Keyword::Create => {
-            let text = statement_text(alloc, lines)?;
-            match query_of(alloc, text.as_slice())? {
-                Some(query) => Ok(Some(Command::Create { query })),
-                None => Ok(None),
-            }
-        }
-        Keyword::Delete | Keyword::Clock | Keyword::Report | Keyword::Unknown => Ok(None),
+    match command {
+        Command::Declare { name, root, key } => Ok(Ok(BuiltCommand::Declare { name, root, key })),
+        Command::Delta { source, items } => Ok(Ok(BuiltCommand::Delta { source, items })),
+        Command::Create { text } => create_of(alloc, text.as_slice()),
+        Command::Delete { .. } => Ok(Err(Refusal::Unbuilt)),
+        Command::Clock { .. } => Ok(Err(Refusal::Unbuilt)),
+        Command::Report => Ok(Err(Refusal::Unbuilt)),
+        Command::Malformed { refusal } => Ok(Err(refusal)),
     }
 }
 
-/// The command of a `source` line that names a child as the key.
-fn declare_of(alloc: Global, head: &[u8]) -> Result<Option<Command>, AllocError>
-    ensures { IfOk result (λ command. command ≡ declare_of (words head.now)) }
+/// The create that a statement says.
+fn create_of(alloc: Global, text: &[u8]) -> Result<Result<BuiltCommand, Refusal>, AllocError>
+    ensures { IfOk result (λ answer. answer ≡ create_of (query_of text.now)) }
 {
-    let Some(form) = source_form(head) else {
-        return Ok(None);
-    };
-    if !is_key_tag(form.rule) {
-        return Ok(None);
+    match query_of(alloc, text)? {
+        Some(query) => Ok(Ok(BuiltCommand::Create { query })),
+        None => Ok(Err(Refusal::Unbuilt)),
     }
-    Ok(Some(Command::Declare {
-        name: bytes_of(alloc, form.name)?,
-        root: bytes_of(alloc, form.root)?,
-        key: Key::Child(bytes_of(alloc, form.rule)?),
-    }))
-}
-
-fn is_key_tag(rule: &[u8]) -> bool
-    ensures { result ≡ is_key_tag rule.now }
-{
-    match rule.split_first() {
-        Some((first, _)) => *first != b'@' && is_pyx_name(rule),
-        None => false,
-    }
-}
-
-/// The command of a `delta` line with this block.
-fn delta_of(alloc: Global, head: &[u8], block: &[Line]) -> Result<Option<Command>, AllocError>
-    ensures { IfOk result (λ command. command ≡ delta_of (words head.now) block.now) }
-{
-    let Some(source) = one_argument(head) else {
-        return Ok(None);
-    };
-    if !are_plain(block) {
-        return Ok(None);
-    }
-    let lines = lines_of(alloc, block)?;
-    match read_block(alloc, &lines) {
-        Ok(items) => Ok(Some(Command::Delta {
-            source: bytes_of(alloc, source)?,
-            items,
-        })),
-        Err(PyxError::BadLine { .. }) => Ok(None),
-        Err(PyxError::TooDeep { .. }) => Ok(None),
-        Err(PyxError::OutOfMemory) => Err(AllocError),
-    }
-}
-
-fn are_plain(block: &[Line]) -> bool
-    ensures { result ≡ list_all is_plain block.now }
-{
-    block.iter().all(|line| is_plain(line.bytes()))
-}
-
-/// Whether the line begins with a round bracket, or with `-` and has no backslash.
-fn is_plain(text: &[u8]) -> bool
-    ensures { result ≡ is_plain_text text.now }
-{
-    match text.split_first() {
-        Some((b'(' | b')', _)) => true,
-        Some((b'-', rest)) => has_no_backslash(rest),
-        _ => false,
-    }
-}
-
-fn has_no_backslash(text: &[u8]) -> bool
-    ensures { result ≡ list_all is_no_backslash text.now }
-{
-    text.iter().all(|b| *b != b'\\')
-}
-
-fn lines_of(alloc: Global, block: &[Line]) -> Result<Lines, AllocError>
-    ensures { IfOk result (λ lines. lines ≡ bytes_of_lines block.now) }
-{
-    let mut lines = Lines::new(alloc);
-    for line in block {
-        lines.push(bytes_of(alloc, line.bytes())?)?;
-    }
-    Ok(lines)
 }
 
 /// The free places of a statement of the built form.
@@ -147,12 +63,12 @@ fn query_of(alloc: Global, text: &[u8]) -> Result<Option<ChildQuery>, AllocError
 
 fn query_at(alloc: Global, places: Places<'_>) -> Result<ChildQuery, AllocError>
     ensures { IfOk result (λ query. query ≡ query_at (record {
-        name = places.entry.name.now;
-        root = places.entry.root.now;
-        tag = places.entry.tag.now;
-        child = places.entry.child.now;
-        literal = places.entry.literal.now;
-        source = places.entry.source.now;
+      name = places.entry.name.now;
+      root = places.entry.root.now;
+      tag = places.entry.tag.now;
+      child = places.entry.child.now;
+      literal = places.entry.literal.now;
+      source = places.entry.source.now;
     })) }
 {
     Ok(ChildQuery {
@@ -167,12 +83,12 @@ fn query_at(alloc: Global, places: Places<'_>) -> Result<ChildQuery, AllocError>
 
 fn are_good(places: Places<'_>) -> bool
     ensures { result ≡ are_good (record {
-        name = places.entry.name.now;
-        root = places.entry.root.now;
-        tag = places.entry.tag.now;
-        child = places.entry.child.now;
-        literal = places.entry.literal.now;
-        source = places.entry.source.now;
+      name = places.entry.name.now;
+      root = places.entry.root.now;
+      tag = places.entry.tag.now;
+      child = places.entry.child.now;
+      literal = places.entry.literal.now;
+      source = places.entry.source.now;
     }) }
 {
     is_name(places.name)
@@ -192,12 +108,12 @@ fn has_no_space(text: &[u8]) -> bool
 
 fn places_of(text: &[u8]) -> Option<Places<'_>>
     ensures { MatchOption result (places_of text.now ≡ None) (λ places. places_of text.now ≡ Some (record {
-        name = places.name.now;
-        root = places.root.now;
-        tag = places.tag.now;
-        child = places.child.now;
-        literal = places.literal.now;
-        source = places.source.now;
+      name = places.name.now;
+      root = places.root.now;
+      tag = places.tag.now;
+      child = places.child.now;
+      literal = places.literal.now;
+      source = places.source.now;
     })) }
 {
     let (name, root, tag, child, rest) = front_places(text)?;

@@ -31,7 +31,7 @@ pub struct Subscription {
 
 /// A command of a built form.
 #[derive(Drop)]
-pub enum Command {
+pub enum BuiltCommand {
     /// Declares a source.
     Declare { name: Bytes, root: Bytes, key: Key },
     /// Changes the elements of a source.

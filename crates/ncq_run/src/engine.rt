@@ -4,12 +4,12 @@ ghost use Rattle.ncq_run.specs.History.{History};
 ghost use Rattle.ncq_run.specs.Output.{answer_to, after};
 ghost use Rattle.ncq_run.specs.Stands.{Stands, Applies};
 
-use crate::built::command_of;
-use crate::command::{ChildQuery, Command, Subscription};
+use crate::built::built;
+use crate::command::{BuiltCommand, ChildQuery, Subscription};
 use crate::tell::{tell_changed, tell_whole};
 use ncq_base::{Bytes, write_decimal};
 use ncq_pyx::Items;
-use ncq_script::{CommandLines, Refusal, write_refused};
+use ncq_script::{CommandLines, Refusal, read, write_refused};
 use ncq_source::{ChangeError, DeclareError, Key, Store};
 use std::alloc::{AllocError, Global};
 
@@ -46,9 +46,9 @@ impl Engine {
             (out.new.items ≡ out.old.items ++ answer_to history number lines.now) × Stands self.new.store self.new.subscriptions.items (after history lines.now)) }
         ensures few { self.new.store.changes ≤ number }
     {
-        match command_of(alloc, lines)? {
-            Some(command) => self.apply(alloc, number, command, out),
-            None => write_refused(number, &Refusal::Unbuilt, out),
+        match built(alloc, read(alloc, lines)?)? {
+            Ok(command) => self.apply(alloc, number, command, out),
+            Err(refusal) => write_refused(number, &refusal, out),
         }
     }
 
@@ -57,7 +57,7 @@ impl Engine {
         &mut self,
         alloc: Global,
         number: u64,
-        command: Command,
+        command: BuiltCommand,
         out: &mut Vec<u8>,
     ) -> Result<(), AllocError>
         requires few { self.old.store.changes < number }
@@ -66,9 +66,13 @@ impl Engine {
         ensures few { self.new.store.changes ≤ number }
     {
         match command {
-            Command::Declare { name, root, key } => self.declare(alloc, number, name, root, key, out),
-            Command::Delta { source, items } => self.change(alloc, number, &source, &items, out),
-            Command::Create { query } => self.create(alloc, number, query, out),
+            BuiltCommand::Declare { name, root, key } => self.declare(
+                alloc, number, name, root, key, out,
+            ),
+            BuiltCommand::Delta { source, items } => self.change(
+                alloc, number, &source, &items, out,
+            ),
+            BuiltCommand::Create { query } => self.create(alloc, number, query, out),
         }
     }
 
@@ -82,16 +86,13 @@ impl Engine {
         out: &mut Vec<u8>,
     ) -> Result<(), AllocError>
         requires { self.old.store.changes < number }
-        ensures applies { OnOk result (Applies self.old.store self.old.subscriptions.items number (Command.Declare name root key) out.old.items self.new.store self.new.subscriptions.items out.new.items) }
+        ensures applies { OnOk result (Applies self.old.store self.old.subscriptions.items number (BuiltCommand.Declare name root key) out.old.items self.new.store self.new.subscriptions.items out.new.items) }
         ensures few { self.new.store.changes ≤ number }
     {
-        if self.store.count() > 0 {
-            return write_refused(number, &Refusal::Unbuilt, out);
-        }
         match self.store.declare(alloc, name, root, key) {
             Ok(_) => write_ok(number, out),
+            Err(DeclareError::Exists) => write_refused(number, &Refusal::SourceExists, out),
             Err(DeclareError::OutOfMemory) => Err(AllocError),
-            Err(DeclareError::Exists) => unreachable!(),
         }
     }
 
@@ -105,14 +106,20 @@ impl Engine {
     ) -> Result<(), AllocError>
         requires few { self.old.store.changes < number }
         requires small { number < 2 ^ 60 }
-        ensures applies { OnOk result (Applies self.old.store self.old.subscriptions.items number (Command.Delta source.now items.now) out.old.items self.new.store self.new.subscriptions.items out.new.items) }
+        ensures applies { OnOk result (Applies self.old.store self.old.subscriptions.items number (BuiltCommand.Delta source.now items.now) out.old.items self.new.store self.new.subscriptions.items out.new.items) }
         ensures few { self.new.store.changes ≤ number }
     {
         match self.store.prepare(alloc, source.as_slice(), items) {
             Ok(change) => {
                 self.store.reserve(&change)?;
                 write_ok(number, out)?;
-                tell_changed(alloc, self.subscriptions.as_slice(), source, change.entries(), out)?;
+                tell_changed(
+                    alloc,
+                    self.subscriptions.as_slice(),
+                    source,
+                    change.entries(),
+                    out,
+                )?;
                 self.store.commit(change);
                 Ok(())
             }
@@ -135,7 +142,7 @@ impl Engine {
         out: &mut Vec<u8>,
     ) -> Result<(), AllocError>
         requires { self.old.store.changes < number }
-        ensures applies { OnOk result (Applies self.old.store self.old.subscriptions.items number (Command.Create query) out.old.items self.new.store self.new.subscriptions.items out.new.items) }
+        ensures applies { OnOk result (Applies self.old.store self.old.subscriptions.items number (BuiltCommand.Create query) out.old.items self.new.store self.new.subscriptions.items out.new.items) }
         ensures few { self.new.store.changes ≤ number }
     {
         if !self.subscriptions.is_empty() {

@@ -10,5 +10,5 @@ mod engine;
 mod session;
 mod tell;
 
-pub use command::{ChildQuery, Command, Subscription};
+pub use command::{BuiltCommand, ChildQuery, Subscription};
 pub use session::{MAX_LINE, MAX_SCRIPT, Status, exit_code, run};

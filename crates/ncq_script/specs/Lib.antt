@@ -8,3 +8,4 @@ pub mod OpenCommands
 pub mod Reading
 pub mod NextOfCommands
 pub mod Refusals
+pub mod Reads

@@ -4,6 +4,7 @@
 //! However the bytes are cut into pieces, the commands are those of the whole script, and each is given as soon as its last line is whole.
 #![tactic(auto)]
 
+mod command;
 mod command_lines;
 mod command_reader;
 mod form;
@@ -13,6 +14,7 @@ mod refusal;
 mod tests;
 mod word;
 
+pub use command::{Command, read};
 pub use command_lines::{CommandLines, commands_of};
 pub use command_reader::{CommandReader, NextCommand};
 pub use form::{SourceForm, has_long, is_source_name, one_argument, source_form, statement_text};

@@ -6,9 +6,9 @@ use Rattle.ncq_run.proofs.session.answer_piece.Goals as goal
 pub returns-in-Ok-clause-written : goal.returns-in-Ok-clause-written
 returns-in-Ok-clause-written g c = on_ok_weaker c.answer_commands.result
     (λ h pushed f counted stands before was.
-        let e = known_open _ _ _ (pushed ++ c.args.piece.now) c.in-Ok.ensures.limit c.in-Ok.ensures.open in
-        let now = h _ _ (c.in-Ok.ensures.ok pushed _ f) stands in
-        (piece_written _ _ _ _ _ pushed _ counted was c.args.piece.now e now.0, piece_stands _ _ pushed c.args.piece.now _ _ _ counted e now.1))
+    let e = known_open _ _ _ (pushed ++ c.args.piece.now) c.in-Ok.ensures.limit c.in-Ok.ensures.open in
+    let now = h _ _ (c.in-Ok.ensures.ok pushed _ f) stands in
+    (piece_written _ _ _ _ _ pushed _ counted was c.args.piece.now e now.0, piece_stands _ _ pushed c.args.piece.now _ _ _ counted e now.1))
     c.answer_commands.ensures.written
 
 pub returns-in-Ok-clause-no_memory : goal.returns-in-Ok-clause-no_memory

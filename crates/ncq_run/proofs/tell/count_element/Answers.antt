@@ -20,6 +20,6 @@ returns c =
     let children = ap (λ (nodes : List Node). length (filter (is_wanted query) (flat_map (child_keys query.child) nodes))) c.as_slice.ensures in
     let bytes = sym (c.as_slice-2.ensures.value ∙ c.in_ok-write_forest.ensures.ok ∙ (λ i. c.new-bytes.ensures.items i ++ pyx (c.in_ok-forest_of.ensures i))) in
     on_ok_weaker c.add_times.result
-        (λ h key. h key ∙ ap (λ (n : ℕ). count_of c.args.bag.now.counts key +ℤ signed c.args.gain n)
-            (sym (weight_is query key c.as_slice-2.result.now element c.in_ok-count.count tag (c.in_ok-count.ensures ∙ children) bytes)))
-        c.add_times.ensures
+    (λ h key. h key ∙ ap (λ (n : ℕ). count_of c.args.bag.now.counts key +ℤ signed c.args.gain n)
+    (sym (weight_is query key c.as_slice-2.result.now element c.in_ok-count.count tag (c.in_ok-count.ensures ∙ children) bytes)))
+    c.add_times.ensures

@@ -13,10 +13,10 @@ returns-clause-counts c =
     let es = c.self.inside.counts.entries in
     let key = c.args.key in
     let count : c.unwrap_or-count.result ≡ unwrap_or (lookup (is_key key) es) (pos 0) =
-        c.unwrap_or-count.ensures ∙ ap (λ o. unwrap_or o (pos 0)) (c.copied.ensures ∙ c.get.ensures.value) in
+    c.unwrap_or-count.ensures ∙ ap (λ o. unwrap_or o (pos 0)) (c.copied.ensures ∙ c.get.ensures.value) in
     let bound : nat_abs c.unwrap_or-count.result ≤ 2 ^ 63 = subst (λ (z : ℤ). nat_abs z ≤ 2 ^ 63) (sym count) (count_small es c.self.inside.adds key c.self.invariant) in
     rw (← c.self.view_is)
     (map_put es c.insert.new.self.entries key _ c.in_ok-insert.ensures.updates.0
     ∙ ap (insert (map_of es) key)
-        (fits _ c.stepped.ensures.small ∙ c.stepped.ensures.value
-        ∙ ap (λ (z : ℤ). z +ℤ step c.args.gain) (fits _ bound ∙ count ∙ ap (λ o. unwrap_or o (pos 0)) (sym (get_map_of es key)))))
+    (fits _ c.stepped.ensures.small ∙ c.stepped.ensures.value
+    ∙ ap (λ (z : ℤ). z +ℤ step c.args.gain) (fits _ bound ∙ count ∙ ap (λ o. unwrap_or o (pos 0)) (sym (get_map_of es key)))))

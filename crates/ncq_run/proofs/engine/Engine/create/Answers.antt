@@ -13,8 +13,8 @@ returns-in_default-clause-applies c =
     let none : length c.args.self.now.subscriptions.items ≡ 0 = search rules in
     let missing = find_none c.args.self.now.store c.args.query.source c.as_slice.result.now c.find.result c.as_slice.ensures c.find.ensures c.in_default.is in
     on_ok_weaker c.write_refused-in_default.result
-        (λ e. create_of_none c.args.self.now.store c.args.self.now.subscriptions.items c.args.number c.args.out.now.items c.args.query _ none missing e)
-        c.write_refused-in_default.ensures
+    (λ e. create_of_none c.args.self.now.store c.args.self.now.subscriptions.items c.args.number c.args.out.now.items c.args.query _ none missing e)
+    c.write_refused-in_default.ensures
 
 pub returns-then-ne-clause-applies : goal.returns-then-ne-clause-applies
 returns-then-ne-clause-applies c =
@@ -24,8 +24,8 @@ returns-then-ne-clause-applies c =
     let other : is_key c.root_of.result.now c.args.query.root ≡ false = search rules in
     let root = ap (λ (name : List ℕ). is_key name c.args.query.root) (sym (c.root_of.ensures d.0 d.1)) ∙ other in
     on_ok_weaker c.write_refused-then-ne.result
-        (λ e. create_other_root c.args.self.now.store c.args.self.now.subscriptions.items c.args.number c.args.out.now.items c.args.query c.in-Some.source.0 d.0 none at d.1 _ root e)
-        c.write_refused-then-ne.ensures
+    (λ e. create_other_root c.args.self.now.store c.args.self.now.subscriptions.items c.args.number c.args.out.now.items c.args.query c.in-Some.source.0 d.0 none at d.1 _ root e)
+    c.write_refused-then-ne.ensures
 
 pub returns-clause-applies : goal.returns-clause-applies
 returns-clause-applies c =
@@ -36,4 +36,4 @@ returns-clause-applies c =
     let root = ap (λ (name : List ℕ). is_key name c.args.query.root) (sym (c.root_of.ensures d.0 d.1)) ∙ one in
     let told = c.in_ok-tell_whole.ensures d.0 d.1 ∙ ap (λ (xs : List ℕ). xs ++ print_text c.args.query.name 0 (difference (answer_in c.args.query (kept d.0)) [])) c.in_ok-write_ok.ensures in
     create_accepted c.args.self.now.store c.args.self.now.subscriptions.items c.args.number c.args.out.now.items c.args.query c.in-Some.source.0 d.0 none at d.1 c.push.new.self.items _ root
-        c.in_ok-push.ensures.items told
+    c.in_ok-push.ensures.items told

@@ -1,0 +1,139 @@
+//! Whole sessions over memory: a script comes in, and the status and the written bytes are compared with values that were worked by hand.
+
+ghost use Rattle.std.specs.Prelude.{◌≡◌, ◌<◌};
+
+use ncq_base::{Steps, bytes_of};
+use ncq_outside::{Calls, Sink, Source, memory_sink, memory_source};
+use ncq_run::{Status, run};
+use std::alloc::{AllocError, Global};
+use std::marker::Brand;
+use std::process::Abort;
+use std::sync::ledger::{Blank, Ledger};
+use std::test::Fail;
+
+mod calls;
+mod faults;
+mod limits;
+mod notices;
+mod refusals;
+mod values;
+
+/// Declares the source `quotes`. The key of its elements is their child `Symbol`.
+const SOURCE: &str = "source quotes root Quotes key Symbol\n";
+
+/// Installs the query `w`: the quotes whose symbol is INTC.
+const WATCH: &str =
+    "create w WHERE <Quotes><Quote><Symbol>INTC</></> ELEMENT_AS $g</> IN \"quotes\" CONSTRUCT $g DO print\n.\n";
+
+/// Puts the quote INTC at 95.5, and the same quote at 96.
+const PUT_95: &str =
+    "delta quotes\n(Quote\n(Symbol\n-INTC\n)Symbol\n(Price\n-95.5\n)Price\n)Quote\n.\n";
+
+const PUT_96: &str =
+    "delta quotes\n(Quote\n(Symbol\n-INTC\n)Symbol\n(Price\n-96\n)Price\n)Quote\n.\n";
+
+/// What `w` is told of the first put, and of the second behind the first.
+const TOLD_95: &str =
+    "notice w 0\ngain 1\n(Quote\n(Symbol\n-INTC\n)Symbol\n(Price\n-95.5\n)Price\n)Quote\nend\n";
+
+const TOLD_96: &str =
+    "notice w 0\nlose 1\n(Quote\n(Symbol\n-INTC\n)Symbol\n(Price\n-95.5\n)Price\n)Quote\ngain 1\n(Quote\n(Symbol\n-INTC\n)Symbol\n(Price\n-96\n)Price\n)Quote\nend\n";
+
+/// The numbers of the reads and writes that fail, the most bytes of a read, and the room for what is written.
+#[derive(Clone, Copy)]
+struct Outside<'a> {
+    piece: usize,
+    read_faults: &'a [u64],
+    room: usize,
+    write_faults: &'a [u64],
+}
+
+/// Reads of at most so many bytes, and nothing fails.
+fn in_pieces(piece: usize) -> Outside<'static> {
+    Outside {
+        piece,
+        read_faults: &[],
+        room: 4096,
+        write_faults: &[],
+    }
+}
+
+/// How a session ended, and what it wrote.
+#[derive(Drop)]
+struct Outcome {
+    status: Status,
+    written: Vec<u8>,
+}
+
+/// The texts, one behind the other.
+fn joined(alloc: Global, parts: &[&str]) -> Result<Vec<u8>, AllocError> {
+    let mut all = Vec::new(alloc);
+    for part in parts {
+        all.extend_from_slice(part.as_bytes())?;
+    }
+    Ok(all)
+}
+
+fn calls_of(alloc: Global, numbers: &[u64]) -> Result<Calls, AllocError> {
+    let mut all = Calls::new(alloc);
+    for number in numbers {
+        all.push(*number)?;
+    }
+    Ok(all)
+}
+
+fn counted_run<I: Source, O: Sink, L: Ledger>(
+    alloc: Global,
+    words: &[&str],
+    input: &mut I,
+    output: &mut O,
+    blank: Blank,
+) -> Status
+where
+    requires name { blank.name ≡ L.name }
+    requires parts { blank.parts ≡ L.parts }
+    requires some { 0 < L.parts }
+{
+    let mut steps = Steps::<L>::new(blank);
+    run(alloc, words, input, output, &mut steps)
+}
+
+/// A run with a counter of its own.
+fn run_on<I: Source, O: Sink>(
+    alloc: Global,
+    words: &[&str],
+    input: &mut I,
+    output: &mut O,
+) -> Status {
+    counted_run::<_, _, Brand>(alloc, words, input, output, Blank::new(1))
+}
+
+/// The outcome of `ncq run` on this script.
+fn outcome_of(alloc: Global, script: &[u8], outside: Outside<'_>) -> Result<Outcome, AllocError> {
+    let read_faults = calls_of(alloc, outside.read_faults)?;
+    let write_faults = calls_of(alloc, outside.write_faults)?;
+    let script = bytes_of(alloc, script)?;
+    let mut input = memory_source(script, outside.piece.max(1), read_faults);
+    let mut output = memory_sink(alloc, outside.room, write_faults)?;
+    let status = run_on(alloc, &["run"], &mut input, &mut output);
+    Ok(Outcome {
+        status,
+        written: Vec::from_slice(alloc, output.held())?,
+    })
+}
+
+/// The script is answered with this output, however it is cut into pieces.
+fn expect_output(
+    rt: &impl Abort,
+    alloc: Global,
+    script: &[u8],
+    want: &[u8],
+    why: &str,
+) -> Result<(), Fail> {
+    for piece in [1, 7, 65536] {
+        let outcome = outcome_of(alloc, script, in_pieces(piece))?;
+        assert_eq!(rt; outcome.status, Status::Done, "{why}");
+        assert_eq!(rt; outcome.written.as_slice(), want, "{why}");
+    }
+    Ok(())
+}

@@ -1,0 +1,75 @@
+-- What the lines of a command say, or the first refusal of reading.
+use Rattle.std.specs.Prelude.{◌==◌, ℕ, Bool, List, [], ◌∷◌, Option, Some, None, Result, Ok, Err, if◌then◌else◌, nat_le, length, map, option_map}
+use Rattle.std.specs.Option.{option_and_then}
+use Rattle.ncq_base.specs.Names.{is_pyx_name}
+use Rattle.ncq_base.specs.Numbers.{read_u64}
+use Rattle.ncq_base.specs.declared.limit.Limit.TheVariants.{Line, Nesting}
+use Rattle.ncq_pyx.specs.Faults.{block_of}
+use Rattle.ncq_pyx.specs.declared.turns.Item.{Item}
+use Rattle.ncq_pyx.specs.declared.error.PyxError.{PyxError}
+use Rattle.ncq_pyx.specs.declared.error.PyxError.TheVariants.{BadLine, TooDeep, OutOfMemory}
+use Rattle.ncq_source.specs.declared.key.Key.{Key}
+use Rattle.ncq_source.specs.declared.key.Key.TheVariants.{Child, Attribute}
+use Rattle.ncq_script.specs.Lines.{LineText}
+use Rattle.ncq_script.specs.Words.{words}
+use Rattle.ncq_script.specs.Forms.{source_form, one_argument, has_long, statement_text}
+use Rattle.ncq_script.specs.declared.command_lines.CommandLines.{CommandLines}
+use Rattle.ncq_script.specs.declared.word.Keyword.{Keyword}
+use Rattle.ncq_script.specs.declared.word.Keyword.TheVariants as keyword
+use Rattle.ncq_script.specs.declared.command.Command.{Command}
+use Rattle.ncq_script.specs.declared.command.Command.TheVariants.{Declare, Delta, Create, Delete, Clock, Report, Malformed}
+use Rattle.ncq_script.specs.declared.refusal.Refusal.TheVariants as refusal
+
+-- the key rule that a word writes: `@<attribute>` or `<tag>`
+abbrev pub rule_of : List ℕ → Option Key
+rule_of [] = None
+rule_of (b ∷ name) =
+    if b == 64
+    then (if is_pyx_name name then Some (Attribute name) else None)
+    else (if is_pyx_name (b ∷ name) then Some (Child (b ∷ name)) else None)
+
+-- `source <name> root <tag> key <rule>`
+abbrev pub declare_of : List (List ℕ) → Option Command
+declare_of line_words = option_and_then (λ form. option_map (λ key. Declare form.name form.root key) (rule_of form.rule)) (source_form line_words)
+
+-- `clock <n>`
+abbrev pub clock_of : List (List ℕ) → Option Command
+clock_of line_words = option_map Clock (option_and_then read_u64 (one_argument line_words))
+
+-- the command, or that its line has not the form
+abbrev pub or_refused : Option Command → Command
+or_refused None = Malformed refusal.Command
+or_refused (Some command) = command
+
+-- the command, or that its block has no end
+abbrev pub if_closed : Bool → Command → Command
+if_closed closed command = if closed then command else Malformed refusal.Unfinished
+
+abbrev pub bytes_of_lines : List LineText → List (List ℕ)
+bytes_of_lines lines = map (λ line. line.bytes) lines
+
+-- a delta of what its block says; a block never says that memory ran out
+abbrev pub delta_of : List ℕ → Result (List Item) PyxError → Command
+delta_of source (Ok items) = Delta source items
+delta_of source (Err (BadLine line)) = Malformed (refusal.Pyx line)
+delta_of source (Err (TooDeep line)) = Malformed (refusal.Limit Nesting)
+delta_of source (Err OutOfMemory) = Malformed refusal.Command
+
+-- `delta <source>` with its block
+abbrev pub delta_form : Option (List ℕ) → CommandLines → Command
+delta_form None lines = Malformed refusal.Command
+delta_form (Some source) lines = if_closed lines.closed (delta_of source (block_of 64 (bytes_of_lines lines.block)))
+
+-- the command of lines none of which is long
+abbrev pub form_of : Keyword → CommandLines → Command
+form_of keyword.Source lines = or_refused (declare_of (words lines.head.bytes))
+form_of keyword.Delta lines = delta_form (one_argument (words lines.head.bytes)) lines
+form_of keyword.Create lines = if_closed lines.closed (Create (statement_text lines))
+form_of keyword.Delete lines = or_refused (option_map Delete (one_argument (words lines.head.bytes)))
+form_of keyword.Clock lines = or_refused (clock_of (words lines.head.bytes))
+form_of keyword.Report lines = if nat_le (length (words lines.head.bytes)) 1 then Report else Malformed refusal.Command
+form_of keyword.Unknown lines = Malformed refusal.Command
+
+-- what the lines of a command say, or the first refusal of reading
+abbrev pub read : CommandLines → Command
+read lines = if has_long lines then Malformed (refusal.Limit Line) else form_of lines.keyword lines

@@ -1,0 +1,222 @@
+//! What the lines of a command say, or the first refusal of reading.
+ghost use Rattle.std.specs.Prelude.{◌≡◌, if◌then◌else◌, length, nat_le, None, Some, IfOk, MatchOption, option_map};
+ghost use Rattle.std.specs.Option.{option_and_then};
+ghost use Rattle.ncq_base.specs.Numbers.{read_u64};
+ghost use Rattle.ncq_pyx.specs.Faults.{block_of};
+ghost use Rattle.ncq_script.specs.Words.{words};
+ghost use Rattle.ncq_script.specs.Reads.{rule_of, declare_of, clock_of, if_closed, bytes_of_lines, delta_of, delta_form, form_of, or_refused, read};
+ghost use Rattle.ncq_script.specs.Forms.{one_argument};
+
+use crate::command_lines::CommandLines;
+use crate::form::{has_long, one_argument, source_form, statement_text};
+use crate::line::Line;
+use crate::refusal::Refusal;
+use crate::word::{Keyword, next_word};
+use ncq_base::{Bytes, Limit, Lines, bytes_of, is_pyx_name, read_u64};
+use ncq_pyx::{Items, PyxError, read_block};
+use ncq_source::Key;
+use std::alloc::{AllocError, Global};
+
+/// What a command says.
+#[derive(Drop)]
+pub enum Command {
+    /// Declares a source.
+    Declare {
+        /// What it is called.
+        name: Bytes,
+        /// The tag of its root.
+        root: Bytes,
+        /// Where the keys of its elements stand.
+        key: Key,
+    },
+    /// Changes a source.
+    Delta {
+        /// What the source is called.
+        source: Bytes,
+        /// What is put and removed, in order. Each element is proper.
+        items: Items,
+    },
+    /// Leaves a query.
+    Create {
+        /// The statement, its lines joined by line feeds.
+        text: Bytes,
+    },
+    /// Takes a subscription away.
+    Delete {
+        /// What it is called.
+        name: Bytes,
+    },
+    /// Moves the clock.
+    Clock {
+        /// To this instant.
+        instant: u64,
+    },
+    /// Asks for a report.
+    Report,
+    /// Is refused already when it is read.
+    Malformed {
+        /// Why.
+        refusal: Refusal,
+    },
+}
+
+/// What the lines of a command say, or the first refusal of reading: 15 `line` where a line is long; else 1 where the
+/// line has not its form; else 16 where the block has no end; for a delta then 5 or 15 `nesting` at the first faulty line.
+/// The error is want of memory.
+pub fn read(alloc: Global, lines: &CommandLines) -> Result<Command, AllocError>
+    ensures { IfOk result (λ command. command ≡ read lines.now) }
+{
+    if has_long(lines) {
+        return Ok(refused(Refusal::Limit { which: Limit::Line }));
+    }
+    let head = lines.head.bytes();
+    match lines.keyword {
+        Keyword::Source => Ok(declare_of(alloc, head)?.unwrap_or(refused(Refusal::Command))),
+        Keyword::Delta => delta_form(alloc, head, lines),
+        Keyword::Create => create_form(alloc, lines),
+        Keyword::Delete => delete_form(alloc, head),
+        Keyword::Clock => Ok(clock_form(head)),
+        Keyword::Report => Ok(report_form(head)),
+        Keyword::Unknown => Ok(refused(Refusal::Command)),
+    }
+}
+
+fn refused(refusal: Refusal) -> Command
+    ensures { result ≡ Command.Malformed refusal }
+{
+    Command::Malformed { refusal }
+}
+
+fn declare_of(alloc: Global, head: &[u8]) -> Result<Option<Command>, AllocError>
+    ensures { IfOk result (λ command. command ≡ declare_of (words head.now)) }
+{
+    let Some(form) = source_form(head) else {
+        return Ok(None);
+    };
+    let Some(key) = rule_of(alloc, form.rule)? else {
+        return Ok(None);
+    };
+    Ok(Some(Command::Declare {
+        name: bytes_of(alloc, form.name)?,
+        root: bytes_of(alloc, form.root)?,
+        key,
+    }))
+}
+
+/// The key rule that a word writes.
+fn rule_of(alloc: Global, text: &[u8]) -> Result<Option<Key>, AllocError>
+    ensures { IfOk result (λ key. key ≡ rule_of text.now) }
+{
+    match text {
+        [b'@', name @ ..] => {
+            if is_pyx_name(name) {
+                Ok(Some(Key::Attribute(bytes_of(alloc, name)?)))
+            } else {
+                Ok(None)
+            }
+        }
+        _ => {
+            if is_pyx_name(text) {
+                Ok(Some(Key::Child(bytes_of(alloc, text)?)))
+            } else {
+                Ok(None)
+            }
+        }
+    }
+}
+
+fn delta_form(alloc: Global, head: &[u8], lines: &CommandLines) -> Result<Command, AllocError>
+    ensures { IfOk result (λ command. command ≡ delta_form (one_argument (words head.now)) lines.now) }
+{
+    let Some(source) = one_argument(head) else {
+        return Ok(refused(Refusal::Command));
+    };
+    if !lines.closed {
+        return Ok(refused(Refusal::Unfinished));
+    }
+    delta_of(alloc, source, lines.block.as_slice())
+}
+
+/// The delta that a block says.
+fn delta_of(alloc: Global, source: &[u8], block: &[Line]) -> Result<Command, AllocError>
+    ensures { IfOk result (λ command. command ≡ delta_of source.now (block_of 64 (bytes_of_lines block.now))) }
+{
+    let lines = lines_of(alloc, block)?;
+    match read_block(alloc, &lines) {
+        Ok(items) => Ok(Command::Delta {
+            source: bytes_of(alloc, source)?,
+            items,
+        }),
+        Err(PyxError::BadLine { line }) => Ok(refused(Refusal::Pyx { line })),
+        Err(PyxError::TooDeep { .. }) => Ok(refused(Refusal::Limit {
+            which: Limit::Nesting,
+        })),
+        Err(PyxError::OutOfMemory) => Err(AllocError),
+    }
+}
+
+fn lines_of(alloc: Global, block: &[Line]) -> Result<Lines, AllocError>
+    ensures { IfOk result (λ lines. lines ≡ bytes_of_lines block.now) }
+{
+    let mut lines = Lines::new(alloc);
+    for line in block {
+        lines.push(bytes_of(alloc, line.bytes())?)?;
+    }
+    Ok(lines)
+}
+
+fn create_form(alloc: Global, lines: &CommandLines) -> Result<Command, AllocError>
+    ensures { IfOk result (λ command. command ≡ form_of Keyword.Create lines.now) }
+{
+    if !lines.closed {
+        return Ok(refused(Refusal::Unfinished));
+    }
+    Ok(Command::Create {
+        text: statement_text(alloc, lines)?,
+    })
+}
+
+fn delete_form(alloc: Global, head: &[u8]) -> Result<Command, AllocError>
+    ensures { IfOk result (λ command. command ≡ or_refused (option_map Command.Delete (one_argument (words head.now)))) }
+{
+    match one_argument(head) {
+        Some(name) => Ok(Command::Delete {
+            name: bytes_of(alloc, name)?,
+        }),
+        None => Ok(refused(Refusal::Command)),
+    }
+}
+
+fn clock_form(head: &[u8]) -> Command
+    ensures { result ≡ or_refused (clock_of (words head.now)) }
+{
+    match clock_of(head) {
+        Some(instant) => Command::Clock { instant },
+        None => refused(Refusal::Command),
+    }
+}
+
+fn clock_of(head: &[u8]) -> Option<u64>
+    ensures { result ≡ option_and_then read_u64 (one_argument (words head.now)) }
+{
+    read_u64(one_argument(head)?)
+}
+
+fn report_form(head: &[u8]) -> Command
+    ensures { result ≡ (if nat_le (length (words head.now)) 1 then Command.Report else Command.Malformed Refusal.Command) }
+{
+    if has_one_word(head) {
+        Command::Report
+    } else {
+        refused(Refusal::Command)
+    }
+}
+
+fn has_one_word(head: &[u8]) -> bool
+    ensures { result ≡ nat_le (length (words head.now)) 1 }
+{
+    match next_word(head) {
+        Some((_, rest)) => next_word(rest).is_none(),
+        None => true,
+    }
+}

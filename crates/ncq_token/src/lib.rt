@@ -1,0 +1,15 @@
+//! The tokens of a statement.
+//! A statement's text comes in as bytes. Its tokens go out in their order, or the offset where none stands.
+//! At each place the longest token is taken; inside a tag other tokens stand than outside one.
+#![tactic(auto)]
+
+mod quoted;
+mod scan;
+mod token;
+mod tokenise;
+
+pub use token::{Token, TokenError, TokenItems};
+pub use tokenise::{tokens, tokens_are};
+
+#[cfg(test)]
+mod tests;

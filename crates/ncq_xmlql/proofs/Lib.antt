@@ -1,0 +1,11 @@
+pub mod SameTests
+pub mod Loops
+pub mod Sound
+pub mod Complete
+pub mod Many
+pub mod ItemLaws
+pub mod TemplateLaws
+pub mod NestLaws
+pub mod Slots
+pub mod TimeLaws
+pub mod StatementLaws

@@ -1,0 +1,12 @@
+pub mod Reading
+pub mod ItemReading
+pub mod TemplateReading
+pub mod Times
+pub mod StatementReading
+pub mod Grammar
+pub mod ItemGrammar
+pub mod TemplateGrammar
+pub mod StatementGrammar
+pub mod Nesting
+pub mod Counts
+pub mod Statements

@@ -1,0 +1,27 @@
+//! The statements of continuous queries.
+//! A statement's text comes in. Its query, action and times go out as a value, or the reason why there is none.
+//! The grammar is a relation between tokens and values, apart from the code; a text spells at most one statement,
+//! and exactly those statements are answered that are spelled within the limits.
+#![tactic(auto)]
+
+mod action;
+mod count;
+mod items;
+mod keyword;
+mod mismatch;
+mod model;
+mod nest;
+mod parts;
+mod pattern;
+mod statement;
+mod template;
+mod time;
+
+pub use model::{
+    Content, Operand, Pattern, PatternAttribute, PatternAttributes, Patterns, Query, QueryItem,
+    QueryItems, Statement, Suffix, Template, TemplateAttribute, TemplateAttributes, Templates,
+};
+pub use statement::{StatementError, one_meaning, parse_statement};
+
+#[cfg(test)]
+mod tests;

@@ -1,0 +1,117 @@
+//! Statements, queries, patterns and templates as values.
+use ncq_base::{Bytes, Op, Sequence};
+
+/// A variable, by its name without the `$`, or the bytes of a literal.
+#[derive(Drop)]
+pub enum Operand {
+    Variable(Bytes),
+    Literal(Bytes),
+}
+
+/// An attribute of a pattern: its value is compared with a literal or bound to a variable.
+#[derive(Drop)]
+pub struct PatternAttribute {
+    pub name: Bytes,
+    pub value: Operand,
+}
+
+/// The attributes of a pattern, in the order in which they are written.
+pub type PatternAttributes = Sequence<PatternAttribute>;
+
+/// What stands between the tags of a pattern: patterns, or one literal or variable. Empty content is `Parts` without a pattern.
+#[cycle(pattern)]
+#[derive(Drop)]
+pub enum Content {
+    Parts(Patterns),
+    Value(Operand),
+}
+
+/// What a pattern binds besides: nothing, the whole element, or its children.
+#[derive(Drop)]
+pub enum Suffix {
+    Plain,
+    ElementAs(Bytes),
+    ContentAs(Bytes),
+}
+
+/// A pattern of elements.
+#[cycle(pattern)]
+#[derive(Drop)]
+pub struct Pattern {
+    pub tag: Bytes,
+    pub attributes: PatternAttributes,
+    pub content: Content,
+    pub suffix: Suffix,
+}
+
+/// Patterns, in the order in which they are written.
+pub type Patterns = Sequence<Pattern>;
+
+/// An item of a query: patterns under the root of a source, or a comparison.
+#[derive(Drop)]
+pub enum QueryItem {
+    /// The arms are one pattern or more.
+    Match {
+        root: Bytes,
+        arms: Patterns,
+        source: Bytes,
+    },
+    /// One side at least is a variable.
+    Condition {
+        left: Operand,
+        op: Op,
+        right: Operand,
+    },
+}
+
+/// The items of a query, in their order. The first is a match.
+pub type QueryItems = Sequence<QueryItem>;
+
+/// An attribute of an element that a template makes.
+#[derive(Drop)]
+pub struct TemplateAttribute {
+    pub name: Bytes,
+    pub value: Operand,
+}
+
+/// The attributes of such an element, in the order in which they are written.
+pub type TemplateAttributes = Sequence<TemplateAttribute>;
+
+/// What is made of each binding.
+#[derive(Drop)]
+pub enum Template {
+    Variable(Bytes),
+    Literal(Bytes),
+    Element {
+        tag: Bytes,
+        attributes: TemplateAttributes,
+        content: Templates,
+    },
+}
+
+/// The content of an element that a template makes, in its order.
+pub type Templates = Sequence<Template>;
+
+/// What is asked, and what is made of each answer.
+#[derive(Drop)]
+pub struct Query {
+    pub items: QueryItems,
+    pub template: Template,
+}
+
+/// A statement that creates a continuous query.
+#[derive(Drop)]
+pub struct Statement {
+    pub name: Bytes,
+    pub query: Query,
+    /// The word behind `DO`, in lower case.
+    pub action: Bytes,
+    /// The word or the quoted text behind the action, in its own case and without quotation marks.
+    pub argument: Option<Bytes>,
+    /// The written start, an instant.
+    pub start: Option<u64>,
+    /// The written interval between two firings. It is 0 where none is written.
+    pub every: u64,
+    /// The written expiry, an instant.
+    pub expire: Option<u64>,
+}

@@ -1,0 +1,137 @@
+//! A statement from its text, within the limits.
+ghost use Rattle.std.specs.Prelude.{◌≡◌, ℕ, List, IfOk, Err};
+ghost use Rattle.ncq_xmlql.specs.declared.mismatch.Mismatch.TheVariants as mismatch;
+ghost use Rattle.ncq_xmlql.specs.declared.model.Statement.{Statement};
+ghost use Rattle.ncq_xmlql.specs.Reading.{Gives};
+ghost use Rattle.ncq_xmlql.specs.StatementReading.{query_at, statement_at};
+ghost use Rattle.ncq_xmlql.specs.StatementGrammar.{IsSpelled};
+ghost use Rattle.ncq_xmlql.specs.Statements.{IsStatement, Counted, Answers};
+
+use crate::action::{action_at, argument_at, construct_at, head_at};
+use crate::count::{arms_of, conditions_of, slots_of};
+use crate::items::items_at;
+use crate::mismatch::Mismatch;
+use crate::model::{Query, QueryItem, Statement};
+use crate::nest::nest;
+use crate::template::top_at;
+use crate::time::times_at;
+use ncq_base::Limit;
+use ncq_token::{Token, TokenError, tokens};
+use std::alloc::Global;
+use thiserror::Error;
+
+/// How deep the tags of a statement may nest.
+const MAX_NESTING: usize = 32;
+
+/// How many patterns may stand directly under roots.
+const MAX_ARMS: usize = 8;
+
+/// How many attributes of patterns, contents that are a literal or a variable, and suffixes there may be.
+const MAX_SLOTS: usize = 64;
+
+/// How many conditions there may be.
+const MAX_CONDITIONS: usize = 32;
+
+/// Why a text gives no statement.
+#[derive(Debug, Drop, Error)]
+pub enum StatementError {
+    /// The text has no tokens, or they spell no statement.
+    #[error("not a statement")]
+    NotAStatement,
+    /// The statement exceeds a limit: `Pattern`, `Arms`, `Slots` or `Conditions`.
+    #[error("a limit is exceeded")]
+    Limit { which: Limit },
+    #[error("out of memory")]
+    OutOfMemory,
+}
+
+/// The items and the template in front, nested no deeper than `depth`, and the tokens behind them.
+#[tactic(auto, unfolding(crate::specs::StatementReading::query_at))]
+fn query_at(alloc: Global, depth: usize, tokens: &[Token]) -> Result<(Query, &[Token]), Mismatch>
+    ensures { Gives (λ x. (x.0, x.1.now)) result (query_at depth tokens.now) }
+{
+    let (items, rest) = items_at(alloc, depth, tokens)?;
+    let rest = construct_at(rest)?;
+    let (template, rest) = top_at(alloc, depth, rest)?;
+    Ok((Query { items, template }, rest))
+}
+
+/// The statement that all of the tokens write.
+#[tactic(auto, unfolding(crate::specs::StatementReading::statement_at))]
+fn statement_at(alloc: Global, tokens: &[Token]) -> Result<Statement, Mismatch>
+    ensures { Gives (λ s. s) result (statement_at tokens.now) }
+{
+    let (name, rest) = head_at(alloc, tokens)?;
+    let (query, rest) = query_at(alloc, tokens.len(), rest)?;
+    let (action, rest) = action_at(alloc, rest)?;
+    let (argument, rest) = argument_at(alloc, rest)?;
+    let times = times_at(rest)?;
+    let every = times.every.unwrap_or(0);
+    Ok(Statement {
+        name,
+        query,
+        action,
+        argument,
+        start: times.start,
+        every,
+        expire: times.expire,
+    })
+}
+
+/// The statement that the tokens spell.
+fn spelled_statement(alloc: Global, tokens: &[Token]) -> Result<Statement, Mismatch>
+    ensures found { IfOk result (λ st. IsSpelled tokens.now st) }
+    ensures none { result ≡ Err mismatch.NotSpelled → (st : Statement) → ¬ IsSpelled tokens.now st }
+{
+    statement_at(alloc, tokens)
+}
+
+/// The first limit on counts that the items exceed.
+fn exceeded(items: &[QueryItem]) -> Option<Limit>
+    ensures { Counted items.now result }
+{
+    if arms_of(items) > MAX_ARMS {
+        return Some(Limit::Arms);
+    }
+    if slots_of(items) > MAX_SLOTS {
+        return Some(Limit::Slots);
+    }
+    if conditions_of(items) > MAX_CONDITIONS {
+        return Some(Limit::Conditions);
+    }
+    None
+}
+
+/// The statement that a text is.
+///
+/// The first of these that holds decides: `NotAStatement` where the text has no tokens; `Limit` with `Pattern` where its tags
+/// nest deeper than 32; `NotAStatement` where its tokens spell no statement; `Limit` with `Arms` over 8, with `Slots`
+/// over 64, with `Conditions` over 32. Else the answer is the one statement that the text spells.
+pub fn parse_statement(alloc: Global, text: &[u8]) -> Result<Statement, StatementError>
+    ensures exact { Answers text.now result }
+{
+    let tokens = match tokens(alloc, text) {
+        Ok(tokens) => tokens,
+        Err(TokenError::OutOfMemory) => return Err(StatementError::OutOfMemory),
+        Err(TokenError::BadByte { at: _ }) => return Err(StatementError::NotAStatement),
+    };
+    if nest(tokens.as_slice()) > MAX_NESTING {
+        return Err(StatementError::Limit {
+            which: Limit::Pattern,
+        });
+    }
+    let statement = match spelled_statement(alloc, tokens.as_slice()) {
+        Ok(statement) => statement,
+        Err(Mismatch::OutOfMemory) => return Err(StatementError::OutOfMemory),
+        Err(Mismatch::NotSpelled) => return Err(StatementError::NotAStatement),
+    };
+    match exceeded(statement.query.items.as_slice()) {
+        Some(which) => Err(StatementError::Limit { which }),
+        None => Ok(statement),
+    }
+}
+
+/// A text is at most one statement.
+pub fn one_meaning()
+    ensures { (text : List ℕ) (p q : Statement) → IsStatement text p → IsStatement text q → p ≡ q }
+{}
