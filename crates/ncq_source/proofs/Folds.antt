@@ -16,12 +16,12 @@ is_good (Good a) = true
 is_good (NoKey n) = false
 is_good (NotThere n) = false
 
-abbrev value_or : {A : Type 0} → A → Trial A → A
+abbrev pub value_or : {A : Type 0} → A → Trial A → A
 value_or d (Good a) = a
 value_or d (NoKey n) = d
 value_or d (NotThere n) = d
 
-no : {A : Type 0} {a : A} {t : Trial A} {B : Type 0} → t ≡ Good a → is_good t ≡ false → B
+pub no : {A : Type 0} {a : A} {t : Trial A} {B : Type 0} → t ≡ Good a → is_good t ≡ false → B
 no e f = absurd (true≢false (ap is_good (sym e) ∙ f))
 
 -- an entry does to the elements what its item does, and its key holds what it says
@@ -37,7 +37,7 @@ one rule p kept (Remove k) e = by (get kept k) refl
     by None is h = no h refl
     by (Some x) is h = subst (λ (e : Entry). (with_at kept e.key e.after ≡ taken rule kept (Remove k)) × (e.before ≡ get kept e.key)) (ap (value_or e) h) (refl, sym is)
 
-abbrev rest_of : Key → ℕ → Kept → List Item → Entry → Trial (List Entry)
+abbrev pub rest_of : Key → ℕ → Kept → List Item → Entry → Trial (List Entry)
 rest_of rule p kept items e = prepared rule (p + 1) (with_at kept e.key e.after) items
 
 -- the entries lead from the elements before to the elements after the items, and each says what its key held
@@ -52,7 +52,7 @@ fold_of_entries rule p kept (item ∷ items) es h =
         let step = one rule p kept item e good in
         let r = again more is in
         subst (λ (es : List Entry). (after kept es ≡ store_after rule kept (item ∷ items)) × Chains kept es) (ap (value_or es) h)
-            (r.0 ∙ ap (λ k. store_after rule k items) step.0, (step.1, r.1))
+        (r.0 ∙ ap (λ k. store_after rule k items) step.0, (step.1, r.1))
     last e again good (NoKey n) is h = no h refl
     last e again good (NotThere n) is h = no h refl
 

@@ -1,6 +1,9 @@
 pub mod KeyLaws
 pub mod CallerLemmas
+pub mod Commits
 pub mod Folds
 pub mod Over
 pub mod Places
+pub mod Prepares
+pub mod Shown
 pub mod Trials

@@ -39,18 +39,22 @@ pub data Trial (A : Type 0) : Type 0 where
   NoKey : ℕ → Trial A
   NotThere : ℕ → Trial A
 
+-- the entry of a put under this key, with what the key held; without a key there is none
 abbrev pub put_entry : ℕ → Kept → Option (List ℕ) → Element → Trial Entry
 put_entry position kept None element = NoKey position
 put_entry position kept (Some key) element = Good (record { key = key; before = get kept key; after = Some element })
 
+-- the entry of a removal of a key that held this; where it held nothing there is none
 abbrev pub gone_entry : ℕ → List ℕ → Option Element → Trial Entry
 gone_entry position key None = NotThere position
 gone_entry position key (Some element) = Good (record { key = key; before = Some element; after = None })
 
+-- the entry of one item
 abbrev pub entry_of : Key → ℕ → Kept → Item → Trial Entry
 entry_of rule position kept (Put element) = put_entry position kept (key_of rule element) element
 entry_of rule position kept (Remove key) = gone_entry position key (get kept key)
 
+-- an entry before the entries of a trial, where it is good
 abbrev pub behind : Entry → Trial (List Entry) → Trial (List Entry)
 behind entry (Good entries) = Good (entry ∷ entries)
 behind entry (NoKey position) = NoKey position

@@ -12,6 +12,7 @@ pub record Held : Type 0 where
   pub pairs : List (List ℕ × Element)
   pub room : ℕ
 
+-- how they are written as a value
 abbrev pub held_code : Coded Held
 held_code = code_by (List (List ℕ × Element) × ℕ) (coded× (coded_list (coded× (coded_list coded_ℕ) element_row.coded)) coded_ℕ) (λ h. (h.pairs, h.room)) (λ p. record { pairs = p.0; room = p.1 }) (λ _. refl)
 
@@ -24,6 +25,7 @@ abbrev pub with_at : Kept → List ℕ → Option Element → Kept
 with_at kept key (Some element) = insert kept key element
 with_at kept key None = remove kept key
 
+-- how elements by their keys are written as a value
 abbrev pub kept_code : Coded Kept
 kept_code = code (coded_list coded_ℕ) element_row.coded
 

@@ -10,9 +10,11 @@ use Rattle.ncq_tree.specs.Texts.{string_value}
 use Rattle.ncq_source.specs.declared.key.Key.{Key}
 use Rattle.ncq_source.specs.declared.key.Key.TheVariants.{Child, Attribute as OfAttribute}
 
+-- byte strings
 abbrev pub Strings : Type 0
 Strings = List (List ℕ)
 
+-- a text has no key value
 abbrev pub no_strings : List ℕ → Strings
 no_strings text = []
 
@@ -49,6 +51,7 @@ abbrev pub key_of : Key → Element → Option (List ℕ)
 key_of (Child name) element = only (flat_map (child_keys name) element.children)
 key_of (OfAttribute name) element = only (flat_map (attribute_keys name) element.attributes)
 
+-- the value, or nothing
 abbrev pub option_list : Option (List ℕ) → Strings
 option_list None = []
 option_list (Some value) = value ∷ []

@@ -15,13 +15,16 @@ use Rattle.std.specs.declared.result.Result.{Result}
 use Rattle.ncq_source.specs.declared.change.ChangeError.{ChangeError}
 use Rattle.ncq_source.specs.declared.change.ChangeError.TheVariants.{BadKey, NoSuchKey, NoSource, OutOfMemory}
 
+-- the declared sources in the order of declaration, and how many changes were committed
 pub record StoreState : Type 0 where
   pub sources : List Declared
   pub changes : ℕ
 
+-- how a store is written as a value
 abbrev pub store_code : Coded StoreState
 store_code = code_by (List Declared × ℕ) (coded× (coded_list declared_row.coded) coded_ℕ) (λ s. (s.sources, s.changes)) (λ p. record { sources = p.0; changes = p.1 }) (λ _. refl)
 
+-- the names of the sources, in order
 abbrev pub names : StoreState → List (List ℕ)
 names store = map (λ s. s.name) store.sources
 
@@ -29,6 +32,7 @@ names store = map (λ s. s.name) store.sources
 abbrev pub found : StoreState → List ℕ → Option ℕ
 found store name = position (is_key name) (names store)
 
+-- the store has a source at this place
 abbrev pub IsDeclared : StoreState → SourceId → Type 0
 IsDeclared store id = id.0 < length store.sources
 

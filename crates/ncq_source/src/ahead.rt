@@ -5,11 +5,11 @@ ghost use Rattle.std.specs.FinMap.{get};
 ghost use Rattle.ncq_source.specs.Held.{map_of, with_at};
 
 use crate::elements::Elements;
-use ncq_base::{Bytes, Shared};
 use indexmap::IndexMap;
+use ncq_base::{Bytes, Shared};
+use ncq_tree::Element;
 use std::alloc::{AllocError, Global};
 use std::marker::Model;
-use ncq_tree::Element;
 
 /// The elements of a source, and over them the keys that items changed.
 #[derive(Drop)]
@@ -29,6 +29,7 @@ impl<'a> Model for Ahead<'a> {
 }
 
 impl<'a> Ahead<'a> {
+    /// The elements as they are.
     pub(crate) fn new(alloc: Global, elements: &'a Elements) -> Ahead<'a>
         ensures { result ≡ map_of elements.now.pairs }
     {
@@ -38,6 +39,7 @@ impl<'a> Ahead<'a> {
         }
     }
 
+    /// The element under the key after the items so far.
     pub(crate) fn get(&self, key: &Bytes) -> Option<&Shared<Element>>
         ensures { option_copied result ≡ get self.now key.now }
     {
@@ -47,6 +49,7 @@ impl<'a> Ahead<'a> {
         }
     }
 
+    /// One more item: what its key holds from now on.
     pub(crate) fn set(
         &mut self,
         key: Bytes,

@@ -1,12 +1,15 @@
+//! Prepared changes, entry by entry, and why none was prepared.
 ghost use Rattle.std.specs.Prelude.{◌≡◌};
 
 use ncq_base::{Bytes, Sequence, Shared};
+use ncq_tree::Element;
 use std::alloc::{AllocError, Global};
 use std::marker::Model;
 use thiserror::Error;
-use ncq_tree::Element;
 
-/// What one item does to its key.
+/// What one item does to its key: the element that the key holds after the items before it, if any, and the element
+/// that it holds after the item, if any. A put has an `after`, which is proper where the item is; a removal has a
+/// `before` and no `after`.
 #[derive(Drop)]
 pub struct Entry {
     pub key: Bytes,
@@ -14,13 +17,15 @@ pub struct Entry {
     pub after: Option<Shared<Element>>,
 }
 
+/// The entries of a change, in the order of its items.
 pub type Entries = Sequence<Entry>;
 
-/// The number of a source.
+/// The place of a source in its store, from 0 in the order of declaration.
 #[derive(Clone, Copy, Debug, PartialEq, Eq)]
 pub struct SourceId(pub usize);
 
-/// What items do to a source, prepared.
+/// What items do to a source, prepared: the source, and one entry for each item. `Store::prepare` makes it, and contracts
+/// see it as the two.
 #[derive(Drop)]
 pub struct Change {
     source: SourceId,
@@ -45,12 +50,14 @@ impl Change {
         Change { source, entries }
     }
 
+    /// The source that the change is of.
     pub fn source(&self) -> SourceId
         ensures { result ≡ self.now.source }
     {
         self.source
     }
 
+    /// One entry for each item, in the order of the items.
     pub fn entries(&self) -> &[Entry]
         ensures { result.now ≡ self.now.entries }
     {
@@ -64,15 +71,21 @@ impl Change {
     }
 }
 
-/// Why a change was not prepared.
+/// Why a change was not prepared. Positions count the items from 1.
 #[derive(Debug, Drop, Error)]
 pub enum ChangeError {
+    /// No source has the name.
     #[error("no such source")]
     NoSource,
+    /// The item at the position is the first that cannot be applied: it puts an element that has not exactly one key
+    /// value that is not empty.
     #[error("item {position} has no key")]
     BadKey { position: u64 },
+    /// The item at the position is the first that cannot be applied: it removes a key that holds no element after the
+    /// items before it.
     #[error("item {position} removes a key that is not there")]
     NoSuchKey { position: u64 },
+    /// Memory ran out; this may come at any call.
     #[error("out of memory")]
     OutOfMemory,
 }

@@ -19,6 +19,7 @@ pub(crate) struct Declared {
 }
 
 impl Declared {
+    /// Room for this many more elements, and nothing else.
     pub(crate) fn reserve(&mut self, additional: usize) -> Result<(), AllocError>
         ensures same { without_room self.new ≡ without_room self.old }
         ensures room { OnOk result (additional ≤ self.new.elements.room) }
@@ -26,6 +27,7 @@ impl Declared {
         self.elements.reserve(additional)
     }
 
+    /// The elements after the entries, and the number of the change.
     pub(crate) fn commit(&mut self, entries: Entries, number: u64)
         requires { length entries ≤ self.old.elements.room }
         ensures { Follows self.old self.new entries number }

@@ -9,11 +9,11 @@ ghost use Rattle.ncq_source.specs.Changes.{after};
 ghost use Rattle.ncq_source.specs.Held.{map_of, with_at};
 
 use crate::change::{Entries, Entry};
-use ncq_base::{Bytes, Shared};
 use indexmap::IndexMap;
+use ncq_base::{Bytes, Shared};
+use ncq_tree::Element;
 use std::alloc::{AllocError, Global};
 use std::marker::Model;
-use ncq_tree::Element;
 
 /// Elements by their keys, in an order of its own, with room for some more.
 #[derive(Drop)]
@@ -33,6 +33,7 @@ impl Model for Elements {
 }
 
 impl Elements {
+    /// No elements.
     pub(crate) fn new(alloc: Global) -> Elements
         ensures { result.pairs ≡ [] }
     {
@@ -41,6 +42,7 @@ impl Elements {
         }
     }
 
+    /// How many elements there are, each under a key of its own.
     pub(crate) fn len(&self) -> usize
         ensures count { result ≡ length self.now.pairs }
         ensures once { IsDistinct is_key (keys_of self.now.pairs) }
@@ -48,6 +50,7 @@ impl Elements {
         self.elements.len()
     }
 
+    /// The element at a place in the order of the map.
     pub(crate) fn at(&self, at: usize) -> &Element
         requires { at < length self.now.pairs }
         ensures { slice_get (map (λ p. p.1) self.now.pairs) at ≡ Some result.now }
@@ -58,6 +61,7 @@ impl Elements {
         }
     }
 
+    /// The element under the key.
     pub(crate) fn get(&self, key: &Bytes) -> Option<&Shared<Element>>
         ensures { option_copied result ≡ get (map_of self.now.pairs) key.now }
     {
@@ -72,7 +76,7 @@ impl Elements {
         self.elements.reserve(additional)
     }
 
-    /// The element at the key, or none.
+    /// Puts the element under the key, or with none takes away what is there.
     pub(crate) fn set(&mut self, key: Bytes, element: Option<Shared<Element>>)
         requires { 0 < self.old.room }
         ensures pairs { map_of self.new.pairs ≡ with_at (map_of self.old.pairs) key element }
@@ -84,7 +88,7 @@ impl Elements {
         }
     }
 
-    /// What the entries say of their keys, in order.
+    /// Does what the entries say of their keys, in order.
     pub(crate) fn apply(&mut self, entries: Entries)
         requires { length entries ≤ self.old.room }
         ensures { map_of self.new.pairs ≡ after (map_of self.old.pairs) entries }

@@ -1,19 +1,23 @@
+//! The key of an element, by a rule.
 ghost use Rattle.std.specs.Prelude.{◌≡◌, [], IfOk};
 ghost use Rattle.ncq_source.specs.Keys.{key_of, child_keys, attribute_keys, only, only_behind, option_list};
 ghost use Rattle.std.specs.List.{flat_map};
 
 use ncq_base::{Bytes, Copied};
-use std::alloc::{AllocError, Global};
 use ncq_tree::{Attribute, Element, Node, string_value};
+use std::alloc::{AllocError, Global};
 
-/// Where the key of an element stands.
+/// Where the key of an element stands: it is the string value of its one direct child of this name, or the value of its
+/// attribute of this name, left as it is. Names are compared byte by byte; the element's own tag is free.
 #[derive(Debug, Drop)]
 pub enum Key {
+    /// The one direct child of this name.
     Child(Bytes),
+    /// The attribute of this name.
     Attribute(Bytes),
 }
 
-/// The element's one key value, where it has exactly one and that is not empty.
+/// The element's one key value: none exactly where it has no key value, or two or more, be they equal, or an empty one.
 pub fn key_of(alloc: Global, rule: &Key, element: &Element) -> Result<Option<Bytes>, AllocError>
     ensures { IfOk result (λ key. key ≡ key_of rule.now element.now) }
 {

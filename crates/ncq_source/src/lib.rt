@@ -1,4 +1,10 @@
-//! Elements by their keys, and changes of them that are prepared before they are made.
+//! Declared sources: for each its elements by their keys, and the number of its last change.
+//! Items to put and to remove come in, and go out as a prepared change: an entry for each item with what its key held
+//! and holds, or the first item that cannot be applied.
+//! A change is prepared, given room and committed. Preparing and giving room change no element; the commit takes no memory
+//! and cannot be refused. So each source is the fold of the changes committed to it, item by item, and a refused change
+//! leaves no trace.
+//! Names are unique, and an element stands under the key that the rule of its source gave it.
 #![tactic(auto)]
 
 mod ahead;
@@ -10,8 +16,12 @@ mod laws;
 mod names;
 mod prepare;
 mod store;
+#[cfg(test)]
+mod tests;
 
 pub use change::{Change, ChangeError, Entries, Entry, SourceId};
 pub use key::{Key, child_value, key_of};
-pub use laws::entries_are_the_fold;
+pub use laws::{
+    changes_are_the_fold, entries_are_the_fold, stores_show_their_sources, stores_stay_proper,
+};
 pub use store::{DeclareError, Store};

@@ -22,6 +22,7 @@ impl Model for Names {
 }
 
 impl Names {
+    /// No names.
     pub(crate) fn new(alloc: Global) -> Names
         ensures { result ≡ [] }
     {
@@ -30,6 +31,7 @@ impl Names {
         }
     }
 
+    /// The place of the name, without memory.
     pub(crate) fn find(&self, name: &[u8]) -> Option<usize>
         ensures place { result ≡ position (is_key name.now) self.now }
         ensures there { is_some result ≡ list_any (is_key name.now) self.now }
@@ -38,6 +40,7 @@ impl Names {
         self.names.get_index_of(name)
     }
 
+    /// One more name, which is not there yet.
     pub(crate) fn push(&mut self, alloc: Global, name: &[u8]) -> Result<(), AllocError>
         requires { list_any (is_key name.now) self.old ≡ false }
         ensures ok { OnOk result (self.new ≡ self.old ++ name.now ∷ []) }

@@ -11,11 +11,12 @@ use crate::change::{ChangeError, Entries, Entry};
 use crate::elements::Elements;
 use crate::key::{Key, key_of};
 use ncq_base::{Bytes, Copied, Shared};
-use std::alloc::{AllocError, Global};
 use ncq_pyx::Item;
 use ncq_tree::Element;
+use std::alloc::{AllocError, Global};
 
-/// One entry for each item, in order.
+/// One entry for each item, in order, or the first item that cannot be applied, seen through the items before it.
+/// No element of the source is looked at but those under the keys of the items.
 pub(crate) fn prepare(
     alloc: Global,
     rule: &Key,
@@ -35,6 +36,7 @@ pub(crate) fn prepare(
     Ok(entries)
 }
 
+/// The entry of one item.
 fn entry_of(
     alloc: Global,
     rule: &Key,
@@ -53,6 +55,7 @@ fn entry_of(
     }
 }
 
+/// The entry of a put under this key.
 fn put_entry(
     alloc: Global,
     ahead: &Ahead<'_>,
@@ -74,6 +77,7 @@ fn put_entry(
     })
 }
 
+/// The entry of a removal of this key.
 fn gone_entry(
     alloc: Global,
     ahead: &Ahead<'_>,
@@ -93,6 +97,7 @@ fn gone_entry(
     })
 }
 
+/// Lets the items that follow see the entry.
 fn note(alloc: Global, ahead: &mut Ahead<'_>, entry: &Entry) -> Result<(), AllocError>
     ensures { OnOk result (ahead.new ≡ with_at ahead.old entry.now.key entry.now.after) }
 {
@@ -101,6 +106,7 @@ fn note(alloc: Global, ahead: &mut Ahead<'_>, entry: &Entry) -> Result<(), Alloc
     ahead.set(key, after)
 }
 
+/// One more owner of the element, where there is one.
 fn shared(element: Option<&Shared<Element>>) -> Result<Option<Shared<Element>>, AllocError>
     ensures { IfOk result (λ s. s ≡ option_copied element.entry) }
 {

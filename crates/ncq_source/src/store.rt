@@ -1,13 +1,16 @@
-//! Sources.
-ghost use Rattle.std.specs.Prelude.{◌≡◌, ◌≢◌, ◌+◌, ◌-◌, ◌<◌, ◌≤◌, ◌^◌, ◌++◌, ◌∷◌, [], length, map, slice_get, slice_set, Some, None, Ok, Err, IfOk, OnOk, OnErr, IsSome, ◌↔◌};
+//! The store: sources that are declared, looked at and changed.
+ghost use Rattle.std.specs.Prelude.{◌≡◌, ◌≢◌, ◌+◌, ◌-◌, ◌<◌, ◌≤◌, ◌^◌, ◌++◌, ◌∷◌, [], length, map, slice_get, slice_set, Some, None, Ok, Err, IfOk, OnOk, OnErr, IsSome, ◌↔◌, true};
 ghost use Rattle.std.specs.Option.{option_map};
-ghost use Rattle.std.specs.List.{IsDistinct};
+ghost use Rattle.std.specs.List.{IsDistinct, list_all};
 ghost use Rattle.std.specs.Map.{keys_of};
 ghost use Rattle.ncq_base.specs.Keys.{is_key};
 ghost use Rattle.ncq_source.specs.Changes.{Tells, prepared};
 ghost use Rattle.ncq_source.specs.Stores.{kept, Follows};
 ghost use Rattle.ncq_source.specs.StoreStates.{StoreState, IsCommitted, IsDeclared, names, without_room, HasRoom, found, TellsChange};
 ghost use Rattle.ncq_source.specs.Keys.{key_of};
+ghost use Rattle.ncq_source.specs.Prepared.{IsPrepared};
+ghost use Rattle.ncq_source.specs.Proper.{PutsProper};
+ghost use Rattle.ncq_pyx.specs.Canonical.{item_is_proper};
 
 use crate::change::{Change, ChangeError, SourceId};
 use crate::declared::Declared;
@@ -16,13 +19,14 @@ use crate::key::{Key, key_of};
 use crate::names::Names;
 use crate::prepare::prepare;
 use ncq_base::Bytes;
+use ncq_pyx::Items;
+use ncq_tree::Element;
 use std::alloc::{AllocError, Global};
 use std::marker::Model;
 use thiserror::Error;
-use ncq_pyx::Items;
-use ncq_tree::Element;
 
-/// Declared sources, and the number of changes that were made.
+/// The declared sources in the order of declaration, each with its elements by key, and the number of changes that were
+/// committed to all of them together. Contracts see it as the two.
 #[derive(Drop)]
 pub struct Store {
     names: Names,
@@ -43,11 +47,13 @@ impl Model for Store {
     ghost invariant = { λ s. s.names ≡ map (λ d. d.name) s.sources.items };
 }
 
-/// Why a source was not declared.
+/// Why a source was not declared. The store is then as it was.
 #[derive(Debug, Drop, Error)]
 pub enum DeclareError {
+    /// A source of the name is declared already.
     #[error("the source exists")]
     Exists,
+    /// Memory ran out; this may come at any call.
     #[error("out of memory")]
     OutOfMemory,
 }
@@ -63,6 +69,7 @@ impl From<AllocError> for DeclareError {
 }
 
 impl Store {
+    /// A store without sources and without changes.
     pub fn new(alloc: Global) -> Store
         ensures { result ≡ record { sources = []; changes = 0 } }
     {
@@ -73,25 +80,29 @@ impl Store {
         }
     }
 
+    /// How many sources are declared.
     pub fn count(&self) -> usize
         ensures { result ≡ length self.now.sources }
     {
         self.sources.len()
     }
 
+    /// How many changes were committed, to all sources together.
     pub fn changes(&self) -> u64
         ensures { result ≡ self.now.changes }
     {
         self.changes
     }
 
+    /// The source of this name: none exactly where no source has it. It takes no memory.
     pub fn find(&self, name: &[u8]) -> Option<SourceId>
         ensures { option_map (λ s. s.0) result ≡ found self.now name.now }
     {
         Some(SourceId(self.names.find(name)?))
     }
 
-    /// A new source without elements.
+    /// Declares a source without elements, whose last change is 0; it comes behind the others. `Exists` comes exactly where the
+    /// name is declared already. After an error the store is as it was.
     pub fn declare(
         &mut self,
         alloc: Global,
@@ -121,7 +132,7 @@ impl Store {
         Ok(SourceId(at))
     }
 
-    /// What the source is called.
+    /// The name under which the source was declared.
     pub fn name_of(&self, id: SourceId) -> &Bytes
         requires { IsDeclared self.now id }
         ensures { (s : _) → slice_get self.now.sources id.0 ≡ Some s → result.now ≡ s.name }
@@ -129,7 +140,7 @@ impl Store {
         &self.sources[id.0].name
     }
 
-    /// The tag of the source's root.
+    /// The tag of the source's root, as it was declared.
     pub fn root_of(&self, id: SourceId) -> &Bytes
         requires { IsDeclared self.now id }
         ensures { (s : _) → slice_get self.now.sources id.0 ≡ Some s → result.now ≡ s.root }
@@ -138,6 +149,7 @@ impl Store {
     }
 
     /// The key of an element by the rule of the source: none exactly where it has not exactly one key value that is not empty.
+    /// The element need not be one of the source.
     pub fn key_of(
         &self,
         alloc: Global,
@@ -150,7 +162,7 @@ impl Store {
         key_of(alloc, &self.sources[id.0].key, element)
     }
 
-    /// The number of the source's last change, or 0.
+    /// The number that the last change of the source had among all changes, or 0 before its first.
     pub fn last_change(&self, id: SourceId) -> u64
         requires { IsDeclared self.now id }
         ensures { (s : _) → slice_get self.now.sources id.0 ≡ Some s → result ≡ s.last }
@@ -158,6 +170,7 @@ impl Store {
         self.sources[id.0].last
     }
 
+    /// How many elements the source has, each under a key of its own.
     pub fn size(&self, id: SourceId) -> usize
         requires { IsDeclared self.now id }
         ensures { (s : _) → slice_get self.now.sources id.0 ≡ Some s → (result ≡ length s.elements.pairs) × IsDistinct is_key (keys_of s.elements.pairs) }
@@ -165,7 +178,8 @@ impl Store {
         self.sources[id.0].elements.len()
     }
 
-    /// One of the elements, in an order of the store's own.
+    /// The element at a place below the size, in an order of the store's own: from 0 to the size less 1 each element is shown
+    /// once. A commit may change the order.
     pub fn element(&self, id: SourceId, at: usize) -> &Element
         requires id { IsDeclared self.now id }
         requires at { (s : _) → slice_get self.now.sources id.0 ≡ Some s → at < length s.elements.pairs }
@@ -174,8 +188,16 @@ impl Store {
         self.sources[id.0].elements.at(at)
     }
 
+    /// What the items do to the source of this name, without doing it: one entry for each item, with what its key holds
+    /// before and after. `NoSource` comes exactly where the name is not declared. Else the first item that cannot be applied,
+    /// seen through the items before it, decides: `BadKey` for a put whose element has not exactly one key value that is
+    /// not empty, `NoSuchKey` for a removal of a key that holds no element there. Positions count from 1.
     pub fn prepare(&self, alloc: Global, name: &[u8], items: &Items) -> Result<Change, ChangeError>
         ensures declared { IfOk result (λ change. IsDeclared self.now change.source) }
+        ensures source { IfOk result (λ change. found self.now name.now ≡ Some change.source.0) }
+        ensures prepared { IfOk result (λ change. (s : _) → slice_get self.now.sources change.source.0 ≡ Some s → IsPrepared s items.now change.entries) }
+        ensures proper { list_all item_is_proper items.now ≡ true → IfOk result (λ change. PutsProper change.entries) }
+        ensures only { result ≡ Err ChangeError.NoSource → found self.now name.now ≡ None }
         ensures none { found self.now name.now ≡ None → result ≡ Err ChangeError.NoSource }
         ensures some { (at : _) (s : _) → found self.now name.now ≡ Some at → slice_get self.now.sources at ≡ Some s → TellsChange result at (prepared s.key 1 (kept s) items.now) }
     {
@@ -187,6 +209,8 @@ impl Store {
         Ok(Change::new(source, entries))
     }
 
+    /// Gives the change's source room for the elements that the change puts, so that its commit takes no memory. No element,
+    /// number or other source changes; after an error there may be more room than before, or not.
     pub fn reserve(&mut self, change: &Change) -> Result<(), AllocError>
         requires { IsDeclared self.old change.now.source }
         ensures same { (self.new.changes ≡ self.old.changes) × (map without_room self.new.sources ≡ map without_room self.old.sources) }
@@ -197,6 +221,8 @@ impl Store {
         self.sources[source.0].reserve(additional)
     }
 
+    /// Applies the entries of a change in order, counts the change, and makes its number the source's last. Every other source
+    /// stays as it was. It takes no memory and cannot be refused.
     pub fn commit(&mut self, change: Change)
         requires declared { IsDeclared self.old change.source }
         requires room { HasRoom self.old change }

@@ -15,8 +15,10 @@ returns c =
     rw (← c.self.view_is) (record {
       changes = refl;
       sources = λ s at.
-          let there = subst (λ (id : SourceId). slice_get items id.0 ≡ Some s) (sym c.source-source.ensures) at in
-          (t, ap (λ (id : SourceId). set items id.0 t) c.source-source.ensures,
-              subst (λ x. Follows x t c.args.change.entries number) (item_at items c.source-source.result.0 c.index_mut.result.now s c.index_mut.ensures.value there)
-                  (subst (λ es. Follows c.index_mut.result.now t es number) c.into_entries.ensures c.commit.ensures));
+          let there = subst (λ (id : SourceId). slice_get items id.0 ≡ Some s) (sym c.source-source.ensures) at in (
+            t,
+            ap (λ (id : SourceId). set items id.0 t) c.source-source.ensures,
+            subst (λ x. Follows x t c.args.change.entries number) (item_at items c.source-source.result.0 c.index_mut.result.now s c.index_mut.ensures.value there)
+                (subst (λ es. Follows c.index_mut.result.now t es number) c.into_entries.ensures c.commit.ensures),
+          );
     })

@@ -17,8 +17,8 @@ returns-clause-room c =
     let items = c.self.inside.sources.items in
     let y = c.reserve.new.self in
     on_ok_weaker c.reserve.result (λ (h : length c.entries-additional.result.now ≤ y.elements.room). λ s q.
-        let within = rw (← c.self.view_is, ← c.source-source.ensures) at c.requires in
-        let there = subst (λ (id : SourceId). slice_get (set items c.source-source.result.0 y) id.0 ≡ Some s) (sym c.source-source.ensures) q in
-        subst (λ d. length c.args.change.now.entries ≤ d.elements.room) (sym (at_set_or items c.source-source.result.0 y s within there))
-            (subst (λ (es : List Entry). length es ≤ y.elements.room) c.entries-additional.ensures h))
-        c.reserve.ensures.room
+    let within = rw (← c.self.view_is, ← c.source-source.ensures) at c.requires in
+    let there = subst (λ (id : SourceId). slice_get (set items c.source-source.result.0 y) id.0 ≡ Some s) (sym c.source-source.ensures) q in
+    subst (λ d. length c.args.change.now.entries ≤ d.elements.room) (sym (at_set_or items c.source-source.result.0 y s within there))
+    (subst (λ (es : List Entry). length es ≤ y.elements.room) c.entries-additional.ensures h))
+    c.reserve.ensures.room
