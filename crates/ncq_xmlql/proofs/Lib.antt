@@ -9,3 +9,4 @@ pub mod NestLaws
 pub mod Slots
 pub mod TimeLaws
 pub mod StatementLaws
+pub mod AnswerLaws

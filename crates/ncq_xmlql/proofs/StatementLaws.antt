@@ -2,15 +2,12 @@
 use Rattle.std.proofs.Common.{◌≡◌, ℕ, ◌≤◌, Bool, true, false, List, ◌∷◌, length, Option, Some, None, Result, Ok, Err, IsTrue, cond, refl, sym, ap, subst, ◌∙◌, arith}
 use Rattle.std.specs.Prelude.{codes, IfOk}
 use Rattle.ncq_base.specs.Names.{is_name}
-use Rattle.ncq_base.specs.declared.limit.Limit.{Limit as LimitKind}
-use Rattle.ncq_base.specs.declared.limit.Limit.TheVariants as limit
 use Rattle.ncq_token.specs.declared.token.Token.{Token}
 use Rattle.ncq_token.specs.declared.token.Token.TheVariants.{Quoted, Word, Comma}
 use Rattle.ncq_token.specs.Tokens.{tokens_of}
 use Rattle.ncq_xmlql.specs.declared.mismatch.Mismatch.{Mismatch}
 use Rattle.ncq_xmlql.specs.declared.model.Query.{Query}
 use Rattle.ncq_xmlql.specs.declared.model.Statement.{Statement}
-use Rattle.ncq_xmlql.specs.declared.statement.StatementError.TheVariants.{Limit}
 use Rattle.ncq_xmlql.specs.declared.time.Times.{Times}
 use Rattle.ncq_xmlql.specs.Reading.{◌>>=◌, Gives, is_keyword}
 use Rattle.ncq_xmlql.specs.ItemReading.{items_at, continues}
@@ -18,7 +15,7 @@ use Rattle.ncq_xmlql.specs.TemplateReading.{top_at}
 use Rattle.ncq_xmlql.specs.Times.{times, AreTimes, times_from, is_time_word}
 use Rattle.ncq_xmlql.specs.StatementReading.{keyword_at, title_at, head_at, construct_at, query_at, lowered, action_word_at, action_at, argument_at, or_zero, statement_at}
 use Rattle.ncq_xmlql.specs.StatementGrammar.{IsComma, IsQuery, IsArgument, IsSpelled}
-use Rattle.ncq_xmlql.specs.Statements.{IsStatement, IsShallow, Exceed, Answers}
+use Rattle.ncq_xmlql.specs.Statements.{IsStatement}
 use Rattle.ncq_xmlql.proofs.Sound.{bind_some, some_is, checked_is, at_value}
 use Rattle.ncq_xmlql.proofs.ItemLaws.{items_sound, items_complete, items_within}
 use Rattle.ncq_xmlql.proofs.TemplateLaws.{top_sound, top_complete}
@@ -204,19 +201,10 @@ pub is_found : (tokens : List Token) (r : Result Statement Mismatch) → Gives (
 is_found tokens (Ok st) given = statement_sound tokens st given
 is_found tokens (Err e) given = tt
 
-ok_is : {A E : Type 0} (r : Result A E) (x y : A) → r ≡ Ok x → r ≡ Ok y → x ≡ y
+pub ok_is : {A E : Type 0} (r : Result A E) (x y : A) → r ≡ Ok x → r ≡ Ok y → x ≡ y
 ok_is r x y e f = cc
 
 pub same_meaning : (text : List ℕ) (p q : Statement) → IsStatement text p → IsStatement text q → p ≡ q
 same_meaning text p q h k =
     let e = ok_is (tokens_of text) h.tokens k.tokens h.are_tokens k.are_tokens in
     some_is p q (sym (statement_complete h.spelled) ∙ ap statement_at e ∙ statement_complete k.spelled)
-
-pub limit_answer : (text : List ℕ) (st : Statement) (which : LimitKind) → IsStatement text st → IsShallow text → Exceed st.query.items which → Answers text (Err (Limit which))
-limit_answer text st limit.Arms is shallow more = (st, is, shallow, more)
-limit_answer text st limit.Slots is shallow more = (st, is, shallow, more)
-limit_answer text st limit.Conditions is shallow more = (st, is, shallow, more)
-limit_answer text st limit.Line is shallow more = absurd more
-limit_answer text st limit.Nesting is shallow more = absurd more
-limit_answer text st limit.Pattern is shallow more = absurd more
-limit_answer text st limit.Path is shallow more = absurd more

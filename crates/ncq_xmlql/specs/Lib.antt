@@ -10,3 +10,4 @@ pub mod StatementGrammar
 pub mod Nesting
 pub mod Counts
 pub mod Statements
+pub mod Answered

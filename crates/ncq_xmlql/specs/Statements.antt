@@ -1,5 +1,5 @@
 -- Which text is which statement, and which answer a text has within the limits.
-use Rattle.std.specs.Prelude.{◌≡◌, ◌≤◌, ◌<◌, ℕ, List, Option, Some, None, Result, Ok, Err}
+use Rattle.std.specs.Prelude.{◌≡◌, ◌≤◌, ◌<◌, ℕ, List, Result, Ok, Err}
 use Rattle.ncq_base.specs.declared.limit.Limit.{Limit as LimitKind}
 use Rattle.ncq_base.specs.declared.limit.Limit.TheVariants as limit
 use Rattle.ncq_token.specs.declared.token.Token.{Token}
@@ -36,11 +36,6 @@ Exceed items limit.Arms = 8 < arms items
 Exceed items limit.Slots = (arms items ≤ 8) × (64 < slots items)
 Exceed items limit.Conditions = (arms items ≤ 8) × (slots items ≤ 64) × (32 < conditions items)
 Exceed items which = ⊥
-
--- within the three limits, or the first that is exceeded
-abbrev pub Counted : List QueryItem → Option LimitKind → Type 0
-Counted items None = AreWithin items
-Counted items (Some which) = Exceed items which
 
 -- When each answer is given. No two of them are right for one text, but for want of memory.
 abbrev pub Answers : List ℕ → Result Statement StatementError → Type 0

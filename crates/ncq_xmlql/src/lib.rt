@@ -8,6 +8,7 @@ mod action;
 mod count;
 mod items;
 mod keyword;
+mod laws;
 mod mismatch;
 mod model;
 mod nest;
@@ -17,11 +18,12 @@ mod statement;
 mod template;
 mod time;
 
+pub use laws::{answers_are_exact, one_answer, one_meaning};
 pub use model::{
     Content, Operand, Pattern, PatternAttribute, PatternAttributes, Patterns, Query, QueryItem,
     QueryItems, Statement, Suffix, Template, TemplateAttribute, TemplateAttributes, Templates,
 };
-pub use statement::{StatementError, one_meaning, parse_statement};
+pub use statement::{StatementError, parse_statement};
 
 #[cfg(test)]
 mod tests;

@@ -1,11 +1,9 @@
 //! A statement from its text, within the limits.
-ghost use Rattle.std.specs.Prelude.{◌≡◌, ℕ, List, IfOk, Err};
-ghost use Rattle.ncq_xmlql.specs.declared.mismatch.Mismatch.TheVariants as mismatch;
-ghost use Rattle.ncq_xmlql.specs.declared.model.Statement.{Statement};
+ghost use Rattle.std.specs.Prelude.{◌≡◌, Ok};
 ghost use Rattle.ncq_xmlql.specs.Reading.{Gives};
 ghost use Rattle.ncq_xmlql.specs.StatementReading.{query_at, statement_at};
-ghost use Rattle.ncq_xmlql.specs.StatementGrammar.{IsSpelled};
-ghost use Rattle.ncq_xmlql.specs.Statements.{IsStatement, Counted, Answers};
+ghost use Rattle.ncq_xmlql.specs.Statements.{Answers};
+ghost use Rattle.ncq_xmlql.specs.Answered.{exceeded, answered_tokens, statement_of, GivesStatement};
 
 use crate::action::{action_at, argument_at, construct_at, head_at};
 use crate::count::{arms_of, conditions_of, slots_of};
@@ -78,17 +76,9 @@ fn statement_at(alloc: Global, tokens: &[Token]) -> Result<Statement, Mismatch>
     })
 }
 
-/// The statement that the tokens spell.
-fn spelled_statement(alloc: Global, tokens: &[Token]) -> Result<Statement, Mismatch>
-    ensures found { IfOk result (λ st. IsSpelled tokens.now st) }
-    ensures none { result ≡ Err mismatch.NotSpelled → (st : Statement) → ¬ IsSpelled tokens.now st }
-{
-    statement_at(alloc, tokens)
-}
-
 /// The first limit on counts that the items exceed.
 fn exceeded(items: &[QueryItem]) -> Option<Limit>
-    ensures { Counted items.now result }
+    ensures { result ≡ exceeded items.now }
 {
     if arms_of(items) > MAX_ARMS {
         return Some(Limit::Arms);
@@ -102,25 +92,16 @@ fn exceeded(items: &[QueryItem]) -> Option<Limit>
     None
 }
 
-/// The statement that a text is.
-///
-/// The first of these that holds decides: `NotAStatement` where the text has no tokens; `Limit` with `Pattern` where its tags
-/// nest deeper than 32; `NotAStatement` where its tokens spell no statement; `Limit` with `Arms` over 8, with `Slots`
-/// over 64, with `Conditions` over 32. Else the answer is the one statement that the text spells.
-pub fn parse_statement(alloc: Global, text: &[u8]) -> Result<Statement, StatementError>
-    ensures exact { Answers text.now result }
+/// The statement that the tokens spell, within the limits.
+fn parse_tokens(alloc: Global, tokens: &[Token]) -> Result<Statement, StatementError>
+    ensures { GivesStatement result (answered_tokens (Ok tokens.now)) }
 {
-    let tokens = match tokens(alloc, text) {
-        Ok(tokens) => tokens,
-        Err(TokenError::OutOfMemory) => return Err(StatementError::OutOfMemory),
-        Err(TokenError::BadByte { at: _ }) => return Err(StatementError::NotAStatement),
-    };
-    if nest(tokens.as_slice()) > MAX_NESTING {
+    if nest(tokens) > MAX_NESTING {
         return Err(StatementError::Limit {
             which: Limit::Pattern,
         });
     }
-    let statement = match spelled_statement(alloc, tokens.as_slice()) {
+    let statement = match statement_at(alloc, tokens) {
         Ok(statement) => statement,
         Err(Mismatch::OutOfMemory) => return Err(StatementError::OutOfMemory),
         Err(Mismatch::NotSpelled) => return Err(StatementError::NotAStatement),
@@ -131,7 +112,19 @@ pub fn parse_statement(alloc: Global, text: &[u8]) -> Result<Statement, Statemen
     }
 }
 
-/// A text is at most one statement.
-pub fn one_meaning()
-    ensures { (text : List ℕ) (p q : Statement) → IsStatement text p → IsStatement text q → p ≡ q }
-{}
+/// The statement that a text is.
+///
+/// The first of these that holds decides: `NotAStatement` where the text has no tokens; `Limit` with `Pattern` where its tags
+/// nest deeper than 32; `NotAStatement` where its tokens spell no statement; `Limit` with `Arms` over 8, with `Slots`
+/// over 64, with `Conditions` over 32. Else the answer is the one statement that the text spells.
+#[tactic(auto, using(crate::proofs::AnswerLaws::given_is_exact), unfolding(crate::specs::Answered::statement_of))]
+pub fn parse_statement(alloc: Global, text: &[u8]) -> Result<Statement, StatementError>
+    ensures exact { Answers text.now result }
+    ensures value { GivesStatement result (statement_of text.now) }
+{
+    match tokens(alloc, text) {
+        Ok(tokens) => parse_tokens(alloc, tokens.as_slice()),
+        Err(TokenError::OutOfMemory) => Err(StatementError::OutOfMemory),
+        Err(TokenError::BadByte { at: _ }) => Err(StatementError::NotAStatement),
+    }
+}

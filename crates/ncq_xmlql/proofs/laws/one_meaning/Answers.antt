@@ -1,5 +1,5 @@
 use Rattle.ncq_xmlql.proofs.StatementLaws.{same_meaning}
-use Rattle.ncq_xmlql.proofs.statement.one_meaning.Goals as goal
+use Rattle.ncq_xmlql.proofs.laws.one_meaning.Goals as goal
 
 pub returns : goal.returns
 returns c = same_meaning

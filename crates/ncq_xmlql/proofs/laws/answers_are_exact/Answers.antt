@@ -1,0 +1,5 @@
+use Rattle.ncq_xmlql.proofs.AnswerLaws.{answer_is_exact}
+use Rattle.ncq_xmlql.proofs.laws.answers_are_exact.Goals as goal
+
+pub returns : goal.returns
+returns c = answer_is_exact
