@@ -1,5 +1,5 @@
 -- What the engine stands for behind each kind of command.
-use Rattle.std.proofs.Common.{◌≡◌, ℕ, ◌+◌, ◌<◌, ◌≤◌, Bool, true, false, List, [], ◌∷◌, ◌++◌, map, length, slice_get, set, refl, sym, ◌∙◌, ap, subst, arith, append_assoc}
+use Rattle.std.proofs.Common.{◌≡◌, ℕ, ◌+◌, Bool, true, false, List, [], ◌∷◌, ◌++◌, map, length, slice_get, set, refl, sym, ◌∙◌, ap, subst, arith, append_assoc}
 use Rattle.std.specs.Prelude.{Option, Some, None, Result, Ok, Err, codes, decimal, if◌then◌else◌}
 use Rattle.std.specs.List.{position, flat_map}
 use Rattle.std.proofs.lemmas.List.{append-nil, nil_from_length}
@@ -8,8 +8,8 @@ use Rattle.ncq_base.specs.Keys.{is_key}
 use Rattle.ncq_bag.specs.Bags.{difference}
 use Rattle.ncq_callback.specs.Texts.{print_text}
 use Rattle.ncq_pyx.specs.declared.turns.Item.{Item}
-use Rattle.ncq_source.specs.Changes.{store_after, prepared, after, Chains, Trial}
-use Rattle.ncq_source.specs.Changes.Trial.{Good, NoKey, NotThere}
+use Rattle.ncq_source.specs.Changes.{prepared, after, Chains}
+use Rattle.ncq_source.specs.Changes.Trial.{Good}
 use Rattle.ncq_source.specs.Held.{Kept}
 use Rattle.ncq_source.specs.Stores.{kept, without_room, Follows}
 use Rattle.std.proofs.Common.{inl, inr}
@@ -36,10 +36,9 @@ use Rattle.ncq_run.specs.declared.command.BuiltCommand.{BuiltCommand}
 use Rattle.ncq_run.specs.declared.command.BuiltCommand.TheVariants.{Declare, Delta, Create}
 use Rattle.ncq_run.specs.History.{History, Source, sources, source_in, with_items, subscriptions, creates}
 use Rattle.ncq_run.specs.Firing.{notices}
-use Rattle.ncq_script.specs.declared.command_lines.CommandLines.{CommandLines}
-use Rattle.ncq_script.specs.Reads.{read}
+use Rattle.ncq_script.specs.declared.command.Command.{Command}
 use Rattle.ncq_run.specs.Built.{built}
-use Rattle.ncq_run.specs.Output.{answered, refusal_in, with_accepted, with_known, known_answer, answer_to, after as after_lines, declare_refusal, delta_refusal, create_refusal, trial_refusal, is_none}
+use Rattle.ncq_run.specs.Output.{answered, refusal_in, with_accepted, with_known, known_answer, answer_to, after as after_command, declare_refusal, delta_refusal, create_refusal, trial_refusal, is_none}
 use Rattle.ncq_run.specs.Stands.{Stands, Applies, content_of}
 use Rattle.ncq_run.specs.Weights.{answer_in, told_change}
 use Rattle.ncq_run.proofs.HistoryLaws.{declare_tells, delta_tells, create_tells, no_creates}
@@ -159,12 +158,12 @@ module _ (store : StoreState) (live : List Subscription) (number : ℕ) (out : L
         create_is history s none ∙ ap (create_refusal query) (ap (source_in query.source) (sym s.sources_are) ∙ not_found query.source store.sources missing))
 
     module _ (at : ℕ) (d : Declared) (none : length live ≡ 0) (is : found store query.source ≡ Some at) (here : slice_get store.sources at ≡ Some d) where
-      root_is : (history : History) → Stands store live history → refusal_in history (Create query) ≡ (if is_key d.root query.root then None else Some refusal.Unbuilt)
+      root_is : (history : History) → Stands store live history → refusal_in history (Create query) ≡ (if is_key d.root query.root then None else Some refusal.Root)
       root_is history s = create_is history s none ∙ ap (create_refusal query) (ap (source_in query.source) (sym s.sources_are) ∙ is_found query.source store.sources at d is here)
 
       -- the source has another root
-      pub create_other_root : (out' : List ℕ) → is_key d.root query.root ≡ false → out' ≡ out ++ refused_text number refusal.Unbuilt → Applies store live number (Create query) out store live out'
-      create_other_root out' other e = refuse (Create query) refusal.Unbuilt out' e (λ history s. root_is history s ∙ ap (λ (t : Bool). if t then None else Some refusal.Unbuilt) other)
+      pub create_other_root : (out' : List ℕ) → is_key d.root query.root ≡ false → out' ≡ out ++ refused_text number refusal.Root → Applies store live number (Create query) out store live out'
+      create_other_root out' other e = refuse (Create query) refusal.Root out' e (λ history s. root_is history s ∙ ap (λ (t : Bool). if t then None else Some refusal.Root) other)
 
       -- the query is installed, and told its whole answer
       pub create_accepted : (live' : List Subscription) (out' : List ℕ) → is_key d.root query.root ≡ true → live' ≡ live ++ record { query = query; install = 1 } ∷ []
@@ -172,7 +171,7 @@ module _ (store : StoreState) (live : List Subscription) (number : ℕ) (out : L
       create_accepted live' out' root more told = accept (Create query) store live' out' (λ history s.
           let there = ap (source_in query.source) (sym s.sources_are) ∙ is_found query.source store.sources at d is here in
           let first : creates history + 1 ≡ 1 = omega (arith, no_creates history (no_live history s none)) in (
-            root_is history s ∙ ap (λ (t : Bool). if t then None else Some refusal.Unbuilt) root,
+            root_is history s ∙ ap (λ (t : Bool). if t then None else Some refusal.Root) root,
             told ∙ append_assoc out (ok_text number) _ ∙ ap (λ (xs : List ℕ). out ++ (ok_text number ++ xs)) (sym (create_tells history query (content_of d) (no_live history s none) there)),
             record {
               sources_are = s.sources_are;
@@ -180,33 +179,33 @@ module _ (store : StoreState) (live : List Subscription) (number : ℕ) (out : L
             },
           ))
 
-module _ (lines : CommandLines) where
-  known_at : (command : BuiltCommand) → built (read lines) ≡ Ok command → (history : History) (number : ℕ) → answered history number command (refusal_in history command) ≡ answer_to history number lines
+module _ (said : Command) where
+  known_at : (command : BuiltCommand) → built said ≡ Ok command → (history : History) (number : ℕ) → answered history number command (refusal_in history command) ≡ answer_to history number said
   unfolding answer_to
   known_at command is history number = sym (ap (known_answer history number) is)
 
-  known_after : (command : BuiltCommand) → built (read lines) ≡ Ok command → (history : History) → with_accepted history command (refusal_in history command) ≡ after_lines history lines
-  unfolding after_lines
+  known_after : (command : BuiltCommand) → built said ≡ Ok command → (history : History) → with_accepted history command (refusal_in history command) ≡ after_command history said
+  unfolding after_command
   known_after command is history = sym (ap (with_known history) is)
 
   -- lines that say a command of a built form
-  pub known_command : (command : BuiltCommand) → built (read lines) ≡ Ok command → (store : StoreState) (live : List Subscription) (number : ℕ) (out out' : List ℕ) (store' : StoreState) (live' : List Subscription) (history : History)
+  pub known_command : (command : BuiltCommand) → built said ≡ Ok command → (store : StoreState) (live : List Subscription) (number : ℕ) (out out' : List ℕ) (store' : StoreState) (live' : List Subscription) (history : History)
       → (out' ≡ out ++ answered history number command (refusal_in history command)) × Stands store' live' (with_accepted history command (refusal_in history command))
-      → (out' ≡ out ++ answer_to history number lines) × Stands store' live' (after_lines history lines)
+      → (out' ≡ out ++ answer_to history number said) × Stands store' live' (after_command history said)
   known_command command is store live number out out' store' live' history h =
       (h.0 ∙ ap (λ (xs : List ℕ). out ++ xs) (known_at command is history number), subst (λ (h : History). Stands store' live' h) (known_after command is history) h.1)
 
-  unknown_at : (why : Refusal) → built (read lines) ≡ Err why → (history : History) (number : ℕ) → refused_text number why ≡ answer_to history number lines
+  unknown_at : (why : Refusal) → built said ≡ Err why → (history : History) (number : ℕ) → refused_text number why ≡ answer_to history number said
   unfolding answer_to
   unknown_at why is history number = sym (ap (known_answer history number) is)
 
-  unknown_after : (why : Refusal) → built (read lines) ≡ Err why → (history : History) → history ≡ after_lines history lines
-  unfolding after_lines
+  unknown_after : (why : Refusal) → built said ≡ Err why → (history : History) → history ≡ after_command history said
+  unfolding after_command
   unknown_after why is history = sym (ap (with_known history) is)
 
   -- lines that are refused before the history is asked
-  pub unknown_command : (why : Refusal) → built (read lines) ≡ Err why → (store : StoreState) (live : List Subscription) (number : ℕ) (out out' : List ℕ) (history : History)
-      → out' ≡ out ++ refused_text number why → Stands store live history → (out' ≡ out ++ answer_to history number lines) × Stands store live (after_lines history lines)
+  pub unknown_command : (why : Refusal) → built said ≡ Err why → (store : StoreState) (live : List Subscription) (number : ℕ) (out out' : List ℕ) (history : History)
+      → out' ≡ out ++ refused_text number why → Stands store live history → (out' ≡ out ++ answer_to history number said) × Stands store live (after_command history said)
   unknown_command why is store live number out out' history e s =
       (e ∙ ap (λ (xs : List ℕ). out ++ xs) (unknown_at why is history number), subst (λ (h : History). Stands store live h) (unknown_after why is history) s)
 

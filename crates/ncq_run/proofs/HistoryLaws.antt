@@ -1,5 +1,5 @@
 -- Laws of histories: what a subscription was told last is its answer now, and what a command tells it.
-use Rattle.std.proofs.Common.{◌≡◌, ℕ, ◌+◌, ◌<◌, ◌≤◌, Bool, true, false, cond, ◌&&◌, ◌==◌, List, [], ◌∷◌, ◌++◌, map, refl, sym, ◌∙◌, ap, subst, arith, true≢false}
+use Rattle.std.proofs.Common.{◌≡◌, ℕ, ◌+◌, ◌<◌, ◌≤◌, Bool, true, false, ◌&&◌, ◌==◌, List, [], ◌∷◌, ◌++◌, map, refl, sym, ◌∙◌, ap, arith, true≢false}
 use Rattle.std.specs.Prelude.{Option, Some, None, nat_le, if◌then◌else◌}
 use Rattle.std.proofs.lemmas.Bool.Decides.{nat_tests}
 use Rattle.std.specs.List.{flat_map, AllByRecursion}
@@ -16,13 +16,12 @@ use Rattle.ncq_callback.specs.Texts.{print_text}
 use Rattle.ncq_tree.specs.declared.model.Element.{Element}
 use Rattle.ncq_pyx.specs.declared.turns.Item.{Item}
 use Rattle.ncq_source.specs.Changes.{store_after}
-use Rattle.ncq_source.specs.Held.{Kept}
 use Rattle.ncq_source.specs.declared.key.Key.{Key}
 use Rattle.ncq_run.specs.declared.command.ChildQuery.{ChildQuery}
 use Rattle.ncq_run.specs.declared.command.Subscription.{Subscription}
 use Rattle.ncq_run.specs.declared.command.BuiltCommand.{BuiltCommand}
 use Rattle.ncq_run.specs.declared.command.BuiltCommand.TheVariants.{Declare, Delta, Create}
-use Rattle.ncq_run.specs.History.{History, Source, changes, creates, sources, with_items, source_in, elements_of, world, up_to, subscriptions}
+use Rattle.ncq_run.specs.History.{History, Source, changes, creates, sources, with_items, source_in, elements_of, up_to, subscriptions}
 use Rattle.ncq_run.specs.Answer.{answer_bytes, answer_after}
 use Rattle.ncq_run.specs.Firing.{fires, mark, answer_at, answer_before, notice, notices}
 use Rattle.ncq_run.specs.Weights.{answer_in, told_change}

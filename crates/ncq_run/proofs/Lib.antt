@@ -1,4 +1,3 @@
-pub mod BuiltLaws
 pub mod Engines
 pub mod HistoryLaws
 pub mod Locating

@@ -1,5 +1,5 @@
 -- One turn of a session.
-use Rattle.std.proofs.Common.{◌≡◌, ◌+◌, ◌-◌, ◌<◌, ◌≤◌, ◌^◌, ◌++◌, ℕ, List, [], length, take, drop, min, arith, sym, ◌∙◌, ap, refl, subst, append_assoc, length-append}
+use Rattle.std.proofs.Common.{◌≡◌, ◌+◌, ◌-◌, ◌<◌, ◌≤◌, ◌++◌, ℕ, List, [], length, take, drop, min, arith, sym, ◌∙◌, ap, refl, subst, append_assoc, length-append}
 use Rattle.std.specs.Prelude.{Option, None, Some, IfSome}
 use Rattle.std.specs.Io.KnownBytes.{Appends, Consumes, Keeps, IsAtEnd}
 use Rattle.std.proofs.KnownBytes.{Consumes-nil, Appends-nil, Consumes-trans, Consumes-kept, Consumes-whole}
@@ -8,9 +8,9 @@ use Rattle.std.proofs.Math.Seq.{take-append_seam}
 use Rattle.ncq_outside.specs.Causes.{Rose, RoseBy}
 use Rattle.ncq_outside.proofs.CallerLemmas.{RoseBy-at_least, RoseBy-at_most}
 use Rattle.ncq_source.specs.StoreStates.{StoreState}
-use Rattle.ncq_script.specs.Commands.{whole_commands}
-use Rattle.ncq_script.specs.Reading.{CommandState, Follows}
-use Rattle.ncq_script.proofs.CallerLemmas.{whole_commands-nil}
+use Rattle.ncq_script.specs.Script.{whole_script}
+use Rattle.ncq_script.specs.ScriptReading.{ScriptState, FollowsScript, limit_of}
+use Rattle.ncq_script.proofs.CallerLemmas.{whole_script-nil}
 use Rattle.ncq_run.specs.declared.command.Subscription.{Subscription}
 use Rattle.ncq_run.specs.Stands.{Stands}
 use Rattle.ncq_run.proofs.Outputs.{nothing_whole, nothing_happened}
@@ -33,9 +33,9 @@ split_piece bytes buffer rest inside n le =
 rose_later : (a b c : ℕ) → a ≤ b → Rose b c → Rose a c
 rose_later a b c le rose = omega arith
 
-module _ (reader : CommandState) (store : StoreState) (live : List Subscription) (count taken most : ℕ) (start : Told) (left held : Option (List ℕ)) (given rf wf : ℕ) (so : SoFar reader store live count taken start (told left held given rf wf)) (within : taken ≤ most)
+module _ (reader : ScriptState) (store : StoreState) (live : List Subscription) (count taken most : ℕ) (start : Told) (left held : Option (List ℕ)) (given rf wf : ℕ) (so : SoFar reader store live count taken start (told left held given rf wf)) (within : taken ≤ most)
     (left' held' : Option (List ℕ)) (given' rf' wf' : ℕ) where
-  pub turn_read_fault : Keeps left left' → Rose rf rf' → IsReadFault reader.lines.limit start (told left' held given' rf' wf)
+  pub turn_read_fault : Keeps left left' → Rose rf rf' → IsReadFault (limit_of reader) start (told left' held given' rf' wf)
   turn_read_fault kept rose = record { rose = rose_later _ _ _ so.read_later rose; bytes = so.bytes; read = Consumes-kept _ _ _ _ so.read kept; written = so.written }
 
   module _ (buffer : List ℕ) (n : ℕ) (read : Consumes left left' (take n buffer)) where
@@ -44,22 +44,22 @@ module _ (reader : CommandState) (store : StoreState) (live : List Subscription)
         let e : so.bytes ++ take n buffer ≡ so.bytes = ap (λ (k : ℕ). so.bytes ++ take k buffer) none ∙ append-nil so.bytes in
         subst (λ (bs : List ℕ). Consumes start.left left' bs) e (Consumes-trans _ _ _ _ _ so.read read)
 
-    pub turn_done : n ≡ 0 → IsAtEnd left' → RoseBy given n given' → Appends start.held held' (output_of reader.lines.limit so.bytes) → IsDone reader.lines.limit most start (told left' held' given' rf' wf')
+    pub turn_done : n ≡ 0 → IsAtEnd left' → RoseBy given n given' → Appends start.held held' (output_of (limit_of reader) so.bytes) → IsDone (limit_of reader) most start (told left' held' given' rf' wf')
     turn_done none end rose written = record {
       at_end = end;
-      written = Consumes-whole start.left left' so.bytes (λ script. Appends start.held held' (output_of reader.lines.limit script)) (all_read none) end written;
+      written = Consumes-whole start.left left' so.bytes (λ script. Appends start.held held' (output_of (limit_of reader) script)) (all_read none) end written;
       within = omega (arith, so.given.at_most, RoseBy-at_most _ _ _ rose);
     }
 
-    pub end_out_of_memory : n ≡ 0 → IsAtEnd left' → AppendsPrefix start.held held' (output_of reader.lines.limit so.bytes) → IsOutOfMemory reader.lines.limit start (told left' held' given' rf' wf')
+    pub end_out_of_memory : n ≡ 0 → IsAtEnd left' → AppendsPrefix start.held held' (output_of (limit_of reader) so.bytes) → IsOutOfMemory (limit_of reader) start (told left' held' given' rf' wf')
     end_out_of_memory none end written = record {
-      written = Consumes-whole start.left left' so.bytes (λ script. AppendsPrefix start.held held' (output_of reader.lines.limit script)) (all_read none) end written;
+      written = Consumes-whole start.left left' so.bytes (λ script. AppendsPrefix start.held held' (output_of (limit_of reader) script)) (all_read none) end written;
     }
 
-    pub end_write_fault : n ≡ 0 → IsAtEnd left' → Rose wf wf' → AppendsProperPrefix start.held held' (output_of reader.lines.limit so.bytes) → IsWriteFault reader.lines.limit start (told left' held' given' rf' wf')
+    pub end_write_fault : n ≡ 0 → IsAtEnd left' → Rose wf wf' → AppendsProperPrefix start.held held' (output_of (limit_of reader) so.bytes) → IsWriteFault (limit_of reader) start (told left' held' given' rf' wf')
     end_write_fault none end rose written = record {
       rose = rose_later _ _ _ so.write_later rose;
-      written = Consumes-whole start.left left' so.bytes (λ script. AppendsProperPrefix start.held held' (output_of reader.lines.limit script)) (all_read none) end written;
+      written = Consumes-whole start.left left' so.bytes (λ script. AppendsProperPrefix start.held held' (output_of (limit_of reader) script)) (all_read none) end written;
     }
 
     module _ (inside : ℕ) (le : inside ≤ n) where
@@ -67,33 +67,35 @@ module _ (reader : CommandState) (store : StoreState) (live : List Subscription)
       over_rest P p = with_rest start.left left' (so.bytes ++ take n buffer) P (Consumes-trans _ _ _ _ _ so.read read)
           (λ rest. subst P (sym (split_piece so.bytes buffer rest inside n le)) (p (drop inside (take n buffer) ++ rest)))
 
-      pub turn_out_of_memory : ((more : List ℕ) → AppendsPrefix start.held held' (output_of reader.lines.limit ((so.bytes ++ take inside buffer) ++ more))) → IsOutOfMemory reader.lines.limit start (told left' held' given' rf' wf')
-      turn_out_of_memory p = record { written = over_rest (λ script. AppendsPrefix start.held held' (output_of reader.lines.limit script)) p }
+      pub turn_out_of_memory : ((more : List ℕ) → AppendsPrefix start.held held' (output_of (limit_of reader) ((so.bytes ++ take inside buffer) ++ more))) → IsOutOfMemory (limit_of reader) start (told left' held' given' rf' wf')
+      turn_out_of_memory p = record { written = over_rest (λ script. AppendsPrefix start.held held' (output_of (limit_of reader) script)) p }
 
-      pub turn_write_fault : Rose wf wf' → ((more : List ℕ) → AppendsProperPrefix start.held held' (output_of reader.lines.limit ((so.bytes ++ take inside buffer) ++ more))) → IsWriteFault reader.lines.limit start (told left' held' given' rf' wf')
-      turn_write_fault rose p = record { rose = rose_later _ _ _ so.write_later rose; written = over_rest (λ script. AppendsProperPrefix start.held held' (output_of reader.lines.limit script)) p }
+      pub turn_write_fault : Rose wf wf' → ((more : List ℕ) → AppendsProperPrefix start.held held' (output_of (limit_of reader) ((so.bytes ++ take inside buffer) ++ more))) → IsWriteFault (limit_of reader) start (told left' held' given' rf' wf')
+      turn_write_fault rose p = record { rose = rose_later _ _ _ so.write_later rose; written = over_rest (λ script. AppendsProperPrefix start.held held' (output_of (limit_of reader) script)) p }
 
-      pub turn_too_long : n ≤ length buffer → RoseBy given n given' → inside ≡ min n (most - taken) → most - taken < n → Appends start.held held' (output_of_whole reader.lines.limit (so.bytes ++ take inside buffer))
-          → IsTooLong reader.lines.limit most start (told left' held' given' rf' wf')
+      pub turn_too_long : n ≤ length buffer → RoseBy given n given' → inside ≡ min n (most - taken) → most - taken < n → Appends start.held held' (output_of_whole (limit_of reader) (so.bytes ++ take inside buffer))
+          → IsTooLong (limit_of reader) most start (told left' held' given' rf' wf')
       turn_too_long room rose small long written =
           let full : most ≡ length (so.bytes ++ take inside buffer) = omega (arith, length-append so.bytes (take inside buffer), length-take inside buffer, so.long) in
           record {
             more = omega (arith, so.given.at_least, RoseBy-at_least _ _ _ rose);
-            written = over_rest (λ script. Appends start.held held' (output_of_whole reader.lines.limit (take most script)))
+            long = with_rest start.left left' (so.bytes ++ take n buffer) (λ script. most < length script) (Consumes-trans _ _ _ _ _ so.read read)
+                (λ rest. omega (arith, length-append (so.bytes ++ take n buffer) rest, length-append so.bytes (take n buffer), length-take n buffer, so.long));
+            written = over_rest (λ script. Appends start.held held' (output_of_whole (limit_of reader) (take most script)))
                 (λ more. let e : take most ((so.bytes ++ take inside buffer) ++ more) ≡ so.bytes ++ take inside buffer = ap (λ (k : ℕ). take k ((so.bytes ++ take inside buffer) ++ more)) full ∙ take-append_seam (so.bytes ++ take inside buffer) more in
-                subst (λ (bs : List ℕ). Appends start.held held' (output_of_whole reader.lines.limit bs)) (sym e) written);
+                subst (λ (bs : List ℕ). Appends start.held held' (output_of_whole (limit_of reader) bs)) (sym e) written);
           }
 
-    pub turn_goes_on : (reader' : CommandState) (store' : StoreState) (live' : List Subscription) (count' inside : ℕ) → inside ≡ n → n ≤ length buffer → RoseBy given n given' → rf ≤ rf' → wf ≤ wf' → reader'.lines.limit ≡ reader.lines.limit
-        → Follows reader' (so.bytes ++ take inside buffer) count' → count' ≡ length (whole_commands reader.lines.limit (so.bytes ++ take inside buffer))
-        → Stands store' live' (history_of_whole reader.lines.limit (so.bytes ++ take inside buffer))
-        → Appends start.held held' (output_of_whole reader.lines.limit (so.bytes ++ take inside buffer))
+    pub turn_goes_on : (reader' : ScriptState) (store' : StoreState) (live' : List Subscription) (count' inside : ℕ) → inside ≡ n → n ≤ length buffer → RoseBy given n given' → rf ≤ rf' → wf ≤ wf' → (limit_of reader') ≡ (limit_of reader)
+        → FollowsScript reader' (so.bytes ++ take inside buffer) count' → count' ≡ length (whole_script (limit_of reader) (so.bytes ++ take inside buffer))
+        → Stands store' live' (history_of_whole (limit_of reader) (so.bytes ++ take inside buffer))
+        → Appends start.held held' (output_of_whole (limit_of reader) (so.bytes ++ take inside buffer))
         → SoFar reader' store' live' count' (taken + n) start (told left' held' given' rf' wf')
     turn_goes_on reader' store' live' count' inside same room rose later later' e follows counted stands written = record {
       bytes = so.bytes ++ take inside buffer;
       follows = follows;
       long = omega (arith, length-append so.bytes (take inside buffer), length-take inside buffer, so.long);
-      counted = counted ∙ ap (λ (l : ℕ). length (whole_commands l (so.bytes ++ take inside buffer))) (sym e);
+      counted = counted ∙ ap (λ (l : ℕ). length (whole_script l (so.bytes ++ take inside buffer))) (sym e);
       stands = subst (λ (l : ℕ). Stands store' live' (history_of_whole l (so.bytes ++ take inside buffer))) (sym e) stands;
       read = subst (λ (k : ℕ). Consumes start.left left' (so.bytes ++ take k buffer)) (sym same) (Consumes-trans _ _ _ _ _ so.read read);
       written = subst (λ (l : ℕ). Appends start.held held' (output_of_whole l (so.bytes ++ take inside buffer))) (sym e) written;
@@ -109,16 +111,16 @@ pub nothing_written : (left held : Option (List ℕ)) (limit : ℕ) → IfSome l
 nothing_written None held limit = tt
 nothing_written (Some script) held limit = ([], output_of limit script, refl, Appends-nil held)
 
-pub at_start : (reader : CommandState) (store : StoreState) (live : List Subscription) (left held : Option (List ℕ)) (given rf wf : ℕ) → Follows reader [] 0 → Stands store live []
+pub at_start : (reader : ScriptState) (store : StoreState) (live : List Subscription) (left held : Option (List ℕ)) (given rf wf : ℕ) → FollowsScript reader [] 0 → Stands store live []
     → SoFar reader store live 0 0 (told left held given rf wf) (told left held given rf wf)
 at_start reader store live left held given rf wf follows stands = record {
   bytes = [];
   follows = follows;
   long = refl;
-  counted = sym (ap length (whole_commands-nil reader.lines.limit));
-  stands = rw (nothing_happened reader.lines.limit) stands;
+  counted = sym (ap length (whole_script-nil (limit_of reader)));
+  stands = rw (nothing_happened (limit_of reader)) stands;
   read = Consumes-nil left;
-  written = rw (nothing_whole reader.lines.limit) (Appends-nil held);
+  written = rw (nothing_whole (limit_of reader)) (Appends-nil held);
   given = record { at_least = omega arith; at_most = omega arith };
   read_later = omega arith;
   write_later = omega arith;

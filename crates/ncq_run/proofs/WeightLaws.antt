@@ -1,15 +1,14 @@
 -- How often a forest stands in the answers of elements, one element after the other.
 use Rattle.std.proofs.Common.{◌≡◌, ℕ, zero, suc, ◌+◌, ◌<◌, ◌≤◌, get_or, Bool, true, false, cond, List, [], ◌∷◌, ◌++◌, length, drop, map, slice_get, refl, sym, ◌∙◌, ap, arith}
-use Rattle.std.specs.Prelude.{ℤ, pos, Option, Some, None, neg_ℤ, ◌+ℤ◌, ◌-ℤ◌, if◌then◌else◌}
+use Rattle.std.specs.Prelude.{ℤ, pos, Option, Some, ◌+ℤ◌, ◌-ℤ◌, if◌then◌else◌}
 use Rattle.std.proofs.lemmas.Int.{ints}
-use Rattle.std.specs.List.{filter, flat_map}
 use Rattle.std.specs.FinMap.{entries, get-empty}
 use Rattle.std.specs.Option.{unwrap_or}
 use Rattle.std.specs.Ordering.{nat_cmp}
 use Rattle.std.specs.Cmp.Lexicographic.{slice_cmp}
 use Rattle.std.proofs.lemmas.List.{drop_more, drop_all}
 use Rattle.ncq_base.specs.Keys.{ByBytes, is_key, times, total, total_of, weight}
-use Rattle.ncq_bag.specs.Bags.{count_of, count_in, added, step, no_counts, surplus, difference, differences, IsTally}
+use Rattle.ncq_bag.specs.Bags.{count_of, count_in, added, step, no_counts, difference, differences}
 use Rattle.ncq_bag.specs.Counted.{Counted}
 use Rattle.ncq_bag.proofs.Tallies.{times_append, tally_decides}
 use Rattle.ncq_bag.proofs.CallerLemmas.{count_of-added}

@@ -1,97 +1,124 @@
 -- What is built of the language of commands: the one place where it is narrower than the whole.
 --
--- `delete`, `clock`, `report`, and a `create` whose text is not of the form below, are answered `refused 99 unbuilt`.
-use Rattle.std.specs.Prelude.{ℕ, Bool, ◌&&◌, ◌||◌, not, ◌==◌, nat_lt, if◌then◌else◌, List, [], ◌∷◌, length, take, drop, codes, Option, Some, None, Result, Ok, Err}
-use Rattle.std.specs.List.{list_all, prefix_len}
+-- `delete`, `clock`, `report`, and a `create` whose statement is not of the form below, are answered `refused 99 unbuilt`.
+use Rattle.std.specs.Prelude.{ℕ, Bool, true, false, ◌&&◌, ◌==◌, if◌then◌else◌, List, [], ◌∷◌, codes, Option, Some, None, Result, Ok, Err}
 use Rattle.std.specs.Option.{option_map, option_and_then}
-use Rattle.std.specs.Char.{is_ascii_digit, is_ascii_alphabetic}
 use Rattle.ncq_base.specs.Atoms.{atom_of}
-use Rattle.ncq_base.specs.Names.{is_space, is_name_byte, is_name}
 use Rattle.ncq_base.specs.Keys.{is_key}
-use Rattle.ncq_script.specs.Forms.{is_source_name}
 use Rattle.ncq_script.specs.declared.command.Command.{Command}
 use Rattle.ncq_script.specs.declared.command.Command.TheVariants as script
 use Rattle.ncq_script.specs.declared.refusal.Refusal.{Refusal}
 use Rattle.ncq_script.specs.declared.refusal.Refusal.TheVariants.{Unbuilt}
+use Rattle.ncq_xmlql.specs.declared.model.Operand.{Operand}
+use Rattle.ncq_xmlql.specs.declared.model.Operand.TheVariants as operand
+use Rattle.ncq_xmlql.specs.declared.model.Content.{Content, out-Content}
+use Rattle.ncq_xmlql.specs.declared.model.Content.TheOpen.Content-F.{Parts, Value}
+use Rattle.ncq_xmlql.specs.declared.model.Pattern.{Pattern, out-Pattern}
+use Rattle.ncq_xmlql.specs.declared.model.Suffix.{Suffix}
+use Rattle.ncq_xmlql.specs.declared.model.Suffix.TheVariants as suffix
+use Rattle.ncq_xmlql.specs.declared.model.QueryItem.{QueryItem}
+use Rattle.ncq_xmlql.specs.declared.model.QueryItem.TheVariants.{Match, Condition}
+use Rattle.ncq_xmlql.specs.declared.model.Template.{Template, out-Template}
+use Rattle.ncq_xmlql.specs.declared.model.Template.TheOpen.Template-F.{Variable, Literal, Element}
+use Rattle.ncq_xmlql.specs.declared.model.Statement.{Statement}
 use Rattle.ncq_run.specs.declared.command.ChildQuery.{ChildQuery}
 use Rattle.ncq_run.specs.declared.command.BuiltCommand.{BuiltCommand}
 use Rattle.ncq_run.specs.declared.command.BuiltCommand.TheVariants.{Declare, Delta, Create}
 
--- what stands behind this text at the front
-abbrev pub after_front : List ℕ → List ℕ → Option (List ℕ)
-after_front front text = if is_key (take (length front) text) front then Some (drop (length front) text) else None
+-- the one item of a list of one
+abbrev pub only : {A : Type 0} → List A → Option A
+only [] = None
+only (a ∷ []) = Some a
+only (a ∷ b ∷ more) = None
 
--- the bytes at the front that pass the test, and what stands behind the marker that follows them
-abbrev pub cut : (ℕ → Bool) → List ℕ → List ℕ → Option (List ℕ × List ℕ)
-cut test marker text = let n = prefix_len test text in option_map (λ rest. (take n text, rest)) (after_front marker (drop n text))
+abbrev pub is_empty : {A : Type 0} → List A → Bool
+is_empty [] = true
+is_empty (a ∷ more) = false
 
--- an ASCII letter, a digit or a point
-abbrev pub is_literal_byte : ℕ → Bool
-is_literal_byte b = is_ascii_alphabetic b || is_ascii_digit b || (b == 46)
+abbrev pub is_absent : {A : Type 0} → Option A → Bool
+is_absent None = true
+is_absent (Some a) = false
 
-abbrev pub is_no_quote : ℕ → Bool
-is_no_quote b = not (b == 34)
+abbrev pub literal_of : Operand → Option (List ℕ)
+literal_of (operand.Literal text) = Some text
+literal_of (operand.Variable x) = None
 
-abbrev pub is_no_space : ℕ → Bool
-is_no_space b = not (is_space b)
+-- the literal that is a content
+abbrev pub literal_in : Content → Option (List ℕ)
+literal_in inside = elim (out-Content inside) [ Parts parts ↦ None | Value value ↦ literal_of value ]
 
--- the free places of a statement
-pub record Places : Type 0 where
-  pub name : List ℕ
+-- the patterns in a content
+abbrev pub parts_in : Content → List Pattern
+parts_in inside = elim (out-Content inside) [ Parts parts ↦ parts | Value value ↦ [] ]
+
+abbrev pub is_plain : Suffix → Bool
+is_plain suffix.Plain = true
+is_plain (suffix.ElementAs x) = false
+is_plain (suffix.ContentAs x) = false
+
+-- the variable that binds the whole element
+abbrev pub element_variable : Suffix → Option (List ℕ)
+element_variable suffix.Plain = None
+element_variable (suffix.ElementAs x) = Some x
+element_variable (suffix.ContentAs x) = None
+
+-- the tag and the literal of a part that has no attributes, no suffix and a literal as its content
+abbrev pub part_form : Pattern → Option (List ℕ × List ℕ)
+part_form part =
+    if is_empty (out-Pattern part).attributes && is_plain (out-Pattern part).suffix
+    then option_map (λ literal. ((out-Pattern part).tag, literal)) (literal_in (out-Pattern part).content)
+    else None
+
+-- what is free in a match of the built form: `<root><tag><child>literal</></> ELEMENT_AS $variable</> IN source`
+pub record ChildForm : Type 0 where
   pub root : List ℕ
   pub tag : List ℕ
   pub child : List ℕ
   pub literal : List ℕ
+  pub variable : List ℕ
   pub source : List ℕ
 
--- `create <name> WHERE <<root>><<tag>><<child>>`, and what stands behind it
-abbrev pub front_places : List ℕ → Option (List ℕ × List ℕ × List ℕ × List ℕ × List ℕ)
-front_places text =
-    option_and_then (λ begun. option_and_then (λ name. option_and_then (λ root. option_and_then (λ tag. option_map (λ child.
-    (name.0, root.0, tag.0, child.0, child.1))
-    (cut is_name_byte (codes ">") tag.1)) (cut is_name_byte (codes "><") root.1)) (cut is_name_byte (codes "><") name.1))
-    (cut is_name_byte (codes " WHERE <") begun)) (after_front (codes "create ") text)
+-- an arm without attributes, whose one part asks for a child with a literal, and that binds its element
+abbrev pub arm_form : List ℕ → List ℕ → Pattern → Option ChildForm
+arm_form root source arm =
+    if is_empty (out-Pattern arm).attributes
+    then option_and_then (λ variable. option_map (λ part.
+    record { root = root; tag = (out-Pattern arm).tag; child = part.0; literal = part.1; variable = variable; source = source })
+    (option_and_then part_form (only (parts_in (out-Pattern arm).content)))) (element_variable (out-Pattern arm).suffix)
+    else None
 
--- the value, where nothing is left
-abbrev pub if_nothing : {A : Type 0} → List ℕ → A → Option A
-if_nothing [] value = Some value
-if_nothing (b ∷ rest) value = None
+-- a match with one such arm
+abbrev pub match_form : QueryItem → Option ChildForm
+match_form (Match root arms source) = option_and_then (arm_form root source) (only arms)
+match_form (Condition left op right) = None
 
--- the literal and the source's name, in the rest of the statement, with nothing behind it
-abbrev pub back_places : List ℕ → Option (List ℕ × List ℕ)
-back_places text =
-    option_and_then (λ literal. option_and_then (λ source. if_nothing source.1 (literal.0, source.0))
-    (cut is_no_quote (codes "\" CONSTRUCT $g DO print") literal.1))
-    (cut is_literal_byte (codes "</></> ELEMENT_AS $g</> IN \"") text)
+-- the template is this variable
+abbrev pub is_variable : List ℕ → Template → Bool
+is_variable x top = elim (out-Template top) [ Variable y ↦ is_key x y | Literal text ↦ false | Element tag attributes inside ↦ false ]
 
--- the places of a statement that is, byte for byte,
--- `create <name> WHERE <<root>><<tag>><<child>><literal></></> ELEMENT_AS $g</> IN "<source>" CONSTRUCT $g DO print`
-abbrev pub places_of : List ℕ → Option Places
-places_of text =
-    option_and_then (λ front. option_map (λ back.
-    record { name = front.0; root = front.1; tag = front.2; child = front.3; literal = back.0; source = back.1 })
-    (back_places front.4)) (front_places text)
+-- the action is `print` without an argument, and no time is written
+abbrev pub is_plain_print : Statement → Bool
+is_plain_print st = is_key st.action (codes "print") && is_absent st.argument && is_absent st.start && st.every == 0 && is_absent st.expire
 
--- names where names stand, a literal that is not empty, and a word that a source can have
-abbrev pub are_good : Places → Bool
-are_good places = is_name places.name && is_name places.root && is_name places.tag && is_name places.child
-    && nat_lt 0 (length places.literal) && is_source_name places.source && list_all is_no_space places.source
+-- one such match, whose element is printed
+abbrev pub statement_form : Statement → Option ChildForm
+statement_form st = if is_plain_print st then option_and_then match_form (only st.query.items) else None
 
-abbrev pub query_at : Places → ChildQuery
-query_at places = record {
-  name = places.name;
-  source = places.source;
-  root = places.root;
-  tag = places.tag;
-  child = places.child;
-  wanted = atom_of places.literal;
+abbrev pub query_at : List ℕ → ChildForm → ChildQuery
+query_at name form = record {
+  name = name;
+  source = form.source;
+  root = form.root;
+  tag = form.tag;
+  child = form.child;
+  wanted = atom_of form.literal;
 }
 
--- the query of a statement of the built form
-abbrev pub query_of : List ℕ → Option ChildQuery
-query_of text = option_and_then (λ places. if are_good places then Some (query_at places) else None) (places_of text)
+-- the query of a statement of the built form: its template is the variable of the element
+abbrev pub query_of : Statement → Option ChildQuery
+query_of st = option_and_then (λ form. if is_variable form.variable st.query.template then Some (query_at st.name form) else None) (statement_form st)
 
--- a create of this query, where its text is built
+-- a create of this query, where its statement is built
 abbrev pub create_of : Option ChildQuery → Result BuiltCommand Refusal
 create_of None = Err Unbuilt
 create_of (Some query) = Ok (Create query)
@@ -100,7 +127,7 @@ create_of (Some query) = Ok (Create query)
 abbrev pub built : Command → Result BuiltCommand Refusal
 built (script.Declare name root key) = Ok (Declare name root key)
 built (script.Delta source items) = Ok (Delta source items)
-built (script.Create text) = create_of (query_of text)
+built (script.Create st) = create_of (query_of st)
 built (script.Delete name) = Err Unbuilt
 built (script.Clock instant) = Err Unbuilt
 built script.Report = Err Unbuilt

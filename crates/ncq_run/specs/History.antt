@@ -1,5 +1,5 @@
 -- A history is the list of the accepted commands, the newest first; and what stands after it.
-use Rattle.std.specs.Prelude.{ℕ, ◌+◌, Bool, nat_le, if◌then◌else◌, List, [], ◌∷◌, ◌++◌, map, Option, Some, None}
+use Rattle.std.specs.Prelude.{ℕ, ◌+◌, nat_le, if◌then◌else◌, List, [], ◌∷◌, ◌++◌, map, Option, Some, None}
 use Rattle.std.specs.FinMap.{empty, entries}
 use Rattle.ncq_base.specs.Keys.{is_key}
 use Rattle.ncq_tree.specs.declared.model.Element.{Element}
@@ -7,7 +7,6 @@ use Rattle.ncq_pyx.specs.declared.turns.Item.{Item}
 use Rattle.ncq_source.specs.declared.key.Key.{Key}
 use Rattle.ncq_source.specs.Held.{Kept}
 use Rattle.ncq_source.specs.Changes.{store_after}
-use Rattle.ncq_run.specs.declared.command.ChildQuery.{ChildQuery}
 use Rattle.ncq_run.specs.declared.command.Subscription.{Subscription}
 use Rattle.ncq_run.specs.declared.command.BuiltCommand.{BuiltCommand}
 use Rattle.ncq_run.specs.declared.command.BuiltCommand.TheVariants.{Declare, Delta, Create}

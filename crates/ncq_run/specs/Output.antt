@@ -1,6 +1,5 @@
 -- What is written for a script: the answer of each command in turn.
-use Rattle.std.specs.Prelude.{ℕ, ◌+◌, Bool, true, false, ◌&&◌, not, if◌then◌else◌, List, [], ◌∷◌, ◌++◌, codes, Option, Some, None, Result, Ok, Err, decimal}
-use Rattle.std.specs.Option.{option_map}
+use Rattle.std.specs.Prelude.{ℕ, ◌+◌, Bool, true, false, if◌then◌else◌, List, [], ◌∷◌, ◌++◌, codes, Option, Some, None, Result, Ok, Err, decimal}
 use Rattle.ncq_base.specs.Keys.{is_key}
 use Rattle.ncq_source.specs.Changes.{prepared, Trial}
 use Rattle.ncq_source.specs.Changes.Trial.{Good, NoKey, NotThere}
@@ -8,12 +7,11 @@ use Rattle.ncq_source.specs.declared.change.Entry.{Entry}
 use Rattle.ncq_script.specs.Refusals.{refused_text}
 use Rattle.ncq_script.specs.declared.refusal.Refusal.{Refusal}
 use Rattle.ncq_script.specs.declared.refusal.Refusal.TheVariants as refusal
-use Rattle.ncq_script.specs.declared.command_lines.CommandLines.{CommandLines}
-use Rattle.ncq_script.specs.Commands.{commands, whole_commands}
+use Rattle.ncq_script.specs.declared.command.Command.{Command}
+use Rattle.ncq_script.specs.Script.{script, whole_script}
 use Rattle.ncq_run.specs.declared.command.ChildQuery.{ChildQuery}
 use Rattle.ncq_run.specs.declared.command.BuiltCommand.{BuiltCommand}
 use Rattle.ncq_run.specs.declared.command.BuiltCommand.TheVariants.{Declare, Delta, Create}
-use Rattle.ncq_script.specs.Reads.{read}
 use Rattle.ncq_run.specs.Built.{built}
 use Rattle.ncq_run.specs.History.{History, Source, sources, source_in, subscriptions}
 use Rattle.ncq_run.specs.Firing.{notices}
@@ -37,7 +35,7 @@ declare_refusal (Some source) = Some refusal.SourceExists
 -- a create on this source: its root has to be the query's
 abbrev pub create_refusal : ChildQuery → Option Source → Option Refusal
 create_refusal query None = Some refusal.NoSource
-create_refusal query (Some source) = if is_key source.root query.root then None else Some refusal.Unbuilt
+create_refusal query (Some source) = if is_key source.root query.root then None else Some refusal.Root
 
 -- a delta of this source: the first item that cannot be applied decides
 abbrev pub delta_refusal : BuiltCommand → Option Source → Option Refusal
@@ -63,8 +61,8 @@ known_answer history number (Ok command) = answered history number command (refu
 known_answer history number (Err why) = refused_text number why
 
 -- the answer to the command with this number
-unfoldable pub answer_to : History → ℕ → CommandLines → List ℕ
-answer_to history number lines = known_answer history number (built (read lines))
+unfoldable pub answer_to : History → ℕ → Command → List ℕ
+answer_to history number command = known_answer history number (built command)
 
 abbrev pub with_accepted : History → BuiltCommand → Option Refusal → History
 with_accepted history command None = command ∷ history
@@ -75,27 +73,27 @@ with_known history (Ok command) = with_accepted history command (refusal_in hist
 with_known history (Err why) = history
 
 -- the history after a command: a refused one changes nothing
-unfoldable pub after : History → CommandLines → History
-after history lines = with_known history (built (read lines))
+unfoldable pub after : History → Command → History
+after history command = with_known history (built command)
 
 -- the answers to commands, the first with this number
-abbrev pub out_of : History → ℕ → List CommandLines → List ℕ
+abbrev pub out_of : History → ℕ → List Command → List ℕ
 out_of history number [] = []
-out_of history number (lines ∷ more) = answer_to history number lines ++ out_of (after history lines) (number + 1) more
+out_of history number (command ∷ more) = answer_to history number command ++ out_of (after history command) (number + 1) more
 
 -- the history after commands
-abbrev pub history_of : History → List CommandLines → History
+abbrev pub history_of : History → List Command → History
 history_of history [] = history
-history_of history (lines ∷ more) = history_of (after history lines) more
+history_of history (command ∷ more) = history_of (after history command) more
 
 -- the output for a whole script
 unfoldable pub output_of : ℕ → List ℕ → List ℕ
-output_of limit script = out_of [] 1 (commands limit script)
+output_of limit bytes = out_of [] 1 (script limit bytes)
 
 -- the answers to the commands that are whole in these bytes
 unfoldable pub output_of_whole : ℕ → List ℕ → List ℕ
-output_of_whole limit bytes = out_of [] 1 (whole_commands limit bytes)
+output_of_whole limit bytes = out_of [] 1 (whole_script limit bytes)
 
 -- the history after the commands that are whole in these bytes
 unfoldable pub history_of_whole : ℕ → List ℕ → History
-history_of_whole limit bytes = history_of [] (whole_commands limit bytes)
+history_of_whole limit bytes = history_of [] (whole_script limit bytes)

@@ -51,6 +51,7 @@ pub record IsWriteFault (limit : ℕ) (old new : Told) : Type 0 where
 -- too long a script: the source gave more than the limit, and the commands that were whole within it are answered
 pub record IsTooLong (limit most : ℕ) (old new : Told) : Type 0 where
   pub more : GaveMore old.given most new.given
+  pub long : IfSome old.left (λ script. most < length script)
   pub written : IfSome old.left (λ script. Appends old.held new.held (output_of_whole limit (take most script)))
 
 -- want of memory: some front of the output was written

@@ -1,7 +1,7 @@
 -- How often a forest stands in an answer, counted element by element. Only the crate's private clauses cite it.
-use Rattle.std.specs.Prelude.{ℕ, ◌+◌, ℤ, pos, neg_ℤ, ◌-ℤ◌, if◌then◌else◌, Bool, List, [], ◌∷◌, map}
+use Rattle.std.specs.Prelude.{ℕ, ℤ, pos, neg_ℤ, if◌then◌else◌, Bool, List, [], map}
 use Rattle.std.specs.FinMap.{entries}
-use Rattle.ncq_base.specs.Keys.{is_key, weight}
+use Rattle.ncq_base.specs.Keys.{is_key}
 use Rattle.ncq_bag.specs.Bags.{count_in, difference}
 use Rattle.ncq_callback.specs.Texts.{print_text}
 use Rattle.ncq_tree.specs.declared.model.Element.{Element}

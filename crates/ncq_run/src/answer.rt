@@ -2,8 +2,8 @@
 ghost use Rattle.std.specs.Prelude.{◌≡◌, ◌+◌, ◌-◌, ◌<◌, ◌≤◌, ◌^◌, ℕ, List, [], OnOk, OnErr, IsErrOf, length, drop};
 ghost use Rattle.std.specs.Io.KnownBytes.{Appends};
 ghost use Rattle.ncq_outside.specs.Causes.{HasCause, Rose};
-ghost use Rattle.ncq_script.specs.Commands.{known_commands};
-ghost use Rattle.ncq_script.specs.Reading.{Follows};
+ghost use Rattle.ncq_script.specs.Script.{known_script};
+ghost use Rattle.ncq_script.specs.ScriptReading.{FollowsScript, limit_of, is_finished};
 ghost use Rattle.ncq_run.specs.History.{History};
 ghost use Rattle.ncq_run.specs.Output.{answer_to, after, out_of, history_of};
 ghost use Rattle.ncq_run.specs.Stands.{Stands};
@@ -11,7 +11,7 @@ ghost use Rattle.ncq_run.specs.Status.{AppendsPrefix, AppendsProperPrefix};
 
 use crate::engine::Engine;
 use ncq_outside::{Failed, Sink};
-use ncq_script::{CommandLines, CommandReader, NextCommand};
+use ncq_script::{Command, Next, ScriptReader};
 use std::alloc::{AllocError, Global};
 
 /// Why a session stopped before the end of its script.
@@ -48,23 +48,23 @@ fn answer_one<O: Sink>(
     alloc: Global,
     engine: &mut Engine,
     number: u64,
-    lines: &CommandLines,
+    command: Command,
     output: &mut O,
 ) -> Result<(), Stop>
     requires few { engine.old.store.changes < number }
     requires small { number < 2 ^ 60 }
     ensures ok { OnOk result ((history : History) → Stands engine.old.store engine.old.subscriptions.items history →
-        Appends (O.held output.old) (O.held output.new) (answer_to history number lines.now)
-        × Stands engine.new.store engine.new.subscriptions.items (after history lines.now)) }
+        Appends (O.held output.old) (O.held output.new) (answer_to history number command)
+        × Stands engine.new.store engine.new.subscriptions.items (after history command)) }
     ensures few { engine.new.store.changes ≤ number }
     ensures no_memory { IsErrOf result Stop.NoMemory → O.held output.new ≡ O.held output.old }
     ensures write { IsErrOf result Stop.WriteFault → (history : History) → Stands engine.old.store engine.old.subscriptions.items history →
-        AppendsProperPrefix (O.held output.old) (O.held output.new) (answer_to history number lines.now) }
+        AppendsProperPrefix (O.held output.old) (O.held output.new) (answer_to history number command) }
     ensures later { O.faults output.old ≤ O.faults output.new }
     ensures cause { IsErrOf result Stop.WriteFault → Rose (O.faults output.old) (O.faults output.new) }
 {
     let mut text = Vec::new(alloc);
-    let Ok(()) = engine.answer(alloc, number, lines, &mut text) else {
+    let Ok(()) = engine.answer(alloc, number, command, &mut text) else {
         return Err(Stop::NoMemory);
     };
     match write_all(output, text.as_slice()) {
@@ -76,36 +76,36 @@ fn answer_one<O: Sink>(
 /// Answers each command that can be told and that has no answer yet.
 pub(crate) fn answer_commands<O: Sink>(
     alloc: Global,
-    reader: &mut CommandReader,
+    reader: &mut ScriptReader,
     engine: &mut Engine,
     count: &mut u64,
     output: &mut O,
 ) -> Result<(), Stop>
-    requires some { (pushed : List ℕ) × Follows reader.old pushed count.old × (length pushed < 2 ^ 59) }
+    requires some { (pushed : List ℕ) × FollowsScript reader.old pushed count.old × (length pushed < 2 ^ 59) }
     requires few { engine.old.store.changes ≤ count.old }
-    ensures follows { OnOk result ((pushed : List ℕ) → Follows reader.old pushed count.old → Follows reader.new pushed count.new) }
-    ensures all { OnOk result ((pushed : List ℕ) → Follows reader.old pushed count.old →
-        count.new ≡ length (known_commands reader.old.lines.limit reader.old.lines.finished pushed)) }
+    ensures follows { OnOk result ((pushed : List ℕ) → FollowsScript reader.old pushed count.old → FollowsScript reader.new pushed count.new) }
+    ensures all { OnOk result ((pushed : List ℕ) → FollowsScript reader.old pushed count.old →
+        count.new ≡ length (known_script (limit_of reader.old) (is_finished reader.old) pushed)) }
     ensures few { OnOk result (engine.new.store.changes ≤ count.new) }
-    ensures written { OnOk result ((pushed : List ℕ) (history : History) → Follows reader.old pushed count.old → Stands engine.old.store engine.old.subscriptions.items history →
-        Appends (O.held output.old) (O.held output.new) (out_of history (count.old + 1) (drop count.old (known_commands reader.old.lines.limit reader.old.lines.finished pushed)))
-        × Stands engine.new.store engine.new.subscriptions.items (history_of history (drop count.old (known_commands reader.old.lines.limit reader.old.lines.finished pushed)))) }
-    ensures no_memory { IsErrOf result Stop.NoMemory → (pushed : List ℕ) (history : History) → Follows reader.old pushed count.old → Stands engine.old.store engine.old.subscriptions.items history →
-        AppendsPrefix (O.held output.old) (O.held output.new) (out_of history (count.old + 1) (drop count.old (known_commands reader.old.lines.limit reader.old.lines.finished pushed))) }
-    ensures write { IsErrOf result Stop.WriteFault → (pushed : List ℕ) (history : History) → Follows reader.old pushed count.old → Stands engine.old.store engine.old.subscriptions.items history →
-        AppendsProperPrefix (O.held output.old) (O.held output.new) (out_of history (count.old + 1) (drop count.old (known_commands reader.old.lines.limit reader.old.lines.finished pushed))) }
+    ensures written { OnOk result ((pushed : List ℕ) (history : History) → FollowsScript reader.old pushed count.old → Stands engine.old.store engine.old.subscriptions.items history →
+        Appends (O.held output.old) (O.held output.new) (out_of history (count.old + 1) (drop count.old (known_script (limit_of reader.old) (is_finished reader.old) pushed)))
+        × Stands engine.new.store engine.new.subscriptions.items (history_of history (drop count.old (known_script (limit_of reader.old) (is_finished reader.old) pushed)))) }
+    ensures no_memory { IsErrOf result Stop.NoMemory → (pushed : List ℕ) (history : History) → FollowsScript reader.old pushed count.old → Stands engine.old.store engine.old.subscriptions.items history →
+        AppendsPrefix (O.held output.old) (O.held output.new) (out_of history (count.old + 1) (drop count.old (known_script (limit_of reader.old) (is_finished reader.old) pushed))) }
+    ensures write { IsErrOf result Stop.WriteFault → (pushed : List ℕ) (history : History) → FollowsScript reader.old pushed count.old → Stands engine.old.store engine.old.subscriptions.items history →
+        AppendsProperPrefix (O.held output.old) (O.held output.new) (out_of history (count.old + 1) (drop count.old (known_script (limit_of reader.old) (is_finished reader.old) pushed))) }
     ensures later { O.faults output.old ≤ O.faults output.new }
     ensures cause { IsErrOf result Stop.WriteFault → Rose (O.faults output.old) (O.faults output.new) }
-    ensures limit { reader.new.lines.limit ≡ reader.old.lines.limit }
-    ensures finished { reader.new.lines.finished ≡ reader.old.lines.finished }
+    ensures limit { limit_of reader.new ≡ limit_of reader.old }
+    ensures finished { is_finished reader.new ≡ is_finished reader.old }
 {
     'commands: loop {
         match reader.next() {
-            Ok(NextCommand::Lines(lines)) => {
-                answer_one(alloc, engine, *count + 1, &lines, output)?;
+            Ok(Next::Command(command)) => {
+                answer_one(alloc, engine, *count + 1, command, output)?;
                 *count += 1;
             }
-            Ok(NextCommand::Wanting | NextCommand::End) => return Ok(()),
+            Ok(Next::Wanting | Next::End) => return Ok(()),
             Err(AllocError) => return Err(Stop::NoMemory),
         }
     }

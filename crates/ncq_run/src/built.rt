@@ -1,12 +1,11 @@
 //! What is built of the language of commands; every other command is refused.
-ghost use Rattle.std.specs.Prelude.{◌≡◌, ◌≤◌, Some, None, IfOk, MatchOption, length, take, drop};
-ghost use Rattle.std.specs.List.{list_all, prefix_len};
-ghost use Rattle.ncq_base.specs.Names.{is_name_byte};
-ghost use Rattle.ncq_run.specs.Built.{after_front, cut, is_literal_byte, is_no_quote, is_no_space, front_places, back_places, places_of, are_good, query_at, query_of, create_of, built};
+ghost use Rattle.std.specs.Prelude.{◌≡◌, Some, None, IfOk, MatchOption};
+ghost use Rattle.ncq_run.specs.Built.{is_plain, literal_in, parts_in, element_variable, part_form, arm_form, match_form, is_variable, is_plain_print, statement_form, query_at, query_of, create_of, built};
 
 use crate::command::{BuiltCommand, ChildQuery};
-use ncq_base::{atom_of, bytes_of, is_name, is_name_byte, is_space};
-use ncq_script::{Command, Refusal, is_source_name};
+use ncq_base::{Bytes, Copied, atom_of};
+use ncq_script::{Command, Refusal};
+use ncq_xmlql::{Content, Operand, Pattern, QueryItem, Statement, Suffix, Template};
 use std::alloc::{AllocError, Global};
 
 /// The command where its form is built, or its refusal.
@@ -19,7 +18,7 @@ pub(crate) fn built(
     match command {
         Command::Declare { name, root, key } => Ok(Ok(BuiltCommand::Declare { name, root, key })),
         Command::Delta { source, items } => Ok(Ok(BuiltCommand::Delta { source, items })),
-        Command::Create { text } => create_of(alloc, text.as_slice()),
+        Command::Create { statement } => create_of(alloc, &statement),
         Command::Delete { .. } => Ok(Err(Refusal::Unbuilt)),
         Command::Clock { .. } => Ok(Err(Refusal::Unbuilt)),
         Command::Report => Ok(Err(Refusal::Unbuilt)),
@@ -28,189 +27,192 @@ pub(crate) fn built(
 }
 
 /// The create that a statement says.
-fn create_of(alloc: Global, text: &[u8]) -> Result<Result<BuiltCommand, Refusal>, AllocError>
-    ensures { IfOk result (λ answer. answer ≡ create_of (query_of text.now)) }
+fn create_of(
+    alloc: Global,
+    statement: &Statement,
+) -> Result<Result<BuiltCommand, Refusal>, AllocError>
+    ensures { IfOk result (λ answer. answer ≡ create_of (query_of statement.now)) }
 {
-    match query_of(alloc, text)? {
+    match query_of(alloc, statement)? {
         Some(query) => Ok(Ok(BuiltCommand::Create { query })),
         None => Ok(Err(Refusal::Unbuilt)),
     }
 }
 
-/// The free places of a statement of the built form.
+/// What is free in a match of the built form.
 #[derive(Clone, Copy)]
-struct Places<'a> {
-    name: &'a [u8],
-    root: &'a [u8],
-    tag: &'a [u8],
-    child: &'a [u8],
-    literal: &'a [u8],
-    source: &'a [u8],
+struct ChildForm<'a> {
+    root: &'a Bytes,
+    tag: &'a Bytes,
+    child: &'a Bytes,
+    literal: &'a Bytes,
+    variable: &'a Bytes,
+    source: &'a Bytes,
 }
 
 /// The query of a statement of the built form.
-fn query_of(alloc: Global, text: &[u8]) -> Result<Option<ChildQuery>, AllocError>
-    ensures { IfOk result (λ query. query ≡ query_of text.now) }
+fn query_of(alloc: Global, statement: &Statement) -> Result<Option<ChildQuery>, AllocError>
+    ensures { IfOk result (λ query. query ≡ query_of statement.now) }
 {
-    let Some(places) = places_of(text) else {
+    let Some(form) = statement_form(statement) else {
         return Ok(None);
     };
-    if !are_good(places) {
+    if !is_variable(form.variable, &statement.query.template) {
         return Ok(None);
     }
-    Ok(Some(query_at(alloc, places)?))
+    Ok(Some(query_at(alloc, &statement.name, form)?))
 }
 
-fn query_at(alloc: Global, places: Places<'_>) -> Result<ChildQuery, AllocError>
-    ensures { IfOk result (λ query. query ≡ query_at (record {
-      name = places.entry.name.now;
-      root = places.entry.root.now;
-      tag = places.entry.tag.now;
-      child = places.entry.child.now;
-      literal = places.entry.literal.now;
-      source = places.entry.source.now;
+fn query_at(alloc: Global, name: &Bytes, form: ChildForm<'_>) -> Result<ChildQuery, AllocError>
+    ensures { IfOk result (λ query. query ≡ query_at name.now (record {
+      root = form.entry.root.now;
+      tag = form.entry.tag.now;
+      child = form.entry.child.now;
+      literal = form.entry.literal.now;
+      variable = form.entry.variable.now;
+      source = form.entry.source.now;
     })) }
 {
     Ok(ChildQuery {
-        name: bytes_of(alloc, places.name)?,
-        source: bytes_of(alloc, places.source)?,
-        root: bytes_of(alloc, places.root)?,
-        tag: bytes_of(alloc, places.tag)?,
-        child: bytes_of(alloc, places.child)?,
-        wanted: atom_of(alloc, places.literal)?,
+        name: name.copy(alloc)?,
+        source: form.source.copy(alloc)?,
+        root: form.root.copy(alloc)?,
+        tag: form.tag.copy(alloc)?,
+        child: form.child.copy(alloc)?,
+        wanted: atom_of(alloc, form.literal.as_slice())?,
     })
 }
 
-fn are_good(places: Places<'_>) -> bool
-    ensures { result ≡ are_good (record {
-      name = places.entry.name.now;
-      root = places.entry.root.now;
-      tag = places.entry.tag.now;
-      child = places.entry.child.now;
-      literal = places.entry.literal.now;
-      source = places.entry.source.now;
-    }) }
-{
-    is_name(places.name)
-        && is_name(places.root)
-        && is_name(places.tag)
-        && is_name(places.child)
-        && !places.literal.is_empty()
-        && is_source_name(places.source)
-        && has_no_space(places.source)
-}
-
-fn has_no_space(text: &[u8]) -> bool
-    ensures { result ≡ list_all is_no_space text.now }
-{
-    text.iter().all(|b| !is_space(*b))
-}
-
-fn places_of(text: &[u8]) -> Option<Places<'_>>
-    ensures { MatchOption result (places_of text.now ≡ None) (λ places. places_of text.now ≡ Some (record {
-      name = places.name.now;
-      root = places.root.now;
-      tag = places.tag.now;
-      child = places.child.now;
-      literal = places.literal.now;
-      source = places.source.now;
+/// The one match of a statement that prints its element.
+fn statement_form(statement: &Statement) -> Option<ChildForm<'_>>
+    ensures { MatchOption result (statement_form statement.now ≡ None) (λ form. statement_form statement.now ≡ Some (record {
+      root = form.root.now;
+      tag = form.tag.now;
+      child = form.child.now;
+      literal = form.literal.now;
+      variable = form.variable.now;
+      source = form.source.now;
     })) }
 {
-    let (name, root, tag, child, rest) = front_places(text)?;
-    let (literal, source) = back_places(rest)?;
-    Some(Places {
-        name,
-        root,
-        tag,
-        child,
-        literal,
-        source,
-    })
-}
-
-/// What stands in `create <name> WHERE <<root>><<tag>><<child>>`, and what stands behind it.
-fn front_places(text: &[u8]) -> Option<(&[u8], &[u8], &[u8], &[u8], &[u8])>
-    ensures { MatchOption result (front_places text.now ≡ None)
-        (λ p. front_places text.now ≡ Some (p.0.now, p.1.now, p.2.now, p.3.now, p.4.now)) }
-{
-    let begun = after_front(b"create ", text)?;
-    let (name, rest) = cut_name(b" WHERE <", begun)?;
-    let (root, rest) = cut_name(b"><", rest)?;
-    let (tag, rest) = cut_name(b"><", rest)?;
-    let (child, rest) = cut_name(b">", rest)?;
-    Some((name, root, tag, child, rest))
-}
-
-/// The literal and the name of the source, in the rest of the statement.
-fn back_places(text: &[u8]) -> Option<(&[u8], &[u8])>
-    ensures { MatchOption result (back_places text.now ≡ None) (λ p. back_places text.now ≡ Some (p.0.now, p.1.now)) }
-{
-    let (literal, rest) = cut_literal(b"</></> ELEMENT_AS $g</> IN \"", text)?;
-    let (source, rest) = cut_quoted(b"\" CONSTRUCT $g DO print", rest)?;
-    match rest {
-        [] => Some((literal, source)),
+    if !is_plain_print(statement) {
+        return None;
+    }
+    match statement.query.items.as_slice() {
+        [item] => match_form(item),
         _ => None,
     }
 }
 
-fn after_front<'a>(front: &[u8], text: &'a [u8]) -> Option<&'a [u8]>
-    ensures { MatchOption result (after_front front.now text.now ≡ None) (λ rest. after_front front.now text.now ≡ Some rest.now) }
+fn is_plain_print(statement: &Statement) -> bool
+    ensures { result ≡ is_plain_print statement.now }
 {
-    text.strip_prefix(front)
+    statement.action.as_slice() == b"print".as_slice()
+        && statement.argument.is_none()
+        && statement.start.is_none()
+        && statement.every == 0
+        && statement.expire.is_none()
 }
 
-/// Cuts the text at a place, where the marker stands.
-fn cut_at<'a>(at: usize, marker: &[u8], text: &'a [u8]) -> Option<(&'a [u8], &'a [u8])>
-    requires { at ≤ length text.now }
-    ensures { MatchOption result (after_front marker.now (drop at text.now) ≡ None)
-        (λ p. (p.0.now ≡ take at text.now) × (after_front marker.now (drop at text.now) ≡ Some p.1.now)) }
+fn match_form(item: &QueryItem) -> Option<ChildForm<'_>>
+    ensures { MatchOption result (match_form item.now ≡ None) (λ form. match_form item.now ≡ Some (record {
+      root = form.root.now;
+      tag = form.tag.now;
+      child = form.child.now;
+      literal = form.literal.now;
+      variable = form.variable.now;
+      source = form.source.now;
+    })) }
 {
-    let (front, behind) = text.split_at(at);
-    let rest = after_front(marker, behind)?;
-    Some((front, rest))
+    let QueryItem::Match { root, arms, source } = item else {
+        return None;
+    };
+    match arms.as_slice() {
+        [arm] => arm_form(root, source, arm),
+        _ => None,
+    }
 }
 
-fn cut_name<'a>(marker: &[u8], text: &'a [u8]) -> Option<(&'a [u8], &'a [u8])>
-    ensures { MatchOption result (cut is_name_byte marker.now text.now ≡ None) (λ p. cut is_name_byte marker.now text.now ≡ Some (p.0.now, p.1.now)) }
+fn arm_form<'a>(root: &'a Bytes, source: &'a Bytes, arm: &'a Pattern) -> Option<ChildForm<'a>>
+    ensures { MatchOption result (arm_form root.now source.now arm.now ≡ None) (λ form. arm_form root.now source.now arm.now ≡ Some (record {
+      root = form.root.now;
+      tag = form.tag.now;
+      child = form.child.now;
+      literal = form.literal.now;
+      variable = form.variable.now;
+      source = form.source.now;
+    })) }
 {
-    cut_at(name_len(text), marker, text)
+    if !arm.attributes.as_slice().is_empty() {
+        return None;
+    }
+    let variable = element_variable(&arm.suffix)?;
+    let [part] = parts_in(&arm.content) else {
+        return None;
+    };
+    let (child, literal) = part_form(part)?;
+    Some(ChildForm {
+        root,
+        tag: &arm.tag,
+        child,
+        literal,
+        variable,
+        source,
+    })
 }
 
-fn cut_literal<'a>(marker: &[u8], text: &'a [u8]) -> Option<(&'a [u8], &'a [u8])>
-    ensures { MatchOption result (cut is_literal_byte marker.now text.now ≡ None) (λ p. cut is_literal_byte marker.now text.now ≡ Some (p.0.now, p.1.now)) }
+/// The tag and the literal of a part that has no attributes, no suffix and a literal as its content.
+fn part_form(part: &Pattern) -> Option<(&Bytes, &Bytes)>
+    ensures { MatchOption result (part_form part.now ≡ None) (λ found. part_form part.now ≡ Some (found.0.now, found.1.now)) }
 {
-    cut_at(literal_len(text), marker, text)
+    if !part.attributes.as_slice().is_empty() || !is_plain(&part.suffix) {
+        return None;
+    }
+    let literal = literal_in(&part.content)?;
+    Some((&part.tag, literal))
 }
 
-fn cut_quoted<'a>(marker: &[u8], text: &'a [u8]) -> Option<(&'a [u8], &'a [u8])>
-    ensures { MatchOption result (cut is_no_quote marker.now text.now ≡ None) (λ p. cut is_no_quote marker.now text.now ≡ Some (p.0.now, p.1.now)) }
+fn is_plain(suffix: &Suffix) -> bool
+    ensures { result ≡ is_plain suffix.now }
 {
-    cut_at(quoted_len(text), marker, text)
+    matches!(suffix, Suffix::Plain)
 }
 
-fn name_len(text: &[u8]) -> usize
-    ensures value { result ≡ prefix_len is_name_byte text.now }
-    ensures within { result ≤ length text.now }
+/// The variable that binds the whole element.
+fn element_variable(suffix: &Suffix) -> Option<&Bytes>
+    ensures { MatchOption result (element_variable suffix.now ≡ None) (λ x. element_variable suffix.now ≡ Some x.now) }
 {
-    text.iter().take_while(|b| is_name_byte(**b)).count()
+    match suffix {
+        Suffix::ElementAs(x) => Some(x),
+        Suffix::Plain | Suffix::ContentAs(_) => None,
+    }
 }
 
-fn literal_len(text: &[u8]) -> usize
-    ensures value { result ≡ prefix_len is_literal_byte text.now }
-    ensures within { result ≤ length text.now }
+/// The patterns in a content.
+fn parts_in(content: &Content) -> &[Pattern]
+    ensures { result.now ≡ parts_in content.now }
 {
-    text.iter().take_while(|b| is_literal_byte(**b)).count()
+    match content {
+        Content::Parts(parts) => parts.as_slice(),
+        Content::Value(_) => &[],
+    }
 }
 
-fn is_literal_byte(byte: u8) -> bool
-    ensures { result ≡ is_literal_byte byte }
+/// The literal that is a content.
+fn literal_in(content: &Content) -> Option<&Bytes>
+    ensures { MatchOption result (literal_in content.now ≡ None) (λ text. literal_in content.now ≡ Some text.now) }
 {
-    byte.is_ascii_alphabetic() || byte.is_ascii_digit() || byte == b'.'
+    match content {
+        Content::Value(Operand::Literal(text)) => Some(text),
+        Content::Value(Operand::Variable(_)) | Content::Parts(_) => None,
+    }
 }
 
-fn quoted_len(text: &[u8]) -> usize
-    ensures value { result ≡ prefix_len is_no_quote text.now }
-    ensures within { result ≤ length text.now }
+/// Whether the template is this variable.
+fn is_variable(x: &Bytes, template: &Template) -> bool
+    ensures { result ≡ is_variable x.now template.now }
 {
-    text.iter().take_while(|b| **b != b'"').count()
+    match template {
+        Template::Variable(y) => *x == *y,
+        Template::Literal(_) | Template::Element { .. } => false,
+    }
 }

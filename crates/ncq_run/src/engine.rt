@@ -9,7 +9,7 @@ use crate::command::{BuiltCommand, ChildQuery, Subscription};
 use crate::tell::{tell_changed, tell_whole};
 use ncq_base::{Bytes, write_decimal};
 use ncq_pyx::Items;
-use ncq_script::{CommandLines, Refusal, read, write_refused};
+use ncq_script::{Command, Refusal, write_refused};
 use ncq_source::{ChangeError, DeclareError, Key, Store};
 use std::alloc::{AllocError, Global};
 
@@ -37,16 +37,16 @@ impl Engine {
         &mut self,
         alloc: Global,
         number: u64,
-        lines: &CommandLines,
+        command: Command,
         out: &mut Vec<u8>,
     ) -> Result<(), AllocError>
         requires few { self.old.store.changes < number }
         requires small { number < 2 ^ 60 }
         ensures answers { OnOk result ((history : History) → Stands self.old.store self.old.subscriptions.items history →
-            (out.new.items ≡ out.old.items ++ answer_to history number lines.now) × Stands self.new.store self.new.subscriptions.items (after history lines.now)) }
+            (out.new.items ≡ out.old.items ++ answer_to history number command) × Stands self.new.store self.new.subscriptions.items (after history command)) }
         ensures few { self.new.store.changes ≤ number }
     {
-        match built(alloc, read(alloc, lines)?)? {
+        match built(alloc, command)? {
             Ok(command) => self.apply(alloc, number, command, out),
             Err(refusal) => write_refused(number, &refusal, out),
         }
@@ -152,7 +152,7 @@ impl Engine {
             return write_refused(number, &Refusal::NoSource, out);
         };
         if *self.store.root_of(source) != query.root {
-            return write_refused(number, &Refusal::Unbuilt, out);
+            return write_refused(number, &Refusal::Root, out);
         }
         write_ok(number, out)?;
         tell_whole(alloc, &query, &self.store, source, out)?;

@@ -2,8 +2,8 @@
 ghost use Rattle.std.specs.Prelude.{◌≡◌, ◌≢◌, ◌+◌, ◌-◌, ◌<◌, ◌≤◌, ◌^◌, ◌++◌, ℕ, List, Option, OnOk, OnErr, IfOk, IfSome, IfNone, IsErrOf, IsTrue, ◌↔◌, false, length, take};
 ghost use Rattle.std.specs.Io.KnownBytes.{Appends, Consumes, Keeps, IsAtEnd};
 ghost use Rattle.ncq_outside.specs.Causes.{HasCause, Rose, RoseBy};
-ghost use Rattle.ncq_script.specs.Commands.{commands, whole_commands};
-ghost use Rattle.ncq_script.specs.Reading.{Follows};
+ghost use Rattle.ncq_script.specs.Script.{script, whole_script};
+ghost use Rattle.ncq_script.specs.ScriptReading.{FollowsScript, limit_of, is_finished};
 ghost use Rattle.ncq_run.specs.Status.{Told, told, Ended, IsRun, exit_code_of, AppendsPrefix, AppendsProperPrefix};
 ghost use Rattle.ncq_run.specs.Session.{SoFar, IsReady};
 ghost use Rattle.ncq_run.specs.Stands.{Stands};
@@ -13,7 +13,7 @@ use crate::answer::{Stop, answer_commands};
 use crate::engine::Engine;
 use ncq_base::Steps;
 use ncq_outside::{Failed, Sink, Source};
-use ncq_script::CommandReader;
+use ncq_script::ScriptReader;
 use std::alloc::{AllocError, Global};
 use std::sync::ledger::Ledger;
 
@@ -60,33 +60,33 @@ fn fill<I: Source>(input: &mut I, buffer: &mut [u8], most: usize) -> Result<usiz
 /// Pushes a piece, and answers the commands that are whole now.
 fn answer_piece<O: Sink>(
     alloc: Global,
-    reader: &mut CommandReader,
+    reader: &mut ScriptReader,
     engine: &mut Engine,
     count: &mut u64,
     output: &mut O,
     piece: &[u8],
 ) -> Result<(), Stop>
-    requires some { (pushed : List ℕ) × Follows reader.old pushed count.old × (length pushed + length piece.now < 2 ^ 59) }
+    requires some { (pushed : List ℕ) × FollowsScript reader.old pushed count.old × (length pushed + length piece.now < 2 ^ 59) }
     requires few { engine.old.store.changes ≤ count.old }
-    requires is_open { reader.old.lines.finished ≡ false }
-    ensures follows { OnOk result ((pushed : List ℕ) → Follows reader.old pushed count.old → Follows reader.new (pushed ++ piece.now) count.new) }
-    ensures counted { OnOk result ((pushed : List ℕ) → Follows reader.old pushed count.old →
-        count.new ≡ length (whole_commands reader.old.lines.limit (pushed ++ piece.now))) }
+    requires is_open { is_finished reader.old ≡ false }
+    ensures follows { OnOk result ((pushed : List ℕ) → FollowsScript reader.old pushed count.old → FollowsScript reader.new (pushed ++ piece.now) count.new) }
+    ensures counted { OnOk result ((pushed : List ℕ) → FollowsScript reader.old pushed count.old →
+        count.new ≡ length (whole_script (limit_of reader.old) (pushed ++ piece.now))) }
     ensures few { OnOk result (engine.new.store.changes ≤ count.new) }
-    ensures written { OnOk result ((pushed : List ℕ) → Follows reader.old pushed count.old → count.old ≡ length (whole_commands reader.old.lines.limit pushed) →
-        Stands engine.old.store engine.old.subscriptions.items (history_of_whole reader.old.lines.limit pushed) → (before : Option (List ℕ)) →
-        Appends before (O.held output.old) (output_of_whole reader.old.lines.limit pushed) → Appends before (O.held output.new) (output_of_whole reader.old.lines.limit (pushed ++ piece.now))
-        × Stands engine.new.store engine.new.subscriptions.items (history_of_whole reader.old.lines.limit (pushed ++ piece.now))) }
-    ensures no_memory { IsErrOf result Stop.NoMemory → (pushed : List ℕ) → Follows reader.old pushed count.old → count.old ≡ length (whole_commands reader.old.lines.limit pushed) →
-        Stands engine.old.store engine.old.subscriptions.items (history_of_whole reader.old.lines.limit pushed) → (before : Option (List ℕ)) →
-        Appends before (O.held output.old) (output_of_whole reader.old.lines.limit pushed) → (more : List ℕ) → AppendsPrefix before (O.held output.new) (output_of reader.old.lines.limit ((pushed ++ piece.now) ++ more)) }
-    ensures write { IsErrOf result Stop.WriteFault → (pushed : List ℕ) → Follows reader.old pushed count.old → count.old ≡ length (whole_commands reader.old.lines.limit pushed) →
-        Stands engine.old.store engine.old.subscriptions.items (history_of_whole reader.old.lines.limit pushed) → (before : Option (List ℕ)) →
-        Appends before (O.held output.old) (output_of_whole reader.old.lines.limit pushed) → (more : List ℕ) → AppendsProperPrefix before (O.held output.new) (output_of reader.old.lines.limit ((pushed ++ piece.now) ++ more)) }
+    ensures written { OnOk result ((pushed : List ℕ) → FollowsScript reader.old pushed count.old → count.old ≡ length (whole_script (limit_of reader.old) pushed) →
+        Stands engine.old.store engine.old.subscriptions.items (history_of_whole (limit_of reader.old) pushed) → (before : Option (List ℕ)) →
+        Appends before (O.held output.old) (output_of_whole (limit_of reader.old) pushed) → Appends before (O.held output.new) (output_of_whole (limit_of reader.old) (pushed ++ piece.now))
+        × Stands engine.new.store engine.new.subscriptions.items (history_of_whole (limit_of reader.old) (pushed ++ piece.now))) }
+    ensures no_memory { IsErrOf result Stop.NoMemory → (pushed : List ℕ) → FollowsScript reader.old pushed count.old → count.old ≡ length (whole_script (limit_of reader.old) pushed) →
+        Stands engine.old.store engine.old.subscriptions.items (history_of_whole (limit_of reader.old) pushed) → (before : Option (List ℕ)) →
+        Appends before (O.held output.old) (output_of_whole (limit_of reader.old) pushed) → (more : List ℕ) → AppendsPrefix before (O.held output.new) (output_of (limit_of reader.old) ((pushed ++ piece.now) ++ more)) }
+    ensures write { IsErrOf result Stop.WriteFault → (pushed : List ℕ) → FollowsScript reader.old pushed count.old → count.old ≡ length (whole_script (limit_of reader.old) pushed) →
+        Stands engine.old.store engine.old.subscriptions.items (history_of_whole (limit_of reader.old) pushed) → (before : Option (List ℕ)) →
+        Appends before (O.held output.old) (output_of_whole (limit_of reader.old) pushed) → (more : List ℕ) → AppendsProperPrefix before (O.held output.new) (output_of (limit_of reader.old) ((pushed ++ piece.now) ++ more)) }
     ensures later { O.faults output.old ≤ O.faults output.new }
     ensures cause { IsErrOf result Stop.WriteFault → Rose (O.faults output.old) (O.faults output.new) }
-    ensures limit { reader.new.lines.limit ≡ reader.old.lines.limit }
-    ensures is_open { reader.new.lines.finished ≡ false }
+    ensures limit { limit_of reader.new ≡ limit_of reader.old }
+    ensures is_open { is_finished reader.new ≡ false }
 {
     match reader.push(piece) {
         Ok(()) => answer_commands(alloc, reader, engine, count, output),
@@ -97,26 +97,26 @@ fn answer_piece<O: Sink>(
 /// Marks the end, and answers the last command.
 fn answer_rest<O: Sink>(
     alloc: Global,
-    reader: &mut CommandReader,
+    reader: &mut ScriptReader,
     engine: &mut Engine,
     count: &mut u64,
     output: &mut O,
 ) -> Result<(), Stop>
-    requires some { (pushed : List ℕ) × Follows reader.old pushed count.old × (length pushed < 2 ^ 59) }
+    requires some { (pushed : List ℕ) × FollowsScript reader.old pushed count.old × (length pushed < 2 ^ 59) }
     requires few { engine.old.store.changes ≤ count.old }
-    ensures counted { OnOk result ((pushed : List ℕ) → Follows reader.old pushed count.old → count.new ≡ length (commands reader.old.lines.limit pushed)) }
-    ensures written { OnOk result ((pushed : List ℕ) → Follows reader.old pushed count.old → count.old ≡ length (whole_commands reader.old.lines.limit pushed) →
-        Stands engine.old.store engine.old.subscriptions.items (history_of_whole reader.old.lines.limit pushed) → (before : Option (List ℕ)) →
-        Appends before (O.held output.old) (output_of_whole reader.old.lines.limit pushed) → Appends before (O.held output.new) (output_of reader.old.lines.limit pushed)) }
-    ensures no_memory { IsErrOf result Stop.NoMemory → (pushed : List ℕ) → Follows reader.old pushed count.old → count.old ≡ length (whole_commands reader.old.lines.limit pushed) →
-        Stands engine.old.store engine.old.subscriptions.items (history_of_whole reader.old.lines.limit pushed) → (before : Option (List ℕ)) →
-        Appends before (O.held output.old) (output_of_whole reader.old.lines.limit pushed) → AppendsPrefix before (O.held output.new) (output_of reader.old.lines.limit pushed) }
-    ensures write { IsErrOf result Stop.WriteFault → (pushed : List ℕ) → Follows reader.old pushed count.old → count.old ≡ length (whole_commands reader.old.lines.limit pushed) →
-        Stands engine.old.store engine.old.subscriptions.items (history_of_whole reader.old.lines.limit pushed) → (before : Option (List ℕ)) →
-        Appends before (O.held output.old) (output_of_whole reader.old.lines.limit pushed) → AppendsProperPrefix before (O.held output.new) (output_of reader.old.lines.limit pushed) }
+    ensures counted { OnOk result ((pushed : List ℕ) → FollowsScript reader.old pushed count.old → count.new ≡ length (script (limit_of reader.old) pushed)) }
+    ensures written { OnOk result ((pushed : List ℕ) → FollowsScript reader.old pushed count.old → count.old ≡ length (whole_script (limit_of reader.old) pushed) →
+        Stands engine.old.store engine.old.subscriptions.items (history_of_whole (limit_of reader.old) pushed) → (before : Option (List ℕ)) →
+        Appends before (O.held output.old) (output_of_whole (limit_of reader.old) pushed) → Appends before (O.held output.new) (output_of (limit_of reader.old) pushed)) }
+    ensures no_memory { IsErrOf result Stop.NoMemory → (pushed : List ℕ) → FollowsScript reader.old pushed count.old → count.old ≡ length (whole_script (limit_of reader.old) pushed) →
+        Stands engine.old.store engine.old.subscriptions.items (history_of_whole (limit_of reader.old) pushed) → (before : Option (List ℕ)) →
+        Appends before (O.held output.old) (output_of_whole (limit_of reader.old) pushed) → AppendsPrefix before (O.held output.new) (output_of (limit_of reader.old) pushed) }
+    ensures write { IsErrOf result Stop.WriteFault → (pushed : List ℕ) → FollowsScript reader.old pushed count.old → count.old ≡ length (whole_script (limit_of reader.old) pushed) →
+        Stands engine.old.store engine.old.subscriptions.items (history_of_whole (limit_of reader.old) pushed) → (before : Option (List ℕ)) →
+        Appends before (O.held output.old) (output_of_whole (limit_of reader.old) pushed) → AppendsProperPrefix before (O.held output.new) (output_of (limit_of reader.old) pushed) }
     ensures later { O.faults output.old ≤ O.faults output.new }
     ensures cause { IsErrOf result Stop.WriteFault → Rose (O.faults output.old) (O.faults output.new) }
-    ensures limit { reader.new.lines.limit ≡ reader.old.lines.limit }
+    ensures limit { limit_of reader.new ≡ limit_of reader.old }
 {
     reader.finish();
     answer_commands(alloc, reader, engine, count, output)
@@ -133,7 +133,7 @@ fn front_of(bytes: &[u8], end: usize) -> &[u8]
 /// How far a session has come, and its limit.
 #[derive(Drop)]
 struct Session {
-    reader: CommandReader,
+    reader: ScriptReader,
     engine: Engine,
     buffer: Vec<u8>,
     count: u64,
@@ -157,9 +157,10 @@ fn turn<I: Source, O: Sink>(
         (told (I.left input.new) (O.held output.new) (I.given input.new) (I.faults input.new) (O.faults output.new))) }
     ensures ends { IfSome result (λ status. (start : Told) → SoFar session.old.reader session.old.engine.store session.old.engine.subscriptions.items session.old.count session.old.taken start
         (told (I.left input.old) (O.held output.old) (I.given input.old) (I.faults input.old) (O.faults output.old)) →
-        Ended session.old.reader.lines.limit session.old.most start
+        Ended (limit_of session.old.reader) session.old.most start
         (told (I.left input.new) (O.held output.new) (I.given input.new) (I.faults input.new) (O.faults output.new)) status) }
-    ensures limits { (session.new.most ≡ session.old.most) × (session.new.reader.lines.limit ≡ session.old.reader.lines.limit) }
+    ensures within { I.given input.new ≤ I.given input.old + (session.old.most - session.old.taken + 1) }
+    ensures limits { (session.new.most ≡ session.old.most) × (limit_of session.new.reader ≡ limit_of session.old.reader) }
 {
     let room = session.most - session.taken;
     let Ok(got) = fill(input, &mut session.buffer, PIECE.min(room + 1)) else {
@@ -208,15 +209,16 @@ fn serve<I: Source, O: Sink>(
 ) -> Status
     requires most { most < 2 ^ 59 }
     requires limit { limit < 2 ^ 59 }
-    ensures { Ended limit most
+    ensures ended { Ended limit most
         (told (I.left input.old) (O.held output.old) (I.given input.old) (I.faults input.old) (O.faults output.old))
         (told (I.left input.new) (O.held output.new) (I.given input.new) (I.faults input.new) (O.faults output.new)) result }
+    ensures within { I.given input.new ≤ I.given input.old + (most + 1) }
 {
     let Ok(buffer) = vec![in alloc; 0u8; PIECE] else {
         return Status::NoMemory;
     };
     let mut session = Session {
-        reader: CommandReader::new(alloc, limit),
+        reader: ScriptReader::new(alloc, limit),
         engine: Engine::new(alloc),
         buffer,
         count: 0,
@@ -245,8 +247,9 @@ fn is_run(words: &[&str]) -> bool
 /// `Usage` comes exactly where the words are not the one word `run`; then nothing is read or written.
 /// `Done` means that the script was read to its end and that `output` was extended by the whole defined output.
 /// `ReadFault` and `WriteFault` come only where a read or a write failed in this call, `ScriptTooLong` only
-/// where the source gave more than `MAX_SCRIPT` bytes in this call. After each of them, and after `NoMemory`, `output` was extended by a
-/// front of the defined output. No row is made yet, so `steps` stays.
+/// where the source gave more than `MAX_SCRIPT` bytes in this call. After each of them, and after `NoMemory`, `output` was
+/// extended by a front of the defined output. No more than one byte past `MAX_SCRIPT` is read.
+/// No row is made yet, so `steps` stays.
 pub fn run<I: Source, O: Sink, L: Ledger>(
     alloc: Global,
     words: &[&str],
@@ -259,6 +262,7 @@ pub fn run<I: Source, O: Sink, L: Ledger>(
     ensures ended { IsRun words.now → Ended MAX_LINE MAX_SCRIPT
         (told (I.left input.old) (O.held output.old) (I.given input.old) (I.faults input.old) (O.faults output.old))
         (told (I.left input.new) (O.held output.new) (I.given input.new) (I.faults input.new) (O.faults output.new)) result }
+    ensures within { I.given input.new ≤ I.given input.old + (MAX_SCRIPT + 1) }
     ensures steps { steps.new ≡ steps.old }
 {
     let _ = steps;

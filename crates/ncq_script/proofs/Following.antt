@@ -37,11 +37,6 @@ unfolding whole_commands
 all_whole limit false pushed listed is_open e = ap (filter is_closed) e
 all_whole limit true pushed listed is_open e = let bad : true ≡ false = is_open in cc
 
-pub all_commands : (limit limit' : ℕ) (finished : Bool) (pushed : List ℕ) (listed : List CommandLines) → limit ≡ limit' → finished ≡ true → commands_of_lines false (known_lines limit finished pushed) ≡ listed → listed ≡ commands limit' pushed
-unfolding commands
-all_commands limit limit' true pushed listed e closed is = rw (← e) (sym is)
-all_commands limit limit' false pushed listed e closed is = let bad : false ≡ true = closed in cc
-
 none_open : (current : Option CommandLines) → IfSome current (λ command. command.closed ≡ false) → filter is_closed (option_to_list current) ≡ []
 none_open None is_open = refl
 none_open (Some command) is_open = rw is_open refl

@@ -8,3 +8,4 @@ mod BlockLaws
 mod CommandLaws
 mod Taken
 mod Following
+mod ScriptLaws

@@ -9,3 +9,6 @@ pub mod Reading
 pub mod NextOfCommands
 pub mod Refusals
 pub mod Reads
+pub mod Script
+pub mod ScriptReading
+pub mod NextOfScript

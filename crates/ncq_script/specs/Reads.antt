@@ -9,6 +9,11 @@ use Rattle.ncq_pyx.specs.declared.turns.Item.{Item}
 use Rattle.ncq_pyx.specs.declared.error.PyxError.{PyxError}
 use Rattle.ncq_pyx.specs.declared.error.PyxError.TheVariants.{BadLine, TooDeep, OutOfMemory}
 use Rattle.ncq_source.specs.declared.key.Key.{Key}
+use Rattle.ncq_xmlql.specs.Answered.{statement_of}
+use Rattle.ncq_xmlql.specs.declared.model.Statement.{Statement}
+use Rattle.ncq_xmlql.specs.declared.statement.StatementError.{StatementError}
+use Rattle.ncq_xmlql.specs.declared.statement.StatementError.TheVariants.{NotAStatement, Limit}
+use Rattle.ncq_xmlql.specs.declared.statement.StatementError.TheVariants as statement_error
 use Rattle.ncq_source.specs.declared.key.Key.TheVariants.{Child, Attribute}
 use Rattle.ncq_script.specs.Lines.{LineText}
 use Rattle.ncq_script.specs.Words.{words}
@@ -60,11 +65,18 @@ abbrev pub delta_form : Option (List ℕ) → CommandLines → Command
 delta_form None lines = Malformed refusal.Command
 delta_form (Some source) lines = if_closed lines.closed (delta_of source (block_of 64 (bytes_of_lines lines.block)))
 
+-- a create of what its text says, or why it says nothing; a text never says that memory ran out
+abbrev pub create_of : Result Statement StatementError → Command
+create_of (Ok statement) = Create statement
+create_of (Err NotAStatement) = Malformed refusal.Query
+create_of (Err (Limit which)) = Malformed (refusal.Limit which)
+create_of (Err statement_error.OutOfMemory) = Malformed refusal.Query
+
 -- the command of lines none of which is long
 abbrev pub form_of : Keyword → CommandLines → Command
 form_of keyword.Source lines = or_refused (declare_of (words lines.head.bytes))
 form_of keyword.Delta lines = delta_form (one_argument (words lines.head.bytes)) lines
-form_of keyword.Create lines = if_closed lines.closed (Create (statement_text lines))
+form_of keyword.Create lines = if_closed lines.closed (create_of (statement_of (statement_text lines)))
 form_of keyword.Delete lines = or_refused (option_map Delete (one_argument (words lines.head.bytes)))
 form_of keyword.Clock lines = or_refused (clock_of (words lines.head.bytes))
 form_of keyword.Report lines = if nat_le (length (words lines.head.bytes)) 1 then Report else Malformed refusal.Command

@@ -3,8 +3,9 @@ ghost use Rattle.std.specs.Prelude.{◌≡◌, if◌then◌else◌, length, nat_
 ghost use Rattle.std.specs.Option.{option_and_then};
 ghost use Rattle.ncq_base.specs.Numbers.{read_u64};
 ghost use Rattle.ncq_pyx.specs.Faults.{block_of};
+ghost use Rattle.ncq_xmlql.specs.Answered.{statement_of};
 ghost use Rattle.ncq_script.specs.Words.{words};
-ghost use Rattle.ncq_script.specs.Reads.{rule_of, declare_of, clock_of, if_closed, bytes_of_lines, delta_of, delta_form, form_of, or_refused, read};
+ghost use Rattle.ncq_script.specs.Reads.{rule_of, declare_of, clock_of, if_closed, bytes_of_lines, delta_of, delta_form, create_of, form_of, or_refused, read};
 ghost use Rattle.ncq_script.specs.Forms.{one_argument};
 
 use crate::command_lines::CommandLines;
@@ -15,6 +16,7 @@ use crate::word::{Keyword, next_word};
 use ncq_base::{Bytes, Limit, Lines, bytes_of, is_pyx_name, read_u64};
 use ncq_pyx::{Items, PyxError, read_block};
 use ncq_source::Key;
+use ncq_xmlql::{Statement, StatementError, parse_statement};
 use std::alloc::{AllocError, Global};
 
 /// What a command says.
@@ -38,8 +40,8 @@ pub enum Command {
     },
     /// Leaves a query.
     Create {
-        /// The statement, its lines joined by line feeds.
-        text: Bytes,
+        /// What is asked, what is made of each answer, and what is done with it. It is well formed.
+        statement: Statement,
     },
     /// Takes a subscription away.
     Delete {
@@ -61,9 +63,10 @@ pub enum Command {
 }
 
 /// What the lines of a command say, or the first refusal of reading: 15 `line` where a line is long; else 1 where the
-/// line has not its form; else 16 where the block has no end; for a delta then 5 or 15 `nesting` at the first faulty line.
+/// line has not its form; else 16 where the block has no end; for a delta then 5 or 15 `nesting` at the first faulty line,
+/// and for a create 10 or 15 with the limit that its text exceeds.
 /// The error is want of memory.
-pub fn read(alloc: Global, lines: &CommandLines) -> Result<Command, AllocError>
+pub(crate) fn read(alloc: Global, lines: &CommandLines) -> Result<Command, AllocError>
     ensures { IfOk result (λ command. command ≡ read lines.now) }
 {
     if has_long(lines) {
@@ -171,9 +174,20 @@ fn create_form(alloc: Global, lines: &CommandLines) -> Result<Command, AllocErro
     if !lines.closed {
         return Ok(refused(Refusal::Unfinished));
     }
-    Ok(Command::Create {
-        text: statement_text(alloc, lines)?,
-    })
+    let text = statement_text(alloc, lines)?;
+    create_of(alloc, &text)
+}
+
+/// The create that a text says.
+fn create_of(alloc: Global, text: &[u8]) -> Result<Command, AllocError>
+    ensures { IfOk result (λ command. command ≡ create_of (statement_of text.now)) }
+{
+    match parse_statement(alloc, text) {
+        Ok(statement) => Ok(Command::Create { statement }),
+        Err(StatementError::NotAStatement) => Ok(refused(Refusal::Query)),
+        Err(StatementError::Limit { which }) => Ok(refused(Refusal::Limit { which })),
+        Err(StatementError::OutOfMemory) => Err(AllocError),
+    }
 }
 
 fn delete_form(alloc: Global, head: &[u8]) -> Result<Command, AllocError>

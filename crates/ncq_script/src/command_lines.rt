@@ -1,18 +1,18 @@
 //! The lines of a script, cut into commands with their blocks.
-ghost use Rattle.std.specs.Prelude.{◌≡◌, ◌<◌, ◌++◌, ◌∷◌, ◌^◌, List, None, true, IfOk, IfSome, OnOk};
+ghost use Rattle.std.specs.Prelude.{◌≡◌, ◌++◌, ◌∷◌, List, None, true, IfOk, IfSome};
 ghost use Rattle.std.specs.Option.{option_to_list};
 ghost use Rattle.ncq_script.specs.Lines.{LineText};
-ghost use Rattle.ncq_script.specs.Commands.{is_end, opens_block, commands};
+ghost use Rattle.ncq_script.specs.Commands.{is_end, opens_block};
 ghost use Rattle.ncq_script.specs.OpenCommands.{commands_behind, opened, lines_so_far, HasRoom};
 
-use crate::line::{Line, LineReader, NextLine};
+use crate::line::Line;
 use crate::word::{Keyword, begins};
 use ncq_base::Sequence;
 use std::alloc::{AllocError, Global};
 
 /// The lines of a command: the one that begins it, and those of its block.
 #[derive(Drop)]
-pub struct CommandLines {
+pub(crate) struct CommandLines {
     /// What the command is called.
     pub keyword: Keyword,
     /// The line that begins it.
@@ -117,46 +117,4 @@ pub(crate) fn give_open(current: &mut Option<OpenCommand>) -> Option<CommandLine
 {
     let command = current.take()?;
     Some(command_from(command, false))
-}
-
-// Adds a command, where there is one.
-fn append(
-    commands: &mut Sequence<CommandLines>,
-    command: Option<CommandLines>,
-) -> Result<(), AllocError>
-    ensures { OnOk result (commands.new ≡ commands.old ++ option_to_list command) }
-{
-    if let Some(command) = command {
-        commands.push(command)?;
-    }
-    Ok(())
-}
-
-/// The commands of a whole script, with lines of at most `limit` bytes.
-pub fn commands_of(
-    alloc: Global,
-    limit: usize,
-    bytes: &[u8],
-) -> Result<Sequence<CommandLines>, AllocError>
-    requires { limit < 2 ^ 62 }
-    ensures { IfOk result (λ all. all ≡ commands limit bytes.now) }
-{
-    let mut lines = LineReader::new(alloc, limit);
-    lines.push(bytes)?;
-    lines.finish();
-    let mut current = None;
-    let mut commands = Sequence::new(alloc);
-    'lines: loop {
-        make_room(&mut current)?;
-        match lines.next()? {
-            NextLine::Line(line) => {
-                append(&mut commands, take_line(alloc, &mut current, line))?;
-            }
-            NextLine::End => {
-                append(&mut commands, give_open(&mut current))?;
-                return Ok(commands);
-            }
-            NextLine::Wanting => unreachable!(),
-        }
-    }
 }

@@ -11,7 +11,7 @@ use std::marker::Model;
 
 /// What a reader of commands has next.
 #[derive(Drop)]
-pub enum NextCommand {
+pub(crate) enum NextCommand {
     /// The lines of the next command.
     Lines(CommandLines),
     /// No further command is whole, and the end is not marked.
@@ -25,7 +25,7 @@ pub enum NextCommand {
 /// Where `next` is called up to `Wanting` after each `push`, nothing is kept but the lines of a command
 /// whose block is open and the front of a line that is not whole; pieces pushed without it are kept until then.
 #[derive(Drop)]
-pub struct CommandReader {
+pub(crate) struct CommandReader {
     alloc: Global,
     lines: LineReader,
     current: Option<OpenCommand>,

@@ -8,11 +8,11 @@ ghost use Rattle.ncq_script.specs.Forms.{is_source_byte, is_source_name, one_arg
 use crate::command_lines::CommandLines;
 use crate::line::Line;
 use crate::word::{next_word, same_word};
-use ncq_base::{Bytes, bytes_of, is_pyx_name};
+use ncq_base::is_pyx_name;
 use std::alloc::{AllocError, Global};
 
 /// Whether a source may be called so: 1 to 255 bytes, none of them a quotation mark, backslash, comma or parenthesis.
-pub fn is_source_name(text: &[u8]) -> bool
+pub(crate) fn is_source_name(text: &[u8]) -> bool
     ensures { result ≡ is_source_name text.now }
 {
     !text.is_empty() && text.len() <= 255 && are_source_bytes(text)
@@ -31,7 +31,7 @@ fn is_source_byte(b: u8) -> bool
 }
 
 /// The one word behind the first, as in `delta <word>`; none where there are fewer words or more.
-pub fn one_argument(head: &[u8]) -> Option<&[u8]>
+pub(crate) fn one_argument(head: &[u8]) -> Option<&[u8]>
     ensures { MatchOption result (one_argument (words head.now) ≡ None) (λ word. one_argument (words head.now) ≡ Some word.now) }
 {
     let (_, rest) = next_word(head)?;
@@ -44,7 +44,7 @@ pub fn one_argument(head: &[u8]) -> Option<&[u8]>
 
 /// What a line `source <name> root <root> key <rule>` says.
 #[derive(Clone, Copy)]
-pub struct SourceForm<'a> {
+pub(crate) struct SourceForm<'a> {
     /// What the source is called.
     pub name: &'a [u8],
     /// The tag of its root.
@@ -56,7 +56,7 @@ pub struct SourceForm<'a> {
 /// What a line `source <name> root <root> key <rule>` says; none where it has another form.
 /// It has exactly six words, `root` and `key` in any case of letters; the name is one of a source, and the root a name of elements.
 /// The rule is any word.
-pub fn source_form(head: &[u8]) -> Option<SourceForm<'_>>
+pub(crate) fn source_form(head: &[u8]) -> Option<SourceForm<'_>>
     ensures { MatchOption result (source_form (words head.now) ≡ None)
         (λ form. source_form (words head.now) ≡ Some (record { name = form.name.now; root = form.root.now; rule = form.rule.now })) }
 {
@@ -81,7 +81,7 @@ pub fn source_form(head: &[u8]) -> Option<SourceForm<'_>>
 }
 
 /// Whether any line of the command, its first included, is longer than the limit.
-pub fn has_long(command: &CommandLines) -> bool
+pub(crate) fn has_long(command: &CommandLines) -> bool
     ensures { result ≡ has_long command.now }
 {
     command.head.is_long() || any_long(command.block.as_slice())
@@ -94,12 +94,12 @@ fn any_long(lines: &[Line]) -> bool
 }
 
 /// The text of a statement: its first line and the lines of its block, joined by line feeds.
-pub fn statement_text(alloc: Global, command: &CommandLines) -> Result<Bytes, AllocError>
-    ensures { IfOk result (λ text. text ≡ statement_text command.now) }
+pub(crate) fn statement_text(alloc: Global, command: &CommandLines) -> Result<Vec<u8>, AllocError>
+    ensures { IfOk result (λ text. text.items ≡ statement_text command.now) }
 {
     let mut text = Vec::from_slice(alloc, command.head.bytes())?;
     append_lines(command.block.as_slice(), &mut text)?;
-    bytes_of(alloc, text.as_slice())
+    Ok(text)
 }
 
 /// Appends each line behind a line feed.

@@ -1,7 +1,8 @@
-//! A script, from bytes to the lines of each command.
-//! Bytes come in piece by piece; out go the commands, each as the line that begins it and the lines of its block.
-//! `word` and `form` say what such a line holds; what a block holds is read by the crates above.
-//! However the bytes are cut into pieces, the commands are those of the whole script, and each is given as soon as its last line is whole.
+//! A script, from bytes to what each command says.
+//! Bytes come in piece by piece; out go the commands in their order, each as soon as its last line is whole: what it says,
+//! or the first refusal of reading it. A refusal goes out as its line.
+//! However the bytes are cut into pieces, the commands are those of the whole script, and none is lost where memory runs out.
+//! Nothing is kept but the lines of a command that is not yet given, and the front of a line that is not whole.
 #![tactic(auto)]
 
 mod command;
@@ -10,14 +11,11 @@ mod command_reader;
 mod form;
 mod line;
 mod refusal;
+mod script_reader;
 #[cfg(test)]
 mod tests;
 mod word;
 
-pub use command::{Command, read};
-pub use command_lines::{CommandLines, commands_of};
-pub use command_reader::{CommandReader, NextCommand};
-pub use form::{SourceForm, has_long, is_source_name, one_argument, source_form, statement_text};
-pub use line::{Line, LineReader, NextLine};
+pub use command::Command;
 pub use refusal::{Refusal, write_refused};
-pub use word::{Keyword, begins, keyword_of, next_word, same_word};
+pub use script_reader::{Next, ScriptReader};

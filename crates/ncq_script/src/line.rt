@@ -10,7 +10,7 @@ use std::mem;
 
 /// A line of a script, without its line feed and without one carriage return in front of that.
 #[derive(Drop)]
-pub struct Line {
+pub(crate) struct Line {
     bytes: Vec<u8>,
     long: bool,
 }
@@ -91,7 +91,7 @@ fn line_from(mut kept: Vec<u8>, over: bool, limit: usize) -> Line
 
 /// What a reader of lines has next.
 #[derive(Drop)]
-pub enum NextLine {
+pub(crate) enum NextLine {
     /// The next line.
     Line(Line),
     /// No further line is whole, and the end is not marked.
@@ -106,7 +106,7 @@ pub enum NextLine {
 /// of which no more is kept than the limit and one byte. Where `next` is called up to `Wanting` after each `push`,
 /// nothing of the earlier pieces is kept but that line; pieces pushed without it are kept whole until then.
 #[derive(Drop)]
-pub struct LineReader {
+pub(crate) struct LineReader {
     alloc: Global,
     limit: usize,
     // The front of the line that is not whole, and whether more of it came.

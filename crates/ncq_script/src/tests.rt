@@ -1,10 +1,13 @@
 ghost use Rattle.std.specs.Prelude.{◌≡◌};
+ghost use Rattle.ncq_script.specs.ScriptReading.{is_finished};
 
-use crate::{
-    CommandLines, CommandReader, Keyword, LineReader, NextCommand, NextLine, commands_of, has_long,
-    is_source_name, one_argument, source_form,
-};
-use ncq_base::Sequence;
+use crate::command_lines::CommandLines;
+use crate::command_reader::{CommandReader, NextCommand};
+use crate::form::{has_long, is_source_name, one_argument, source_form};
+use crate::line::{LineReader, NextLine};
+use crate::word::Keyword;
+use crate::{Command, Next, Refusal, ScriptReader};
+use ncq_base::Limit;
 use std::alloc::{AllocError, Global};
 use std::process::Abort;
 use std::test::Fail;
@@ -48,14 +51,6 @@ fn show_command(out: &mut Vec<u8>, command: &CommandLines) -> Result<(), AllocEr
     Ok(())
 }
 
-fn shown(alloc: Global, commands: &Sequence<CommandLines>) -> Result<Vec<u8>, AllocError> {
-    let mut out = Vec::new(alloc);
-    for command in commands.as_slice() {
-        show_command(&mut out, command)?;
-    }
-    Ok(out)
-}
-
 // The commands of a script that comes in pieces of a size.
 fn shown_in_pieces(alloc: Global, script: &[u8], size: usize) -> Result<Vec<u8>, AllocError> {
     let mut out = Vec::new(alloc);
@@ -86,11 +81,7 @@ fn show_next(reader: &mut CommandReader, out: &mut Vec<u8>) -> Result<(), AllocE
 }
 
 fn agrees(rt: &impl Abort, alloc: Global, script: &[u8], want: &[u8]) -> Result<(), Fail> {
-    assert_eq!(rt;
-        shown(alloc, &commands_of(alloc, LIMIT, script)?)?.as_slice(),
-        want
-    );
-    for size in [1, 2, 3, 7] {
+    for size in [1, 2, 3, 7, 100] {
         assert_eq!(rt;
             shown_in_pieces(alloc, script, size)?.as_slice(),
             want,
@@ -279,14 +270,88 @@ fn an_argument_is_one_word(rt: HostRuntime) -> Result<(), Fail> {
 
 #[test]
 fn a_long_line_is_found_in_head_and_block(rt: HostRuntime) -> Result<(), Fail> {
-    let alloc = rt.alloc();
     for (script, want) in [
         (b"delta 123456\n123456789012\n.\n".as_slice(), false),
         (b"delta 1234567\n.\n", true),
         (b"delta\nx\n1234567890123\n.\n", true),
     ] {
-        for command in commands_of(alloc, LIMIT, script)?.as_slice() {
-            assert_eq!(rt; has_long(command), want);
+        let mut reader = CommandReader::new(rt.alloc(), LIMIT);
+        reader.push(script)?;
+        match reader.next()? {
+            NextCommand::Lines(command) => assert_eq!(rt; has_long(&command), want),
+            NextCommand::Wanting | NextCommand::End => assert!(rt; false),
+        }
+    }
+    Ok(())
+}
+
+// The letter of what a command says: `!` where it is refused already when it is read.
+fn letter_said(command: &Command) -> u8 {
+    match command {
+        Command::Declare { .. } => b'S',
+        Command::Delta { .. } => b'D',
+        Command::Create { .. } => b'C',
+        Command::Delete { .. } => b'X',
+        Command::Clock { .. } => b'K',
+        Command::Report => b'R',
+        Command::Malformed { .. } => b'!',
+    }
+}
+
+// What the commands say that can be told now; a script of these tests has no more than 20.
+fn show_said(reader: &mut ScriptReader, out: &mut Vec<u8>) -> Result<(), AllocError>
+    ensures { is_finished reader.new ≡ is_finished reader.old }
+{
+    for _ in 0..20 {
+        match reader.next()? {
+            Next::Command(command) => out.push(letter_said(&command))?,
+            Next::Wanting | Next::End => return Ok(()),
+        }
+    }
+    Ok(())
+}
+
+#[test]
+fn a_command_is_given_as_soon_as_it_is_whole(rt: HostRuntime) -> Result<(), Fail> {
+    let mut out = Vec::new(rt.alloc());
+    let mut reader = ScriptReader::new(rt.alloc(), 100);
+    reader.push(b"source q root R key k\n\ndelta q\n!k\n")?;
+    show_said(&mut reader, &mut out)?;
+    assert_eq!(rt; out.as_slice(), b"S".as_slice());
+    reader.push(
+        b".\nclock 1\n# clock 2\nreport\ndelete w\ncreate w WHERE <R><a><k>1</></> ELEMENT_AS $g</> IN q\n",
+    )?;
+    show_said(&mut reader, &mut out)?;
+    assert_eq!(rt; out.as_slice(), b"SDKRX".as_slice());
+    reader.push(b"CONSTRUCT $g DO print\n.\nclock x\nreport")?;
+    show_said(&mut reader, &mut out)?;
+    assert_eq!(rt; out.as_slice(), b"SDKRXC!".as_slice());
+    reader.finish();
+    show_said(&mut reader, &mut out)?;
+    assert_eq!(rt; out.as_slice(), b"SDKRXC!R".as_slice());
+    assert!(rt; matches!(reader.next()?, Next::End));
+    Ok(())
+}
+
+#[test]
+fn the_first_refusal_of_reading_is_told(rt: HostRuntime) -> Result<(), Fail> {
+    let which = Limit::Line;
+    for (script, want) in [
+        (b"clock 1 1".as_slice(), Refusal::Command),
+        (b"clock 123456789\n", Refusal::Limit { which }),
+        (b"delta\n", Refusal::Command),
+        (b"delta q\n", Refusal::Unfinished),
+        (b"delta 1234567", Refusal::Limit { which }),
+        (b"create\n", Refusal::Unfinished),
+        (b"create w\n.\n", Refusal::Query),
+        (b"delta q\n(a\n.\n", Refusal::Pyx { line: 2 }),
+    ] {
+        let mut reader = ScriptReader::new(rt.alloc(), LIMIT);
+        reader.push(script)?;
+        reader.finish();
+        match reader.next()? {
+            Next::Command(Command::Malformed { refusal }) => assert_eq!(rt; refusal, want),
+            Next::Command(_) | Next::Wanting | Next::End => assert!(rt; false),
         }
     }
     Ok(())

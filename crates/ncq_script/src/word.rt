@@ -5,7 +5,7 @@ ghost use Rattle.ncq_script.specs.Words.{is_blank, words, keyword_of, begins, is
 
 /// What a command is called: its first word, in any case of letters.
 #[derive(Clone, Copy, Debug, PartialEq, Eq)]
-pub enum Keyword {
+pub(crate) enum Keyword {
     Source,
     Delta,
     Create,
@@ -39,7 +39,7 @@ fn skip_blanks(text: &[u8]) -> &[u8]
 
 /// The first word of a text, and what stands behind it; none where the text has no word.
 /// Spaces, tabs and carriage returns part words; every other byte belongs to one.
-pub fn next_word(text: &[u8]) -> Option<(&[u8], &[u8])>
+pub(crate) fn next_word(text: &[u8]) -> Option<(&[u8], &[u8])>
     ensures { MatchOption result (words text.now ≡ []) (λ parts. words text.now ≡ parts.0.now ∷ words parts.1.now) }
 {
     let text = skip_blanks(text);
@@ -62,14 +62,14 @@ fn word_end(text: &[u8]) -> usize
 }
 
 /// Whether two words are the same but for the case of ASCII letters.
-pub fn same_word(a: &[u8], b: &[u8]) -> bool
+pub(crate) fn same_word(a: &[u8], b: &[u8]) -> bool
     ensures { result ≡ str_eq_ignore_ascii_case a.now b.now }
 {
     a.eq_ignore_ascii_case(b)
 }
 
 /// The command that a word names.
-pub fn keyword_of(word: &[u8]) -> Keyword
+pub(crate) fn keyword_of(word: &[u8]) -> Keyword
     ensures { result ≡ keyword_of word.now }
 {
     if same_word(word, b"source") {
@@ -90,7 +90,7 @@ pub fn keyword_of(word: &[u8]) -> Keyword
 }
 
 /// The command that a line outside a block begins: none where it has no word, or where its first word begins with `#`.
-pub fn begins(text: &[u8]) -> Option<Keyword>
+pub(crate) fn begins(text: &[u8]) -> Option<Keyword>
     ensures { result ≡ begins text.now }
 {
     let (word, _) = next_word(text)?;

@@ -1,45 +1,41 @@
-use Rattle.std.proofs.Common.{◌≡◌, ◌+◌, ◌++◌, ℕ, List, arith, ap, sym, ◌∙◌, append_assoc}
-use Rattle.std.specs.Prelude.{slice_get, Some}
-use Rattle.std.proofs.KnownBytes.{Appends-trans}
+use Rattle.std.proofs.Common.{◌+◌, ◌++◌, ℕ, List, arith, ap, ◌∙◌}
 use Rattle.std.proofs.lemmas.Result.{err_from_is_err_and}
-use Rattle.ncq_script.specs.Commands.{known_commands}
 use Rattle.ncq_script.proofs.CallerLemmas.{given_few}
-use Rattle.ncq_run.specs.Output.{answer_to}
-use Rattle.ncq_run.proofs.Outputs.{next_out, next_history, same_next, stopped_later, done_more}
+use Rattle.ncq_run.proofs.Outputs.{next_out, same_next, stopped_later, done_more}
 use Rattle.ncq_run.proofs.answer.answer_commands.Goals as goal
 
 pub answer_one-requires-clause-small : goal.answer_one-requires-clause-small
 answer_one-requires-clause-small g c =
     let some = c.commands.invariant.some in
-    let next = rw c.in-Ok-Lines.field-0-is at c.in-Ok-Lines.ensures.next in
+    let next = rw c.in-Ok-Command.field-0-is at c.in-Ok-Command.ensures.next in
     omega (arith, given_few _ _ _ _ _ (next some.0 c.commands.count some.1).0, some.2)
 
 pub overflow_add-count : goal.overflow_add-count
 overflow_add-count g c =
     let some = c.commands.invariant.some in
-    let next = rw c.in-Ok-Lines.field-0-is at c.in-Ok-Lines.ensures.next in
+    let next = rw c.in-Ok-Command.field-0-is at c.in-Ok-Command.ensures.next in
     omega (arith, given_few _ _ _ _ _ (next some.0 c.commands.count some.1).0, some.2)
 
-pub overflow_add-count-in-Ok-Lines : goal.overflow_add-count-in-Ok-Lines
-overflow_add-count-in-Ok-Lines g c =
+pub overflow_add-count-in-Ok-Command : goal.overflow_add-count-in-Ok-Command
+overflow_add-count-in-Ok-Command g c =
     let some = c.commands.invariant.some in
-    let next = rw c.in-Ok-Lines.field-0-is at c.in-Ok-Lines.ensures.next in
+    let next = rw c.in-Ok-Command.field-0-is at c.in-Ok-Command.ensures.next in
     omega (arith, given_few _ _ _ _ _ (next some.0 c.commands.count some.1).0, some.2)
 
-pub returns-in_err-answer_one-in-Ok-Lines-clause-write : goal.returns-in_err-answer_one-in-Ok-Lines-clause-write
-returns-in_err-answer_one-in-Ok-Lines-clause-write g c failed pushed history follows stands =
+pub returns-in_err-answer_one-in-Ok-Command-clause-write : goal.returns-in_err-answer_one-in-Ok-Command-clause-write
+returns-in_err-answer_one-in-Ok-Command-clause-write g c failed pushed history follows stands =
     let p = err_from_is_err_and c.from_residual.result c.from_residual.ensures.1 in
     let e = p.1 in let f = p.2 in
-    let next = rw c.in-Ok-Lines.field-0-is at c.in-Ok-Lines.ensures.next in
+    let next = rw c.in-Ok-Command.field-0-is at c.in-Ok-Command.ensures.next in
     let was = c.commands.invariant.written pushed history follows stands in
     let this = (next pushed c.commands.count (c.commands.invariant.follows pushed follows)).0 in
     let at = same_next _ _ _ _ pushed c.commands.count _ c.commands.invariant.limit c.commands.invariant.finished this in
     let piece = next_out was.1 (c.commands.count + 1) c.commands.count _ _ at in
-    stopped_later _ _ _ _ was.0 _ _ (was.4 ∙ ap (λ (xs : List ℕ). was.0 ++ xs) piece) was.2 (c.in_err-answer_one-in-Ok-Lines.ensures.write (cc) was.1 was.3)
+    stopped_later _ _ _ _ was.0 _ _ (was.4 ∙ ap (λ (xs : List ℕ). was.0 ++ xs) piece) was.2 (c.in_err-answer_one-in-Ok-Command.ensures.write (cc) was.1 was.3)
 
 pub commands-preserved : goal.commands-preserved
 commands-preserved g c =
-    let next = rw c.in-Ok-Lines.field-0-is at c.in-Ok-Lines.ensures.next in
+    let next = rw c.in-Ok-Command.field-0-is at c.in-Ok-Command.ensures.next in
     let some = c.commands.invariant.some in
     record {
       some = (some.0, (next some.0 c.commands.count some.1).1, some.2);
@@ -49,8 +45,8 @@ commands-preserved g c =
           let was = c.commands.invariant.written pushed history f s in
           let this = (next pushed c.commands.count (c.commands.invariant.follows pushed f)).0 in
           let at = same_next _ _ _ _ pushed c.commands.count _ c.commands.invariant.limit c.commands.invariant.finished this in
-          done_more _ _ _ _ _ _ _ _ _ c.commands.count _ _ at was (c.in_ok-answer_one-in-Ok-Lines.ensures.ok was.1 was.3);
+          done_more _ _ _ _ _ _ _ _ _ c.commands.count _ _ at was (c.in_ok-answer_one-in-Ok-Command.ensures.ok was.1 was.3);
       later = omega (arith, c.commands.invariant.later, c.answer_one.ensures.later);
-      limit = c.in-Ok-Lines.ensures.limit ∙ c.commands.invariant.limit;
-      finished = c.in-Ok-Lines.ensures.finished ∙ c.commands.invariant.finished;
+      limit = c.in-Ok-Command.ensures.limit ∙ c.commands.invariant.limit;
+      finished = c.in-Ok-Command.ensures.finished ∙ c.commands.invariant.finished;
     }

@@ -1,8 +1,8 @@
 use Rattle.std.proofs.Common.{◌≡◌, ◌+◌, ◌<◌, ◌≤◌, ◌^◌, ◌++◌, ℕ, List, length, drop}
 use Rattle.std.specs.Io.KnownBytes.{Appends}
-use Rattle.ncq_script.specs.Commands.{known_commands}
-use Rattle.ncq_script.specs.NextOfCommands.{size}
-use Rattle.ncq_script.specs.Reading.{Follows}
+use Rattle.ncq_script.specs.Script.{known_script}
+use Rattle.ncq_script.specs.NextOfScript.{script_size}
+use Rattle.ncq_script.specs.ScriptReading.{FollowsScript, limit_of, is_finished}
 use Rattle.ncq_run.specs.History.{History}
 use Rattle.ncq_run.specs.Output.{out_of, history_of}
 use Rattle.ncq_run.specs.Stands.{Stands}
@@ -10,19 +10,19 @@ use Rattle.ncq_run.proofs.answer.answer_commands.Given as goal
 
 abbrev pub invariant-commands : goal.invariant-commands
 invariant-commands g l = record {
-  some : (pushed : List ℕ) × Follows l.reader pushed l.count × (length pushed < 2 ^ 59);
+  some : (pushed : List ℕ) × FollowsScript l.reader pushed l.count × (length pushed < 2 ^ 59);
   few : l.engine.store.changes ≤ l.count;
-  follows : (pushed : List ℕ) → Follows l.fn.reader pushed l.fn.count → Follows l.reader pushed l.count;
-  written : (pushed : List ℕ) (history : History) → Follows l.fn.reader pushed l.fn.count → Stands l.fn.engine.store l.fn.engine.subscriptions.items history →
+  follows : (pushed : List ℕ) → FollowsScript l.fn.reader pushed l.fn.count → FollowsScript l.reader pushed l.count;
+  written : (pushed : List ℕ) (history : History) → FollowsScript l.fn.reader pushed l.fn.count → Stands l.fn.engine.store l.fn.engine.subscriptions.items history →
       (done : List ℕ) × (now : History) × Appends (g.O.Sink.held l.fn.output) (g.O.Sink.held l.output) done × Stands l.engine.store l.engine.subscriptions.items now
-      × (out_of history (l.fn.count + 1) (drop l.fn.count (known_commands l.fn.reader.lines.limit l.fn.reader.lines.finished pushed))
-      ≡ done ++ out_of now (l.count + 1) (drop l.count (known_commands l.fn.reader.lines.limit l.fn.reader.lines.finished pushed)))
-      × (history_of history (drop l.fn.count (known_commands l.fn.reader.lines.limit l.fn.reader.lines.finished pushed))
-      ≡ history_of now (drop l.count (known_commands l.fn.reader.lines.limit l.fn.reader.lines.finished pushed)));
+      × (out_of history (l.fn.count + 1) (drop l.fn.count (known_script (limit_of l.fn.reader) (is_finished l.fn.reader) pushed))
+      ≡ done ++ out_of now (l.count + 1) (drop l.count (known_script (limit_of l.fn.reader) (is_finished l.fn.reader) pushed)))
+      × (history_of history (drop l.fn.count (known_script (limit_of l.fn.reader) (is_finished l.fn.reader) pushed))
+      ≡ history_of now (drop l.count (known_script (limit_of l.fn.reader) (is_finished l.fn.reader) pushed)));
   later : g.O.Sink.faults l.fn.output ≤ g.O.Sink.faults l.output;
-  limit : l.reader.lines.limit ≡ l.fn.reader.lines.limit;
-  finished : l.reader.lines.finished ≡ l.fn.reader.lines.finished;
+  limit : limit_of l.reader ≡ limit_of l.fn.reader;
+  finished : is_finished l.reader ≡ is_finished l.fn.reader;
 }
 
 abbrev pub decreases-commands : goal.decreases-commands
-decreases-commands g l = size l.reader
+decreases-commands g l = script_size l.reader

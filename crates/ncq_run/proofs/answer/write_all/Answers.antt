@@ -1,4 +1,4 @@
-use Rattle.std.proofs.Common.{◌≡◌, ◌++◌, ◌≤◌, ◌-◌, ◌^◌, ℕ, List, take, drop, ap, sym, ◌∙◌, append_assoc, arith}
+use Rattle.std.proofs.Common.{◌≡◌, ◌++◌, ℕ, List, take, drop, ap, sym, ◌∙◌, append_assoc, arith}
 use Rattle.std.proofs.KnownBytes.{Appends-trans}
 use Rattle.std.proofs.lemmas.List.{take-append-drop}
 use Rattle.ncq_run.proofs.answer.write_all.Goals as goal

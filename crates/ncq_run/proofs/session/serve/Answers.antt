@@ -2,8 +2,8 @@ use Rattle.std.proofs.Common.{[], arith, rules, refl, ◌∙◌}
 use Rattle.ncq_run.proofs.Turns.{nothing_written, at_start}
 use Rattle.ncq_run.proofs.session.serve.Goals as goal
 
-pub returns-in_default : goal.returns-in_default
-returns-in_default g c = record { written = nothing_written _ _ c.args.limit }
+pub returns-in_default-clause-ended : goal.returns-in_default-clause-ended
+returns-in_default-clause-ended g c = record { written = nothing_written _ _ c.args.limit }
 
 pub new-requires : goal.new-requires
 new-requires g c = omega (arith, c.requires.limit)
@@ -19,8 +19,8 @@ turns-init g c = record {
 pub turn-requires : goal.turn-requires
 turn-requires g c = c.turns.invariant.ready
 
-pub returns-in-Some : goal.returns-in-Some
-returns-in-Some g c = rw (← c.turns.invariant.limit, ← c.turns.invariant.most) (c.in-Some.ensures.ends _ c.turns.invariant.so_far)
+pub returns-in-Some-clause-ended : goal.returns-in-Some-clause-ended
+returns-in-Some-clause-ended g c = rw (← c.turns.invariant.limit, ← c.turns.invariant.most) (c.in-Some.ensures.ends _ c.turns.invariant.so_far)
 
 pub turns-preserved : goal.turns-preserved
 turns-preserved g c = record {

@@ -1,6 +1,7 @@
 use Rattle.std.proofs.Common.{◌≡◌, ◌-◌, length}
 use Rattle.ncq_run.specs.Status.{told}
 use Rattle.ncq_run.specs.Session.{SoFar, IsReady}
+use Rattle.ncq_script.specs.ScriptReading.{limit_of}
 use Rattle.ncq_run.proofs.session.serve.Given as goal
 
 abbrev pub invariant-turns : goal.invariant-turns
@@ -10,7 +11,7 @@ invariant-turns g l = record {
       (told (g.I.Source.left l.fn.input) (g.O.Sink.held l.fn.output) (g.I.Source.given l.fn.input) (g.I.Source.faults l.fn.input) (g.O.Sink.faults l.fn.output))
       (told (g.I.Source.left l.input) (g.O.Sink.held l.output) (g.I.Source.given l.input) (g.I.Source.faults l.input) (g.O.Sink.faults l.output));
   most : l.session.most ≡ l.fn.most;
-  limit : l.session.reader.lines.limit ≡ l.fn.limit;
+  limit : limit_of l.session.reader ≡ l.fn.limit;
 }
 
 abbrev pub decreases-turns : goal.decreases-turns

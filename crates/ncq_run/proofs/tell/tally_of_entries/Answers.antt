@@ -1,4 +1,3 @@
-use Rattle.std.proofs.Common.{arith}
 use Rattle.ncq_run.specs.Weights.{weight_in}
 use Rattle.ncq_run.proofs.WeightLaws.{none_counted, nothing_more, entry_counted}
 use Rattle.ncq_run.proofs.tell.tally_of_entries.Goals as goal

@@ -1,4 +1,4 @@
-use Rattle.std.proofs.Common.{◌∙◌, ◌≤◌, length, ap, sym, arith}
+use Rattle.std.proofs.Common.{◌∙◌, ap, sym, arith}
 use Rattle.std.specs.Prelude.{pos}
 use Rattle.ncq_base.proofs.Totals.{map_total}
 use Rattle.ncq_run.specs.Weights.{weight_in}

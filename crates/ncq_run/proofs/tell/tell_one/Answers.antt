@@ -1,4 +1,4 @@
-use Rattle.std.proofs.Common.{◌≡◌, ◌∙◌, ◌++◌, List, ℕ, Bool, true, rules}
+use Rattle.std.proofs.Common.{◌≡◌, true, rules}
 use Rattle.ncq_base.specs.Keys.{is_key}
 use Rattle.std.proofs.lemmas.Result.{on_ok_weaker}
 use Rattle.ncq_run.proofs.WeightLaws.{told_same}

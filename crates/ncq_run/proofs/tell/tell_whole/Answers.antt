@@ -1,5 +1,4 @@
-use Rattle.std.proofs.Common.{◌≡◌, ◌∙◌, ◌++◌, List, ℕ, ap, sym}
-use Rattle.std.specs.Prelude.{pos}
+use Rattle.std.proofs.Common.{◌∙◌, ◌++◌, List, ap}
 use Rattle.std.proofs.lemmas.Result.{on_ok_weaker}
 use Rattle.ncq_bag.specs.declared.bag.Difference.{Difference}
 use Rattle.ncq_callback.specs.Texts.{print_text}

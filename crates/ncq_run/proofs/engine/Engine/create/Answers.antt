@@ -1,4 +1,4 @@
-use Rattle.std.proofs.Common.{◌≡◌, ◌++◌, length, rules, sym, ◌∙◌, ap, Bool, true, false, List, [], ℕ}
+use Rattle.std.proofs.Common.{◌≡◌, ◌++◌, length, rules, sym, ◌∙◌, ap, true, false, List, [], ℕ}
 use Rattle.std.proofs.lemmas.Result.{on_ok_weaker}
 use Rattle.ncq_base.specs.Keys.{is_key}
 use Rattle.ncq_bag.specs.Bags.{difference}

@@ -1,0 +1,33 @@
+-- What a reader of a script gives next.
+use Rattle.std.specs.Prelude.{◌≡◌, ◌+◌, ◌<◌, ℕ, true, false, List, Option, Some, length, slice_get}
+use Rattle.ncq_script.specs.NextOfCommands.{held, size}
+use Rattle.ncq_script.specs.Reading.{CommandState}
+use Rattle.ncq_script.specs.Script.{known_script}
+use Rattle.ncq_script.specs.ScriptReading.{ScriptState, limit_of, is_finished, FollowsScript}
+use Rattle.ncq_script.specs.declared.command_lines.CommandLines.{CommandLines}
+use Rattle.ncq_script.specs.declared.command_reader.NextCommand.{NextCommand}
+use Rattle.ncq_script.specs.declared.command_reader.NextCommand.TheVariants as lines
+use Rattle.ncq_script.specs.declared.script_reader.Next.{Next}
+use Rattle.ncq_script.specs.declared.script_reader.Next.TheVariants.{Command, Wanting, End}
+
+-- of the bytes pushed, with so many commands given before, this is next
+abbrev pub IsNextCommand : ScriptState → ScriptState → List ℕ → ℕ → Next → Type 0
+IsNextCommand old new pushed count (Command command) = (slice_get (known_script (limit_of old) (is_finished old) pushed) count ≡ Some command) × FollowsScript new pushed (count + 1)
+IsNextCommand old new pushed count Wanting = (is_finished old ≡ false) × (length (known_script (limit_of old) (is_finished old) pushed) ≡ count) × FollowsScript new pushed count
+IsNextCommand old new pushed count End = (is_finished old ≡ true) × (length (known_script (limit_of old) (is_finished old) pushed) ≡ count) × FollowsScript new pushed count
+
+-- what is kept, ahead, open or waiting
+abbrev pub script_size : ScriptState → ℕ
+script_size state = size state.reader + held state.waiting
+
+-- a command takes something of it
+abbrev pub ScriptFalls : ScriptState → ScriptState → Next → Type 0
+ScriptFalls old new (Command command) = script_size new < script_size old
+ScriptFalls old new Wanting = Unit {0}
+ScriptFalls old new End = Unit {0}
+
+-- so do the lines of one, from the reader or those that wait
+abbrev pub LinesTaken : CommandState → Option CommandLines → CommandState → NextCommand → Type 0
+LinesTaken old waiting new (lines.Lines command) = size new < size old + held waiting
+LinesTaken old waiting new lines.Wanting = Unit {0}
+LinesTaken old waiting new lines.End = Unit {0}
