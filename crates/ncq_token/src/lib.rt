@@ -9,7 +9,7 @@ mod token;
 mod tokenise;
 
 pub use token::{Token, TokenError, TokenItems};
-pub use tokenise::{tokens, tokens_are};
+pub use tokenise::{names_are_names, tokens, tokens_are};
 
 #[cfg(test)]
 mod tests;

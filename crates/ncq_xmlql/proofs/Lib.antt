@@ -10,3 +10,5 @@ pub mod Slots
 pub mod TimeLaws
 pub mod StatementLaws
 pub mod AnswerLaws
+pub mod NameLaws
+pub mod WellFormedLaws

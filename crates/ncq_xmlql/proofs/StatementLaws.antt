@@ -158,8 +158,8 @@ comma_within IsComma.comma = omega arith
 
 query_complete : {a b : List Token} {q : Query} → IsQuery a q b → (depth : ℕ) → length a ≤ depth → query_at depth a ≡ Some (q, b)
 unfolding query_at
-query_complete (IsQuery.query items comma h top) depth room =
-    rw (items_complete items (comma_stops comma h) depth room, construct_complete comma h, top_complete top depth (omega (arith, items_within items, comma_within comma))) refl
+query_complete (IsQuery.query spelled before h top) depth room =
+    rw (items_complete spelled (comma_stops before h) depth room, construct_complete before h, top_complete top depth (omega (arith, items_within spelled, comma_within before))) refl
 
 every_is_time : (s v x : Bool) → v ≡ true → cond s true (cond v true x) ≡ true
 every_is_time true v x h = refl

@@ -11,3 +11,4 @@ pub mod Nesting
 pub mod Counts
 pub mod Statements
 pub mod Answered
+pub mod WellFormed

@@ -60,14 +60,21 @@ attributes_at ((Name name) ∷ (Cmp Eq) ∷ (Variable x) ∷ rest) = with_attrib
 attributes_at ((Name name) ∷ rest) = None
 attributes_at tokens = Some ([], tokens)
 
--- an attribute has the name
-abbrev pub has_name : List ℕ → List PatternAttribute → Bool
-has_name name attributes = list_any (λ a. is_same a.name name) attributes
+-- one of the names is this one
+abbrev pub has_name : List ℕ → List (List ℕ) → Bool
+has_name name names = list_any (λ other. is_same other name) names
 
 -- no name comes twice
+abbrev pub all_differ : List (List ℕ) → Bool
+all_differ [] = true
+all_differ (name ∷ more) = not (has_name name more) && all_differ more
+
+abbrev pub names_of : List PatternAttribute → List (List ℕ)
+names_of attributes = map (λ a. a.name) attributes
+
+-- no two attributes have one name
 abbrev pub names_differ : List PatternAttribute → Bool
-names_differ [] = true
-names_differ (a ∷ more) = not (has_name a.name more) && names_differ more
+names_differ attributes = all_differ (names_of attributes)
 
 -- how a tag closes: whether it is empty
 abbrev pub close_at : List Token → Read Bool

@@ -1,8 +1,7 @@
-//! The words of the grammar, and the names of attributes.
-ghost use Rattle.std.specs.Prelude.{◌≡◌, IsTrue, codes, length};
-ghost use Rattle.ncq_xmlql.specs.Reading.{is_keyword, has_name, names_differ};
+//! The words of the grammar.
+ghost use Rattle.std.specs.Prelude.{◌≡◌, codes};
+ghost use Rattle.ncq_xmlql.specs.Reading.{is_keyword};
 
-use crate::model::PatternAttribute;
 use ncq_base::Bytes;
 
 /// Whether the word is `element_as`, in any case of letters.
@@ -59,25 +58,4 @@ pub(crate) fn is_word(word: &[u8], keyword: &[u8]) -> bool
     ensures { result ≡ is_keyword keyword.now word.now }
 {
     word.eq_ignore_ascii_case(keyword)
-}
-
-/// Whether an attribute has the name.
-fn has_name(name: &Bytes, attributes: &[PatternAttribute]) -> bool
-    ensures { result ≡ has_name name.now attributes.now }
-{
-    attributes.iter().any(|a| a.name == *name)
-}
-
-/// Whether no two attributes have one name.
-pub(crate) fn names_differ(attributes: &[PatternAttribute]) -> bool
-    ensures { result ≡ names_differ attributes.now }
-{
-    let mut rest = attributes;
-    while let Some((first, more)) = rest.split_first() {
-        if has_name(&first.name, more) {
-            return false;
-        }
-        rest = more;
-    }
-    true
 }

@@ -3,7 +3,8 @@ ghost use Rattle.ncq_token.specs.declared.token.Token.{Token};
 ghost use Rattle.std.specs.Prelude.{List, ℕ, ◌≡◌, ◌++◌, ◌≤◌, ◌<◌, ◌∷◌, [], length, IfOk, OnOk};
 ghost use Rattle.ncq_xmlql.specs.Reading.{Gives, value_at, attributes_at, close_at, name_at, variable_at, tag_at, opening_at, end_close_at, end_at, suffix_at, words_at, with_text};
 
-use crate::keyword::{is_content_as, is_element_as, names_differ};
+use crate::distinct::names_differ;
+use crate::keyword::{is_content_as, is_element_as};
 use crate::mismatch::Mismatch;
 use crate::model::{Operand, PatternAttribute, PatternAttributes, Suffix};
 use ncq_base::{Bytes, Copied, Op, bytes_of};
@@ -75,7 +76,7 @@ pub(crate) fn opening_at(alloc: Global, tokens: &[Token]) -> Result<(Tag, &[Toke
 {
     let (name, rest) = tag_at(alloc, tokens)?;
     let (attributes, rest) = attributes_at(alloc, rest)?;
-    if !names_differ(attributes.as_slice()) {
+    if !names_differ(alloc, attributes.as_slice())? {
         return Err(Mismatch::NotSpelled);
     }
     let (is_empty, rest) = close_at(rest)?;

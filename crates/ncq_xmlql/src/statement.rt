@@ -1,9 +1,10 @@
 //! A statement from its text, within the limits.
-ghost use Rattle.std.specs.Prelude.{◌≡◌, Ok};
+ghost use Rattle.std.specs.Prelude.{◌≡◌, Ok, IfOk};
 ghost use Rattle.ncq_xmlql.specs.Reading.{Gives};
 ghost use Rattle.ncq_xmlql.specs.StatementReading.{query_at, statement_at};
 ghost use Rattle.ncq_xmlql.specs.Statements.{Answers};
 ghost use Rattle.ncq_xmlql.specs.Answered.{exceeded, answered_tokens, statement_of, GivesStatement};
+ghost use Rattle.ncq_xmlql.specs.WellFormed.{IsWellFormed};
 
 use crate::action::{action_at, argument_at, construct_at, head_at};
 use crate::count::{arms_of, conditions_of, slots_of};
@@ -121,6 +122,7 @@ fn parse_tokens(alloc: Global, tokens: &[Token]) -> Result<Statement, StatementE
 pub fn parse_statement(alloc: Global, text: &[u8]) -> Result<Statement, StatementError>
     ensures exact { Answers text.now result }
     ensures value { GivesStatement result (statement_of text.now) }
+    ensures well_formed { IfOk result (λ st. IsWellFormed st) }
 {
     match tokens(alloc, text) {
         Ok(tokens) => parse_tokens(alloc, tokens.as_slice()),

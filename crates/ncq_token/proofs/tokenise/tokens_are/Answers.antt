@@ -1,4 +1,4 @@
-use Rattle.ncq_token.proofs.Laws.{tokens_sound, tokens_complete, stop_sound, stop_complete}
+use Rattle.ncq_token.proofs.TokenLaws.{tokens_sound, tokens_complete, stop_sound, stop_complete}
 use Rattle.ncq_token.proofs.tokenise.tokens_are.Goals as goal
 
 pub returns-clause-read : goal.returns-clause-read
