@@ -8,7 +8,7 @@ use std::alloc::AllocError;
 
 /// Appends the notice of the subscription `name` at `instant`: its first line, each difference with the canonical lines of its forest, and `end`.
 ///
-/// Nothing is appended where nothing differs.
+/// Nothing is appended where nothing differs. After want of memory `out` may hold a part of the notice.
 pub fn write_print(
     name: &[u8],
     instant: u64,
