@@ -11,8 +11,15 @@ entry_text entry = (if entry.gain then codes "gain " else codes "lose ") ++ deci
 abbrev pub entries_text : List Difference → List ℕ
 entries_text entries = flat_map entry_text entries
 
--- `notice <name> <instant>`, the entries, `end`; and nothing where there is no entry
+-- `notice <name> <instant>`
+abbrev pub head_text : List ℕ → ℕ → List ℕ
+head_text name instant = codes "notice " ++ name ++ codes " " ++ decimal instant ++ codes "\n"
+
+-- the first line, the entries, `end`
+abbrev pub notice_text : List ℕ → ℕ → List Difference → List ℕ
+notice_text name instant entries = head_text name instant ++ entries_text entries ++ codes "end\n"
+
+-- that, and nothing where there is no entry
 abbrev pub print_text : List ℕ → ℕ → List Difference → List ℕ
 print_text name instant [] = []
-print_text name instant (entry ∷ more) =
-    codes "notice " ++ name ++ codes " " ++ decimal instant ++ codes "\n" ++ entries_text (entry ∷ more) ++ codes "end\n"
+print_text name instant (entry ∷ more) = notice_text name instant (entry ∷ more)

@@ -9,6 +9,7 @@ pub mod Reading
 pub mod NextOfCommands
 pub mod Refusals
 pub mod Reads
+pub mod Proper
 pub mod Script
 pub mod ScriptReading
 pub mod NextOfScript

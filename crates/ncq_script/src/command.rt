@@ -7,6 +7,7 @@ ghost use Rattle.ncq_xmlql.specs.Answered.{statement_of};
 ghost use Rattle.ncq_script.specs.Words.{words};
 ghost use Rattle.ncq_script.specs.Reads.{rule_of, declare_of, clock_of, if_closed, bytes_of_lines, delta_of, delta_form, create_of, form_of, or_refused, read};
 ghost use Rattle.ncq_script.specs.Forms.{one_argument};
+ghost use Rattle.ncq_script.specs.Proper.{IsProperCommand};
 
 use crate::command_lines::CommandLines;
 use crate::form::{has_long, one_argument, source_form, statement_text};
@@ -67,7 +68,8 @@ pub enum Command {
 /// and for a create 10 or 15 with the limit that its text exceeds.
 /// The error is want of memory.
 pub(crate) fn read(alloc: Global, lines: &CommandLines) -> Result<Command, AllocError>
-    ensures { IfOk result (λ command. command ≡ read lines.now) }
+    ensures said { IfOk result (λ command. command ≡ read lines.now) }
+    ensures proper { IfOk result (λ command. IsProperCommand command) }
 {
     if has_long(lines) {
         return Ok(refused(Refusal::Limit { which: Limit::Line }));
@@ -129,7 +131,8 @@ fn rule_of(alloc: Global, text: &[u8]) -> Result<Option<Key>, AllocError>
 }
 
 fn delta_form(alloc: Global, head: &[u8], lines: &CommandLines) -> Result<Command, AllocError>
-    ensures { IfOk result (λ command. command ≡ delta_form (one_argument (words head.now)) lines.now) }
+    ensures said { IfOk result (λ command. command ≡ delta_form (one_argument (words head.now)) lines.now) }
+    ensures proper { IfOk result (λ command. IsProperCommand command) }
 {
     let Some(source) = one_argument(head) else {
         return Ok(refused(Refusal::Command));
@@ -142,7 +145,8 @@ fn delta_form(alloc: Global, head: &[u8], lines: &CommandLines) -> Result<Comman
 
 /// The delta that a block says.
 fn delta_of(alloc: Global, source: &[u8], block: &[Line]) -> Result<Command, AllocError>
-    ensures { IfOk result (λ command. command ≡ delta_of source.now (block_of 64 (bytes_of_lines block.now))) }
+    ensures said { IfOk result (λ command. command ≡ delta_of source.now (block_of 64 (bytes_of_lines block.now))) }
+    ensures proper { IfOk result (λ command. IsProperCommand command) }
 {
     let lines = lines_of(alloc, block)?;
     match read_block(alloc, &lines) {
@@ -169,7 +173,8 @@ fn lines_of(alloc: Global, block: &[Line]) -> Result<Lines, AllocError>
 }
 
 fn create_form(alloc: Global, lines: &CommandLines) -> Result<Command, AllocError>
-    ensures { IfOk result (λ command. command ≡ form_of Keyword.Create lines.now) }
+    ensures said { IfOk result (λ command. command ≡ form_of Keyword.Create lines.now) }
+    ensures proper { IfOk result (λ command. IsProperCommand command) }
 {
     if !lines.closed {
         return Ok(refused(Refusal::Unfinished));
@@ -180,7 +185,8 @@ fn create_form(alloc: Global, lines: &CommandLines) -> Result<Command, AllocErro
 
 /// The create that a text says.
 fn create_of(alloc: Global, text: &[u8]) -> Result<Command, AllocError>
-    ensures { IfOk result (λ command. command ≡ create_of (statement_of text.now)) }
+    ensures said { IfOk result (λ command. command ≡ create_of (statement_of text.now)) }
+    ensures proper { IfOk result (λ command. IsProperCommand command) }
 {
     match parse_statement(alloc, text) {
         Ok(statement) => Ok(Command::Create { statement }),

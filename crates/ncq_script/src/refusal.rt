@@ -1,5 +1,5 @@
 //! Why a command is refused, and the line that says so.
-ghost use Rattle.std.specs.Prelude.{◌≡◌, ◌++◌, OnOk};
+ghost use Rattle.std.specs.Prelude.{◌≡◌, ◌++◌, length, take, OnOk, OnErr};
 ghost use Rattle.ncq_script.specs.Refusals.{refused_text, word_of, shown, limit_word};
 
 use ncq_base::{Limit, write_decimal};
@@ -44,9 +44,23 @@ pub enum Refusal {
     Unbuilt,
 }
 
-/// Appends the line `<k> refused <number> <word>`, with the shown value where there is one.
+/// Appends the line `<k> refused <number> <word>`, with the shown value where there is one. After want of memory `out` is as before.
 pub fn write_refused(k: u64, refusal: &Refusal, out: &mut Vec<u8>) -> Result<(), AllocError>
-    ensures { OnOk result (out.new.items ≡ out.old.items ++ refused_text k refusal.now) }
+    ensures ok { OnOk result (out.new.items ≡ out.old.items ++ refused_text k refusal.now) }
+    ensures err { OnErr result (out.new.items ≡ out.old.items) }
+{
+    let before = out.len();
+    let written = write_line(k, refusal, out);
+    if written.is_err() {
+        out.truncate(before);
+    }
+    written
+}
+
+/// Appends the line; what was there stays in front.
+fn write_line(k: u64, refusal: &Refusal, out: &mut Vec<u8>) -> Result<(), AllocError>
+    ensures ok { OnOk result (out.new.items ≡ out.old.items ++ refused_text k refusal.now) }
+    ensures front { take (length out.old.items) out.new.items ≡ out.old.items }
 {
     write_decimal(k, out)?;
     out.extend_from_slice(b" refused ")?;
@@ -80,9 +94,10 @@ fn word_of(refusal: &Refusal) -> &[u8]
     }
 }
 
-/// Appends a space and the value that a refusal shows, where it shows one.
+/// Appends a space and the value that a refusal shows, where it shows one; what was there stays in front.
 fn write_shown(refusal: &Refusal, out: &mut Vec<u8>) -> Result<(), AllocError>
-    ensures { OnOk result (out.new.items ≡ out.old.items ++ shown refusal.now) }
+    ensures ok { OnOk result (out.new.items ≡ out.old.items ++ shown refusal.now) }
+    ensures front { take (length out.old.items) out.new.items ≡ out.old.items }
 {
     match refusal {
         Refusal::Pyx { line: number }

@@ -2,6 +2,7 @@
 ghost use Rattle.std.specs.Prelude.{◌≡◌, ◌<◌, ◌^◌, ◌++◌, ℕ, List, [], None, Some, true, false, IfOk, OnOk, OnErr};
 ghost use Rattle.ncq_script.specs.NextOfCommands.{IsNext};
 ghost use Rattle.ncq_script.specs.Reading.{Follows};
+ghost use Rattle.ncq_script.specs.Proper.{GivesProper};
 ghost use Rattle.ncq_script.specs.Reads.{read};
 ghost use Rattle.ncq_script.specs.ScriptReading.{ScriptState, FollowsScript, FollowsWith, limit_of, is_finished};
 ghost use Rattle.ncq_script.specs.NextOfScript.{IsNextCommand, ScriptFalls, LinesTaken};
@@ -80,6 +81,7 @@ impl ScriptReader {
     /// Where memory runs out no command is lost: a later call gives it.
     pub fn next(&mut self) -> Result<Next, AllocError>
         ensures next { IfOk result (λ next. (pushed : List ℕ) (count : ℕ) → FollowsScript self.old pushed count → IsNextCommand self.old self.new pushed count next) }
+        ensures proper { IfOk result GivesProper }
         ensures err { OnErr result ((pushed : List ℕ) (count : ℕ) → FollowsScript self.old pushed count → FollowsScript self.new pushed count) }
         ensures falls { IfOk result (λ next. ScriptFalls self.old self.new next) }
         ensures limit { limit_of self.new ≡ limit_of self.old }
@@ -99,6 +101,7 @@ fn next_read(
         IsNextCommand (record { reader = reader.old; waiting = waiting.old }) (record { reader = reader.new; waiting = waiting.new }) pushed count next) }
     ensures err { OnErr result ((pushed : List ℕ) (count : ℕ) → FollowsScript (record { reader = reader.old; waiting = waiting.old }) pushed count →
         FollowsScript (record { reader = reader.new; waiting = waiting.new }) pushed count) }
+    ensures proper { IfOk result GivesProper }
     ensures falls { IfOk result (λ next. ScriptFalls (record { reader = reader.old; waiting = waiting.old }) (record { reader = reader.new; waiting = waiting.new }) next) }
     ensures limit { reader.new.lines.limit ≡ reader.old.lines.limit }
     ensures finished { reader.new.lines.finished ≡ reader.old.lines.finished }
@@ -135,6 +138,7 @@ fn read_or_wait(
     waiting: &mut Option<CommandLines>,
 ) -> Result<Next, AllocError>
     ensures read { IfOk result (λ next. next ≡ Next.Command (read lines)) }
+    ensures proper { IfOk result GivesProper }
     ensures stays { OnOk result (waiting.new ≡ waiting.old) }
     ensures waits { OnErr result (waiting.new ≡ Some lines) }
 {

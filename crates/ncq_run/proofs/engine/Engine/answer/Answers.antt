@@ -17,4 +17,4 @@ returns-in-Err-clause-answers c =
     on_ok_weaker c.write_refused.result
     (λ e history s. unknown_command c.args.command c.in-Err.refusal is c.args.self.now.store c.args.self.now.subscriptions.items c.args.number c.args.out.now.items
     c.write_refused.new.out.items history e s)
-    c.write_refused.ensures
+    c.write_refused.ensures.ok

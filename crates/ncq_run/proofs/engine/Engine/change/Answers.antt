@@ -21,18 +21,18 @@ pub returns-in-Err-NoSource-clause-applies : goal.returns-in-Err-NoSource-clause
 returns-in-Err-NoSource-clause-applies c = on_ok_weaker c.write_refused.result
     (λ e. prepared_none c.args.self.now.store c.args.self.now.subscriptions.items c.args.number c.args.out.now.items c.args.source.now c.as_slice.result.now c.args.items.now c.prepare.result c.as_slice.ensures
     c.prepare.ensures.none c.prepare.ensures.some _ (c.in-Err-NoSource.is ∙ ap Err c.in-Err-NoSource.field-0-is) e)
-    c.write_refused.ensures
+    c.write_refused.ensures.ok
 
 pub returns-in-Err-BadKey-clause-applies : goal.returns-in-Err-BadKey-clause-applies
 returns-in-Err-BadKey-clause-applies c = on_ok_weaker c.write_refused-in-Err-BadKey.result
     (λ e. prepared_bad c.args.self.now.store c.args.self.now.subscriptions.items c.args.number c.args.out.now.items c.args.source.now c.as_slice.result.now c.args.items.now c.prepare.result c.as_slice.ensures
     c.prepare.ensures.none c.prepare.ensures.some c.in-Err-BadKey.position _ (c.in-Err-BadKey.is ∙ ap Err c.in-Err-BadKey.field-0-is)
     (e ∙ ap (λ (n : ℕ). c.args.out.now.items ++ refused_text c.args.number (Key n)) c.in-Err-BadKey.position-is))
-    c.write_refused-in-Err-BadKey.ensures
+    c.write_refused-in-Err-BadKey.ensures.ok
 
 pub returns-in-Err-NoSuchKey-clause-applies : goal.returns-in-Err-NoSuchKey-clause-applies
 returns-in-Err-NoSuchKey-clause-applies c = on_ok_weaker c.write_refused-in-Err-NoSuchKey.result
     (λ e. prepared_gone c.args.self.now.store c.args.self.now.subscriptions.items c.args.number c.args.out.now.items c.args.source.now c.as_slice.result.now c.args.items.now c.prepare.result c.as_slice.ensures
     c.prepare.ensures.none c.prepare.ensures.some c.in-Err-NoSuchKey.position _ (c.in-Err-NoSuchKey.is ∙ ap Err c.in-Err-NoSuchKey.field-0-is)
     (e ∙ ap (λ (n : ℕ). c.args.out.now.items ++ refused_text c.args.number (NoKey n)) c.in-Err-NoSuchKey.position-is))
-    c.write_refused-in-Err-NoSuchKey.ensures
+    c.write_refused-in-Err-NoSuchKey.ensures.ok

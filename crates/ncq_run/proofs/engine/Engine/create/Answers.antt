@@ -14,7 +14,7 @@ returns-in_default-clause-applies c =
     let missing = find_none c.args.self.now.store c.args.query.source c.as_slice.result.now c.find.result c.as_slice.ensures c.find.ensures c.in_default.is in
     on_ok_weaker c.write_refused-in_default.result
     (λ e. create_of_none c.args.self.now.store c.args.self.now.subscriptions.items c.args.number c.args.out.now.items c.args.query _ none missing e)
-    c.write_refused-in_default.ensures
+    c.write_refused-in_default.ensures.ok
 
 pub returns-then-ne-clause-applies : goal.returns-then-ne-clause-applies
 returns-then-ne-clause-applies c =
@@ -25,7 +25,7 @@ returns-then-ne-clause-applies c =
     let root = ap (λ (name : List ℕ). is_key name c.args.query.root) (sym (c.root_of.ensures d.0 d.1)) ∙ other in
     on_ok_weaker c.write_refused-then-ne.result
     (λ e. create_other_root c.args.self.now.store c.args.self.now.subscriptions.items c.args.number c.args.out.now.items c.args.query c.in-Some.source.0 d.0 none at d.1 _ root e)
-    c.write_refused-then-ne.ensures
+    c.write_refused-then-ne.ensures.ok
 
 pub returns-clause-applies : goal.returns-clause-applies
 returns-clause-applies c =

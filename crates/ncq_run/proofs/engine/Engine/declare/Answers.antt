@@ -21,4 +21,4 @@ returns-in-Err-Exists-clause-applies c = on_ok_weaker c.write_refused.result
     (sym c.in-Err-Exists.ensures.err)
     (declare_refused c.args.self.now.store c.args.self.now.subscriptions.items c.args.number c.args.out.now.items c.args.name c.args.root c.args.key _
     (c.declare.ensures.exists.0 (c.in-Err-Exists.is ∙ ap Err c.in-Err-Exists.field-0-is)) e))
-    c.write_refused.ensures
+    c.write_refused.ensures.ok
