@@ -1,12 +1,12 @@
 -- The first fault of a block, found line by line, is the one that no continuation mends.
-use Rattle.std.proofs.Common.{◌≡◌, inl, inr, ℕ, suc, ◌+◌, ◌<◌, ◌≤◌, Bool, true, false, List, [], ◌∷◌, ◌++◌, Option, Some, None, Result, Ok, Err, if◌then◌else◌, subst, length, take, refl, ap, sym, ◌∙◌, append_assoc, append-nil, length-append, arith}
+use Rattle.std.proofs.Common.{◌≡◌, inl, inr, ℕ, ◌+◌, ◌≤◌, true, false, List, [], ◌∷◌, ◌++◌, Some, None, Result, Ok, Err, if◌then◌else◌, subst, length, take, refl, ap, sym, ◌∙◌, append_assoc, append-nil, length-append, arith}
 use Rattle.std.specs.Option.{option_map}
 use Rattle.std.proofs.Math.Seq.{take-append_seam}
 use Rattle.ncq_pyx.specs.declared.turns.Turn.{Turn}
 use Rattle.ncq_pyx.specs.declared.turns.Item.{Item}
 use Rattle.ncq_pyx.specs.declared.error.PyxError.{PyxError}
 use Rattle.ncq_pyx.specs.declared.error.PyxError.TheVariants.{BadLine, TooDeep, OutOfMemory}
-use Rattle.ncq_pyx.specs.Spells.{Place, Rest, outside, nothing, turn, fits, moved, told, spell, spell_end, spell_turn, spelled, Spells, CanGoOn, EndsAt, IsFault, IsBadLine, IsTooDeep, Refusal, Reads, IsAnswer}
+use Rattle.ncq_pyx.specs.Spells.{Place, Rest, outside, nothing, turn, fits, moved, told, spell, spell_end, spelled, CanGoOn, IsFault, IsBadLine, IsTooDeep, Refusal, Reads, IsAnswer}
 use Rattle.ncq_pyx.specs.Faults.{with_told, read_turn, read_end, read_from, items_of, block_of}
 use Rattle.ncq_pyx.proofs.Steps.{spell_line, spell_none, spell_deep, map_map, fits_more, fits_deeper, moved_depth, closes}
 
