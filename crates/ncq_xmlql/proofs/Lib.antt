@@ -11,4 +11,5 @@ pub mod TimeLaws
 pub mod StatementLaws
 pub mod AnswerLaws
 pub mod NameLaws
+pub mod CallerLemmas
 pub mod WellFormedLaws

@@ -1,5 +1,5 @@
 -- What is spelled is well formed.
-use Rattle.std.proofs.Common.{◌≡◌, ℕ, suc, Bool, true, false, List, [], ◌∷◌, length, map, Result, Ok, Err, IsTrue, refl, sym, ap, ◌∙◌, arith}
+use Rattle.std.proofs.Common.{◌≡◌, ℕ, suc, Bool, true, false, List, [], ◌∷◌, length, map, Result, Ok, Err, IsTrue, refl, ap, ◌∙◌, arith}
 use Rattle.std.specs.Prelude.{◌&&◌, nat_lt, IfOk}
 use Rattle.std.specs.List.{list_all}
 use Rattle.std.proofs.lemmas.Bool.{lt-ltb}
@@ -16,9 +16,6 @@ use Rattle.ncq_xmlql.specs.declared.model.Pattern.{Pattern}
 use Rattle.ncq_xmlql.specs.declared.model.Operand.{Operand}
 use Rattle.ncq_xmlql.specs.declared.model.Template.{Template}
 use Rattle.ncq_xmlql.specs.declared.model.Template.TheVariants as template
-use Rattle.ncq_xmlql.specs.declared.model.Template.TheVariants.{rolls-Variable, rolls-Literal, rolls-Element}
-use Rattle.ncq_xmlql.specs.declared.model.Template.TheOpen.Template-F.{Variable as VariableLayer, Literal as LiteralLayer, Element as ElementLayer}
-use Rattle.ncq_xmlql.specs.declared.model.Template.TheFolds.{para-Template, para-roll-Template}
 use Rattle.ncq_xmlql.specs.declared.model.QueryItem.{QueryItem}
 use Rattle.ncq_xmlql.specs.declared.model.Query.{Query}
 use Rattle.ncq_xmlql.specs.declared.model.Statement.{Statement}
@@ -31,8 +28,9 @@ use Rattle.ncq_xmlql.specs.TemplateGrammar.{IsElement, IsPart, IsParts, IsTop}
 use Rattle.ncq_xmlql.specs.StatementGrammar.{IsComma, IsQuery, IsSpelled}
 use Rattle.ncq_xmlql.specs.Statements.{IsStatement, AreWithin}
 use Rattle.ncq_xmlql.specs.Answered.{statement_of, GivesStatement}
-use Rattle.ncq_xmlql.specs.WellFormed.{begins_with_match, item_is_whole, names_are_good, template_layer, template_is_good, IsWellFormed}
+use Rattle.ncq_xmlql.specs.WellFormed.{begins_with_match, item_is_whole, names_are_good, template_is_good, IsWellFormed}
 use Rattle.ncq_xmlql.proofs.AnswerLaws.{given_is_exact}
+use Rattle.ncq_xmlql.proofs.CallerLemmas.{good_variable, good_literal, good_element}
 
 -- ---- names of statements are names of PYX
 
@@ -163,26 +161,10 @@ items_begin (IsItems.items {more = more} h hs) = match_begins more h
 
 -- ---- templates
 
-good_variable : (x : List ℕ) → template_is_good (template.Variable x) ≡ true
-unfolding template_is_good
-good_variable x = ap (para-Template Bool template_layer) (sym (rolls-Variable x)) ∙ para-roll-Template Bool template_layer (VariableLayer x)
-
-good_literal : (text : List ℕ) → template_is_good (template.Literal text) ≡ true
-unfolding template_is_good
-good_literal text = ap (para-Template Bool template_layer) (sym (rolls-Literal text)) ∙ para-roll-Template Bool template_layer (LiteralLayer text)
-
-all-of-map : {X Y : Type 0} (p : Y → Bool) (g : X → Y) (xs : List X) → list_all p (map g xs) ≡ list_all (λ x. p (g x)) xs
-all-of-map p g [] = refl
-all-of-map p g (x ∷ xs) = ap (λ (b : Bool). p (g x) && b) (all-of-map p g xs)
-
-good_element : (tag : List ℕ) (attributes : List TemplateAttribute) (content : List Template)
+element_is_good : (tag : List ℕ) (attributes : List TemplateAttribute) (content : List Template)
     → is_pyx_name tag ≡ true → names_are_good (map (λ a. a.name) attributes) ≡ true → list_all template_is_good content ≡ true
     → template_is_good (template.Element tag attributes content) ≡ true
-unfolding template_is_good
-good_element tag attributes content named names good =
-    ap (para-Template Bool template_layer) (sym (rolls-Element tag attributes content))
-    ∙ para-roll-Template Bool template_layer (ElementLayer tag attributes content)
-    ∙ rw (named, names, all-of-map (λ (t : Template × Bool). t.1) (λ (t : Template). (t, template_is_good t)) content, good) refl
+element_is_good tag attributes content named names good = good_element tag attributes content ∙ rw (named, names, good) refl
 
 names_kept : (attributes : List PatternAttribute) → map (λ a. a.name) (map template_attribute attributes) ≡ names_of attributes
 names_kept [] = refl
@@ -207,14 +189,14 @@ mutual
       let attributed = attributes_named attrs s.1 in
       let below = parts_good content attributed.behind_named in
       record {
-        is_good = good_element tag (map template_attribute attributes) inside (pyx_name tag s.0) (names_good attributes _ attributed differ) below.are_good;
+        is_good = element_is_good tag (map template_attribute attributes) inside (pyx_name tag s.0) (names_good attributes _ attributed differ) below.are_good;
         behind_named = end_named end below.behind_named;
       }
   element_good (IsElement.empty {tag = tag} {attributes = attributes} {a = rest} attrs differ) named =
       let s = both (is_name tag) (list_all is_well_named rest) named in
       let attributed = attributes_named attrs s.1 in
       record {
-        is_good = good_element tag (map template_attribute attributes) [] (pyx_name tag s.0) (names_good attributes _ attributed differ) refl;
+        is_good = element_is_good tag (map template_attribute attributes) [] (pyx_name tag s.0) (names_good attributes _ attributed differ) refl;
         behind_named = attributed.behind_named;
       }
 

@@ -38,6 +38,7 @@ template_layer (Element tag attributes content) = is_pyx_name tag && names_are_g
 unfoldable pub template_is_good : Template → Bool
 template_is_good = para-Template Bool template_layer
 
+-- The first item is a match, each item is whole, the counts are within the limits, and the template is good.
 pub record IsWellFormed (st : Statement) : Type 0 where
   pub begins : begins_with_match st.query.items ≡ true
   pub items : list_all item_is_whole st.query.items ≡ true

@@ -117,7 +117,7 @@ fn parse_tokens(alloc: Global, tokens: &[Token]) -> Result<Statement, StatementE
 ///
 /// The first of these that holds decides: `NotAStatement` where the text has no tokens; `Limit` with `Pattern` where its tags
 /// nest deeper than 32; `NotAStatement` where its tokens spell no statement; `Limit` with `Arms` over 8, with `Slots`
-/// over 64, with `Conditions` over 32. Else the answer is the one statement that the text spells.
+/// over 64, with `Conditions` over 32. Else the answer is the one statement that the text spells, which is well formed.
 #[tactic(auto, using(crate::proofs::AnswerLaws::given_is_exact), unfolding(crate::specs::Answered::statement_of))]
 pub fn parse_statement(alloc: Global, text: &[u8]) -> Result<Statement, StatementError>
     ensures exact { Answers text.now result }

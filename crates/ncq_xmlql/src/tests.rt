@@ -195,54 +195,86 @@ fn expect_behind(
     Ok(())
 }
 
+const WHOLE_STATEMENTS: &[(&str, &str)] = &[
+    (
+        "r WHERE <Quotes><Quote><Tag>$s</></></> IN \"quotes\" CONSTRUCT <r>$s</> DO print",
+        "r: Quotes(<Quote(<Tag=$s>)>) in quotes; -> <r($s)> do print every 0",
+    ),
+    (
+        "e WHERE <Quotes><Quote><Price>$p</></></> IN \"quotes\", $p = 100 CONSTRUCT <p>$p</> DO print",
+        "e: Quotes(<Quote(<Price=$p>)>) in quotes; $p = '100'; -> <p($p)> do print every 0",
+    ),
+    (
+        "e WHERE <Quotes><Quote><Price>$p</></></> IN \"quotes\", $p > abc CONSTRUCT <p>$p</> DO print",
+        "e: Quotes(<Quote(<Price=$p>)>) in quotes; $p > 'abc'; -> <p($p)> do print every 0",
+    ),
+    (
+        "j WHERE <Quotes><Quote><Symbol>$s</><Price>$p</></></> IN \"quotes\", <Companies><Company><Symbol>$s</><Area>$a</></></> IN \"companies\" CONSTRUCT <hit><s>$s</><p>$p</><a>$a</></> DO print",
+        "j: Quotes(<Quote(<Symbol=$s><Price=$p>)>) in quotes; Companies(<Company(<Symbol=$s><Area=$a>)>) in companies; -> <hit(<s($s)><p($p)><a($a)>)> do print every 0",
+    ),
+    (
+        "p WHERE <Quotes><Quote><Symbol>$a</><Price>$p</></><Quote><Symbol>$b</><Price>$p</></></> IN \"quotes\" CONSTRUCT <pair a=$a b=$b/> DO print",
+        "p: Quotes(<Quote(<Symbol=$a><Price=$p>)><Quote(<Symbol=$b><Price=$p>)>) in quotes; -> <pair a=$a b=$b()> do print every 0",
+    ),
+    (
+        "t WHERE <Quotes><Quote><Symbol>$s</></></> IN \"quotes\" CONSTRUCT $s DO print START 10 EVERY 10",
+        "t: Quotes(<Quote(<Symbol=$s>)>) in quotes; -> $s do print start 10 every 10",
+    ),
+    (
+        "t WHERE <Quotes><Quote><Symbol>$s</></></> IN \"quotes\" CONSTRUCT $s DO print EVERY 1",
+        "t: Quotes(<Quote(<Symbol=$s>)>) in quotes; -> $s do print every 1",
+    ),
+    (
+        "n WHERE <Quotes><Quote><Symbol>$s</><Price>$p</></></> IN \"quotes\" CONSTRUCT <r sym=$s>\"Price of \" $s is $p</> DO print",
+        "n: Quotes(<Quote(<Symbol=$s><Price=$p>)>) in quotes; -> <r sym=$s('Price of '$s'is'$p)> do print every 0",
+    ),
+    (
+        "i WHERE <Cs><C id=\"7.0\"></> ELEMENT_AS $e</> IN \"c\" CONSTRUCT $e DO print",
+        "i: Cs(<C id='7.0'()!e$e>) in c; -> $e do print every 0",
+    ),
+];
+
 #[test]
 fn whole_statements(rt: HostRuntime) -> Result<(), Fail> {
-    expect_behind(
-        &rt,
-        rt.alloc(),
-        "create ",
-        "",
-        &[
-            (
-                "r WHERE <Quotes><Quote><Tag>$s</></></> IN \"quotes\" CONSTRUCT <r>$s</> DO print",
-                "r: Quotes(<Quote(<Tag=$s>)>) in quotes; -> <r($s)> do print every 0",
-            ),
-            (
-                "e WHERE <Quotes><Quote><Price>$p</></></> IN \"quotes\", $p = 100 CONSTRUCT <p>$p</> DO print",
-                "e: Quotes(<Quote(<Price=$p>)>) in quotes; $p = '100'; -> <p($p)> do print every 0",
-            ),
-            (
-                "e WHERE <Quotes><Quote><Price>$p</></></> IN \"quotes\", $p > abc CONSTRUCT <p>$p</> DO print",
-                "e: Quotes(<Quote(<Price=$p>)>) in quotes; $p > 'abc'; -> <p($p)> do print every 0",
-            ),
-            (
-                "j WHERE <Quotes><Quote><Symbol>$s</><Price>$p</></></> IN \"quotes\", <Companies><Company><Symbol>$s</><Area>$a</></></> IN \"companies\" CONSTRUCT <hit><s>$s</><p>$p</><a>$a</></> DO print",
-                "j: Quotes(<Quote(<Symbol=$s><Price=$p>)>) in quotes; Companies(<Company(<Symbol=$s><Area=$a>)>) in companies; -> <hit(<s($s)><p($p)><a($a)>)> do print every 0",
-            ),
-            (
-                "p WHERE <Quotes><Quote><Symbol>$a</><Price>$p</></><Quote><Symbol>$b</><Price>$p</></></> IN \"quotes\" CONSTRUCT <pair a=$a b=$b/> DO print",
-                "p: Quotes(<Quote(<Symbol=$a><Price=$p>)><Quote(<Symbol=$b><Price=$p>)>) in quotes; -> <pair a=$a b=$b()> do print every 0",
-            ),
-            (
-                "t WHERE <Quotes><Quote><Symbol>$s</></></> IN \"quotes\" CONSTRUCT $s DO print START 10 EVERY 10",
-                "t: Quotes(<Quote(<Symbol=$s>)>) in quotes; -> $s do print start 10 every 10",
-            ),
-            (
-                "t WHERE <Quotes><Quote><Symbol>$s</></></> IN \"quotes\" CONSTRUCT $s DO print EVERY 1",
-                "t: Quotes(<Quote(<Symbol=$s>)>) in quotes; -> $s do print every 1",
-            ),
-            (
-                "n WHERE <Quotes><Quote><Symbol>$s</><Price>$p</></></> IN \"quotes\" CONSTRUCT <r sym=$s>\"Price of \" $s is $p</> DO print",
-                "n: Quotes(<Quote(<Symbol=$s><Price=$p>)>) in quotes; -> <r sym=$s('Price of '$s'is'$p)> do print every 0",
-            ),
-            (
-                "i WHERE <Cs><C id=\"7.0\"></> ELEMENT_AS $e</> IN \"c\" CONSTRUCT $e DO print",
-                "i: Cs(<C id='7.0'()!e$e>) in c; -> $e do print every 0",
-            ),
-        ],
-    )?;
+    expect_behind(&rt, rt.alloc(), "create ", "", WHOLE_STATEMENTS)?;
     Ok(())
 }
+
+const ACTIONS_ARGUMENTS_AND_TIMES: &[(&str, &str)] = &[
+    ("print", "print every 0"),
+    ("print START 5 EXPIRE 5", "print start 5 every 0 expire 5"),
+    ("print EXPIRE 4 START 5", "print start 5 every 0 expire 4"),
+    ("MailTo \"ops desk\"", "mailto 'ops desk' every 0"),
+    ("MailTo Ops", "mailto 'Ops' every 0"),
+    ("print \"\"", "print '' every 0"),
+    ("count", "count every 0"),
+    ("fax", "fax every 0"),
+    ("print x", "print 'x' every 0"),
+    ("mailto", "mailto every 0"),
+    ("start 5", "start '5' every 0"),
+    ("start start 5", "start start 5 every 0"),
+    ("mailto EVERY 5", "mailto every 5"),
+    ("mailto \"start\" start 5", "mailto 'start' start 5 every 0"),
+    ("x expire 1 every 2 start 3", "x start 3 every 2 expire 1"),
+    ("x every 0", "x every 0"),
+    (
+        "x start 18446744073709551615",
+        "x start 18446744073709551615 every 0",
+    ),
+    ("x start 18446744073709551616", "none"),
+    ("x start 00000000000000000007", "x start 7 every 0"),
+    ("x start 000000000000000000007", "none"),
+    ("x start \"5\"", "none"),
+    ("x start", "none"),
+    ("x start y", "none"),
+    ("x start 1 start 2", "none"),
+    ("x every 1 every 1", "none"),
+    ("x expire 1 expire 1", "none"),
+    ("x y z", "none"),
+    ("x start 1 y", "none"),
+    ("\"x\"", "none"),
+    ("", "none"),
+];
 
 #[test]
 fn actions_arguments_and_times(rt: HostRuntime) -> Result<(), Fail> {
@@ -251,153 +283,142 @@ fn actions_arguments_and_times(rt: HostRuntime) -> Result<(), Fail> {
         rt.alloc(),
         "create w WHERE <Quotes><Quote><Symbol>INTC</></> ELEMENT_AS $g</> IN \"quotes\" CONSTRUCT $g DO ",
         "w: Quotes(<Quote(<Symbol='INTC'>)!e$g>) in quotes; -> $g do ",
-        &[
-            ("print", "print every 0"),
-            ("print START 5 EXPIRE 5", "print start 5 every 0 expire 5"),
-            ("print EXPIRE 4 START 5", "print start 5 every 0 expire 4"),
-            ("MailTo \"ops desk\"", "mailto 'ops desk' every 0"),
-            ("MailTo Ops", "mailto 'Ops' every 0"),
-            ("print \"\"", "print '' every 0"),
-            ("count", "count every 0"),
-            ("fax", "fax every 0"),
-            ("print x", "print 'x' every 0"),
-            ("mailto", "mailto every 0"),
-            ("start 5", "start '5' every 0"),
-            ("start start 5", "start start 5 every 0"),
-            ("mailto EVERY 5", "mailto every 5"),
-            ("mailto \"start\" start 5", "mailto 'start' start 5 every 0"),
-            ("x expire 1 every 2 start 3", "x start 3 every 2 expire 1"),
-            ("x every 0", "x every 0"),
-            (
-                "x start 18446744073709551615",
-                "x start 18446744073709551615 every 0",
-            ),
-            ("x start 18446744073709551616", "none"),
-            ("x start 00000000000000000007", "x start 7 every 0"),
-            ("x start 000000000000000000007", "none"),
-            ("x start \"5\"", "none"),
-            ("x start", "none"),
-            ("x start y", "none"),
-            ("x start 1 start 2", "none"),
-            ("x every 1 every 1", "none"),
-            ("x expire 1 expire 1", "none"),
-            ("x y z", "none"),
-            ("x start 1 y", "none"),
-            ("\"x\"", "none"),
-            ("", "none"),
-        ],
+        ACTIONS_ARGUMENTS_AND_TIMES,
     )?;
     Ok(())
 }
+
+const KEYWORDS_AND_NAMES: &[(&str, &str)] = &[
+    (
+        "CREATE w where <R><a></a></R> in q construct $x do x",
+        "w: R(<a()>) in q; -> $x do x every 0",
+    ),
+    (
+        "Create w Where <R><a/></> In q, Construct $x Do x",
+        "w: R(<a()>) in q; -> $x do x every 0",
+    ),
+    (
+        "create create where <R><a/></> in q construct $x do x",
+        "create: R(<a()>) in q; -> $x do x every 0",
+    ),
+    (
+        "create x-1:y where <R><a/></> in q construct $x do x",
+        "x-1:y: R(<a()>) in q; -> $x do x every 0",
+    ),
+    ("create 1x where <R><a/></> in q construct $x do x", "none"),
+    (
+        "create \"x\" where <R><a/></> in q construct $x do x",
+        "none",
+    ),
+    ("made x where <R><a/></> in q construct $x do x", "none"),
+    ("create x <R><a/></> in q construct $x do x", "none"),
+    ("create x where <R><a/></> q construct $x do x", "none"),
+    ("create x where <R><a/></> in q $x do x", "none"),
+    ("create x where <R><a/></> in q construct $x x", "none"),
+    ("create x where <R><a/></> in q,, construct $x do x", "none"),
+    (
+        "create x where <R><a/></> in construct CONSTRUCT $x do x",
+        "x: R(<a()>) in construct; -> $x do x every 0",
+    ),
+    ("", "none"),
+    ("create", "none"),
+    ("create x where <R><a/></> in \"q construct $x do x", "none"),
+    ("create x where <R><a/></> in q construct $ do x", "none"),
+    ("create x where <9><a/></> in q construct $x do x", "none"),
+];
 
 #[test]
 fn keywords_and_names(rt: HostRuntime) -> Result<(), Fail> {
-    expect_behind(
-        &rt,
-        rt.alloc(),
-        "",
-        "",
-        &[
-            (
-                "CREATE w where <R><a></a></R> in q construct $x do x",
-                "w: R(<a()>) in q; -> $x do x every 0",
-            ),
-            (
-                "Create w Where <R><a/></> In q, Construct $x Do x",
-                "w: R(<a()>) in q; -> $x do x every 0",
-            ),
-            (
-                "create create where <R><a/></> in q construct $x do x",
-                "create: R(<a()>) in q; -> $x do x every 0",
-            ),
-            (
-                "create x-1:y where <R><a/></> in q construct $x do x",
-                "x-1:y: R(<a()>) in q; -> $x do x every 0",
-            ),
-            ("create 1x where <R><a/></> in q construct $x do x", "none"),
-            (
-                "create \"x\" where <R><a/></> in q construct $x do x",
-                "none",
-            ),
-            ("made x where <R><a/></> in q construct $x do x", "none"),
-            ("create x <R><a/></> in q construct $x do x", "none"),
-            ("create x where <R><a/></> q construct $x do x", "none"),
-            ("create x where <R><a/></> in q $x do x", "none"),
-            ("create x where <R><a/></> in q construct $x x", "none"),
-            ("create x where <R><a/></> in q,, construct $x do x", "none"),
-            (
-                "create x where <R><a/></> in construct CONSTRUCT $x do x",
-                "x: R(<a()>) in construct; -> $x do x every 0",
-            ),
-            ("", "none"),
-            ("create", "none"),
-            ("create x where <R><a/></> in \"q construct $x do x", "none"),
-            ("create x where <R><a/></> in q construct $ do x", "none"),
-            ("create x where <9><a/></> in q construct $x do x", "none"),
-        ],
-    )?;
+    expect_behind(&rt, rt.alloc(), "", "", KEYWORDS_AND_NAMES)?;
     Ok(())
 }
 
+const PATTERNS: &[(&str, &str)] = &[
+    (
+        "<R><a>x  y</></> in \"q r\" construct $x do x",
+        "R(<a='x y'>) in q r; -> $x do x every 0",
+    ),
+    (
+        "<R><a>\"x  y\"</></> in q construct $x do x",
+        "R(<a='x  y'>) in q; -> $x do x every 0",
+    ),
+    (
+        "<R><a>$y</a></> in q construct $x do x",
+        "R(<a=$y>) in q; -> $x do x every 0",
+    ),
+    (
+        "<R><a b=\"1\" B=$c/> content_as $d</> in q construct $x do x",
+        "R(<a b='1' B=$c()!c$d>) in q; -> $x do x every 0",
+    ),
+    (
+        "<R><a>element_as</></> in q construct $x do x",
+        "R(<a='element_as'>) in q; -> $x do x every 0",
+    ),
+    (
+        "<R><a><b/><c/></></> in q construct $x do x",
+        "R(<a(<b()><c()>)>) in q; -> $x do x every 0",
+    ),
+    (
+        "<R><a/></R> in q, <S><b/></S> in r, construct $x do x",
+        "R(<a()>) in q; S(<b()>) in r; -> $x do x every 0",
+    ),
+    ("<R></> in q construct $x do x", "none"),
+    ("<R/> in q construct $x do x", "none"),
+    ("<R b=\"1\"><a/></> in q construct $x do x", "none"),
+    ("<R><a></b></> in q construct $x do x", "none"),
+    ("<R><a></A></> in q construct $x do x", "none"),
+    ("<R><a/></S> in q construct $x do x", "none"),
+    ("<R><a/> element_as</> in q construct $x do x", "none"),
+    (
+        "<R><a/> element_as $x content_as $y</> in q construct $x do x",
+        "none",
+    ),
+    ("<R><a/></> element_as $x in q construct $x do x", "none"),
+    ("<R><a b=\"1\" b=\"2\"/></> in q construct $x do x", "none"),
+    ("<R><a b/></> in q construct $x do x", "none"),
+    ("<R><a b=1/></> in q construct $x do x", "none"),
+    ("<R><a>x \"y\"</></> in q construct $x do x", "none"),
+    ("<R><a>x <b/></></> in q construct $x do x", "none"),
+    ("<R><a></> in q construct $x do x", "none"),
+    ("$x = 1 construct $x do x", "none"),
+];
+
 #[test]
 fn patterns(rt: HostRuntime) -> Result<(), Fail> {
-    expect_behind(
-        &rt,
-        rt.alloc(),
-        "create w where ",
-        "w: ",
-        &[
-            (
-                "<R><a>x  y</></> in \"q r\" construct $x do x",
-                "R(<a='x y'>) in q r; -> $x do x every 0",
-            ),
-            (
-                "<R><a>\"x  y\"</></> in q construct $x do x",
-                "R(<a='x  y'>) in q; -> $x do x every 0",
-            ),
-            (
-                "<R><a>$y</a></> in q construct $x do x",
-                "R(<a=$y>) in q; -> $x do x every 0",
-            ),
-            (
-                "<R><a b=\"1\" B=$c/> content_as $d</> in q construct $x do x",
-                "R(<a b='1' B=$c()!c$d>) in q; -> $x do x every 0",
-            ),
-            (
-                "<R><a>element_as</></> in q construct $x do x",
-                "R(<a='element_as'>) in q; -> $x do x every 0",
-            ),
-            (
-                "<R><a><b/><c/></></> in q construct $x do x",
-                "R(<a(<b()><c()>)>) in q; -> $x do x every 0",
-            ),
-            (
-                "<R><a/></R> in q, <S><b/></S> in r, construct $x do x",
-                "R(<a()>) in q; S(<b()>) in r; -> $x do x every 0",
-            ),
-            ("<R></> in q construct $x do x", "none"),
-            ("<R/> in q construct $x do x", "none"),
-            ("<R b=\"1\"><a/></> in q construct $x do x", "none"),
-            ("<R><a></b></> in q construct $x do x", "none"),
-            ("<R><a></A></> in q construct $x do x", "none"),
-            ("<R><a/></S> in q construct $x do x", "none"),
-            ("<R><a/> element_as</> in q construct $x do x", "none"),
-            (
-                "<R><a/> element_as $x content_as $y</> in q construct $x do x",
-                "none",
-            ),
-            ("<R><a/></> element_as $x in q construct $x do x", "none"),
-            ("<R><a b=\"1\" b=\"2\"/></> in q construct $x do x", "none"),
-            ("<R><a b/></> in q construct $x do x", "none"),
-            ("<R><a b=1/></> in q construct $x do x", "none"),
-            ("<R><a>x \"y\"</></> in q construct $x do x", "none"),
-            ("<R><a>x <b/></></> in q construct $x do x", "none"),
-            ("<R><a></> in q construct $x do x", "none"),
-            ("$x = 1 construct $x do x", "none"),
-        ],
-    )?;
+    expect_behind(&rt, rt.alloc(), "create w where ", "w: ", PATTERNS)?;
     Ok(())
 }
+
+const CONDITIONS_AND_TEMPLATES: &[(&str, &str)] = &[
+    (
+        ", $x = $y, $x != 1, 1 < $x, \"a b\" <= $x, $x > -1.5, $x >= \"\" construct $x do x",
+        "$x = $y; $x != '1'; '1' < $x; 'a b' <= $x; $x > '-1.5'; $x >= ''; -> $x do x every 0",
+    ),
+    (
+        ", $x = construct CONSTRUCT $x do x",
+        "$x = 'construct'; -> $x do x every 0",
+    ),
+    (", construct = $x construct $x do x", "none"),
+    (", 1 = 1 construct $x do x", "none"),
+    (", $x construct $x do x", "none"),
+    (", $x = construct $x do x", "none"),
+    (" $x = 1 construct $x do x", "none"),
+    (" construct <r/> do x", "-> <r()> do x every 0"),
+    (
+        " construct <r b=\"1\" c=$d></r> do x",
+        "-> <r b='1' c=$d()> do x every 0",
+    ),
+    (
+        " construct <r>x y \"z\" $v w <s>t</s> u</> do x",
+        "-> <r('x y''z'$v'w'<s('t')>'u')> do x every 0",
+    ),
+    (" construct <r b=\"1\" b=$c/> do x", "none"),
+    (" construct <r></s> do x", "none"),
+    (" construct <r> do x", "none"),
+    (" construct r do x", "none"),
+    (" construct \"r\" do x", "none"),
+    (" construct $x $y do x", "none"),
+];
 
 #[test]
 fn conditions_and_templates(rt: HostRuntime) -> Result<(), Fail> {
@@ -406,54 +427,118 @@ fn conditions_and_templates(rt: HostRuntime) -> Result<(), Fail> {
         rt.alloc(),
         "create w where <R><a/></> in q",
         "w: R(<a()>) in q; ",
-        &[
-            (
-                ", $x = $y, $x != 1, 1 < $x, \"a b\" <= $x, $x > -1.5, $x >= \"\" construct $x do x",
-                "$x = $y; $x != '1'; '1' < $x; 'a b' <= $x; $x > '-1.5'; $x >= ''; -> $x do x every 0",
-            ),
-            (
-                ", $x = construct CONSTRUCT $x do x",
-                "$x = 'construct'; -> $x do x every 0",
-            ),
-            (", construct = $x construct $x do x", "none"),
-            (", 1 = 1 construct $x do x", "none"),
-            (", $x construct $x do x", "none"),
-            (", $x = construct $x do x", "none"),
-            (" $x = 1 construct $x do x", "none"),
-            (" construct <r/> do x", "-> <r()> do x every 0"),
-            (
-                " construct <r b=\"1\" c=$d></r> do x",
-                "-> <r b='1' c=$d()> do x every 0",
-            ),
-            (
-                " construct <r>x y \"z\" $v w <s>t</s> u</> do x",
-                "-> <r('x y''z'$v'w'<s('t')>'u')> do x every 0",
-            ),
-            (" construct <r b=\"1\" b=$c/> do x", "none"),
-            (" construct <r></s> do x", "none"),
-            (" construct <r> do x", "none"),
-            (" construct r do x", "none"),
-            (" construct \"r\" do x", "none"),
-            (" construct $x $y do x", "none"),
-        ],
+        CONDITIONS_AND_TEMPLATES,
     )?;
     Ok(())
 }
 
-/// What kind of answer a text has that is a head, a piece again and again, a middle, another piece as often, and a tail.
-fn kind_of(
-    alloc: Global,
-    head: &str,
-    pieces: (&str, &str),
-    times: usize,
-    tails: (&str, &str),
-) -> Result<Vec<u8>, AllocError> {
+/// A text that is a head, a piece again and again, a middle, another piece as often, and a tail.
+type Repeated = (
+    &'static str,
+    (&'static str, &'static str),
+    usize,
+    (&'static str, &'static str),
+);
+
+const END: &str = "</> in q construct $x do x";
+
+const LIMITS: &[(Repeated, &str)] = &[
+    (
+        ("create w where <R>", ("<a>", "</>"), 31, ("", END)),
+        "statement",
+    ),
+    (
+        ("create w where <R>", ("<a>", "</>"), 32, ("", END)),
+        "limit pattern",
+    ),
+    (
+        ("create w where <R>", ("<a>", "</>"), 31, ("<b/>", END)),
+        "limit pattern",
+    ),
+    (("", ("<a>", ""), 32, ("", "")), "none"),
+    (("", ("<a>", ""), 33, ("", "")), "limit pattern"),
+    (("", ("<a>", ""), 33, ("$", "")), "none"),
+    (
+        ("create w where <R>", ("<a/>", ""), 8, ("", END)),
+        "statement",
+    ),
+    (
+        ("create w where <R>", ("<a/>", ""), 9, ("", END)),
+        "limit arms",
+    ),
+    (
+        ("create w where <R><a>", ("<b>x</>", ""), 64, ("</>", END)),
+        "statement",
+    ),
+    (
+        ("create w where <R><a>", ("<b>x</>", ""), 65, ("</>", END)),
+        "limit slots",
+    ),
+    (
+        (
+            "create w where <R><a>",
+            ("<b c=\"\"/> element_as $y", ""),
+            32,
+            ("</>", END),
+        ),
+        "statement",
+    ),
+    (
+        (
+            "create w where <R><a>",
+            ("<b c=\"\"/> element_as $y", ""),
+            33,
+            ("</>", END),
+        ),
+        "limit slots",
+    ),
+    (
+        (
+            "create w where <R><a/></> in q",
+            (", $x = 1", ""),
+            32,
+            (" construct $x do x", ""),
+        ),
+        "statement",
+    ),
+    (
+        (
+            "create w where <R><a/></> in q",
+            (", $x = 1", ""),
+            33,
+            (" construct $x do x", ""),
+        ),
+        "limit conditions",
+    ),
+    (
+        (
+            "create w where <R>",
+            ("<a c=\"\" d=\"\">x</>", ""),
+            33,
+            ("", END),
+        ),
+        "limit arms",
+    ),
+    (
+        (
+            "create w where <R><a>",
+            ("<b>x</>", ""),
+            65,
+            ("</></> in q", " construct $x do"),
+        ),
+        "none",
+    ),
+];
+
+/// What kind of answer the text has.
+fn kind_of(alloc: Global, repeated: &Repeated) -> Result<Vec<u8>, AllocError> {
+    let (head, pieces, times, tails) = repeated;
     let mut text = Vec::from_slice(alloc, head.as_bytes())?;
-    for _ in 0..times {
+    for _ in 0..*times {
         text.extend_from_slice(pieces.0.as_bytes())?;
     }
     text.extend_from_slice(tails.0.as_bytes())?;
-    for _ in 0..times {
+    for _ in 0..*times {
         text.extend_from_slice(pieces.1.as_bytes())?;
     }
     text.extend_from_slice(tails.1.as_bytes())?;
@@ -466,107 +551,13 @@ fn kind_of(
 
 #[test]
 fn limits(rt: HostRuntime) -> Result<(), Fail> {
-    let end = "</> in q construct $x do x";
-    for (head, pieces, times, tails, want) in [
-        (
-            "create w where <R>",
-            ("<a>", "</>"),
-            31,
-            ("", end),
-            "statement",
-        ),
-        (
-            "create w where <R>",
-            ("<a>", "</>"),
-            32,
-            ("", end),
-            "limit pattern",
-        ),
-        (
-            "create w where <R>",
-            ("<a>", "</>"),
-            31,
-            ("<b/>", end),
-            "limit pattern",
-        ),
-        ("", ("<a>", ""), 32, ("", ""), "none"),
-        ("", ("<a>", ""), 33, ("", ""), "limit pattern"),
-        ("", ("<a>", ""), 33, ("$", ""), "none"),
-        (
-            "create w where <R>",
-            ("<a/>", ""),
-            8,
-            ("", end),
-            "statement",
-        ),
-        (
-            "create w where <R>",
-            ("<a/>", ""),
-            9,
-            ("", end),
-            "limit arms",
-        ),
-        (
-            "create w where <R><a>",
-            ("<b>x</>", ""),
-            64,
-            ("</>", end),
-            "statement",
-        ),
-        (
-            "create w where <R><a>",
-            ("<b>x</>", ""),
-            65,
-            ("</>", end),
-            "limit slots",
-        ),
-        (
-            "create w where <R><a>",
-            ("<b c=\"\"/> element_as $y", ""),
-            32,
-            ("</>", end),
-            "statement",
-        ),
-        (
-            "create w where <R><a>",
-            ("<b c=\"\"/> element_as $y", ""),
-            33,
-            ("</>", end),
-            "limit slots",
-        ),
-        (
-            "create w where <R><a/></> in q",
-            (", $x = 1", ""),
-            32,
-            (" construct $x do x", ""),
-            "statement",
-        ),
-        (
-            "create w where <R><a/></> in q",
-            (", $x = 1", ""),
-            33,
-            (" construct $x do x", ""),
-            "limit conditions",
-        ),
-        (
-            "create w where <R>",
-            ("<a c=\"\" d=\"\">x</>", ""),
-            33,
-            ("", end),
-            "limit arms",
-        ),
-        (
-            "create w where <R><a>",
-            ("<b>x</>", ""),
-            65,
-            ("</></> in q", " construct $x do"),
-            "none",
-        ),
-    ] {
-        let got = kind_of(rt.alloc(), head, pieces, times, tails)?;
+    for (repeated, want) in LIMITS {
+        let got = kind_of(rt.alloc(), repeated)?;
         assert!(rt;
             got.as_slice() == want.as_bytes(),
-            "at {head} and {times} pieces"
+            "at {} and {} pieces",
+            repeated.0,
+            repeated.2
         );
     }
     Ok(())
