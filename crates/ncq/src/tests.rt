@@ -11,11 +11,16 @@ use std::process::Abort;
 use std::sync::ledger::{Blank, Ledger};
 use std::test::Fail;
 
+mod blocks;
 mod calls;
+mod cuts;
+mod declarations;
 mod faults;
 mod limits;
+mod lines;
 mod notices;
-mod refusals;
+mod refused;
+mod statements;
 mod values;
 
 /// Declares the source `quotes`. The key of its elements is their child `Symbol`.
@@ -38,6 +43,19 @@ const TOLD_95: &str =
 
 const TOLD_96: &str =
     "notice w 0\nlose 1\n(Quote\n(Symbol\n-INTC\n)Symbol\n(Price\n-95.5\n)Price\n)Quote\ngain 1\n(Quote\n(Symbol\n-INTC\n)Symbol\n(Price\n-96\n)Price\n)Quote\nend\n";
+
+/// Deletes the quote INTC.
+const DELETE: &str = "delta quotes\n!INTC\n.\n";
+
+/// What `w` is told where the quote of `PUT_95` is deleted.
+const LOST_95: &str =
+    "notice w 0\nlose 1\n(Quote\n(Symbol\n-INTC\n)Symbol\n(Price\n-95.5\n)Price\n)Quote\nend\n";
+
+/// A script beside its whole output.
+type Case<'a> = (&'a str, &'a str);
+
+/// The parts of a script beside the parts of its whole output.
+type Parts<'a> = (&'a [&'a str], &'a [&'a str]);
 
 /// The numbers of the reads and writes that fail, the most bytes of a read, and the room for what is written.
 #[derive(Clone, Copy)]
@@ -134,6 +152,31 @@ fn expect_output(
         let outcome = outcome_of(alloc, script, in_pieces(piece))?;
         assert_eq!(rt; outcome.status, Status::Done, "{why}");
         assert_eq!(rt; outcome.written.as_slice(), want, "{why}");
+    }
+    Ok(())
+}
+
+/// Each script, behind the front, is answered with its output behind that of the front.
+fn expect_each(
+    rt: &impl Abort,
+    alloc: Global,
+    front: Case<'_>,
+    cases: &[Case<'_>],
+) -> Result<(), Fail> {
+    for (script, want) in cases {
+        let all = joined(alloc, &[front.0, *script])?;
+        let want = joined(alloc, &[front.1, *want])?;
+        expect_output(rt, alloc, &all, &want, script)?;
+    }
+    Ok(())
+}
+
+/// Each script that is joined of its parts is answered with its parts of output.
+fn expect_parts(rt: &impl Abort, alloc: Global, cases: &[Parts<'_>]) -> Result<(), Fail> {
+    for (script, want) in cases {
+        let script = joined(alloc, script)?;
+        let want = joined(alloc, want)?;
+        expect_output(rt, alloc, &script, &want, "")?;
     }
     Ok(())
 }

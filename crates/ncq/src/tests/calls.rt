@@ -3,6 +3,7 @@
 ghost use Rattle.std.specs.Prelude.{IfOk};
 ghost use Rattle.ncq_source.specs.StoreStates.{IsDeclared};
 
+use super::joined;
 use ncq_bag::{Difference, SignedBag};
 use ncq_base::{
     Atom, Bytes, Copied, Lines, Op, Own, Sequence, Shared, atom_of, bytes_of, compare, holds,
@@ -13,6 +14,7 @@ use ncq_pyx::{Item, read_block};
 use ncq_source::{Key, SourceId, Store};
 use std::alloc::{AllocError, Global};
 use std::cmp::Ordering;
+use std::process::Abort;
 use std::test::Fail;
 
 fn lines_of(alloc: Global, texts: &[&str]) -> Result<Lines, AllocError> {
@@ -23,29 +25,42 @@ fn lines_of(alloc: Global, texts: &[&str]) -> Result<Lines, AllocError> {
     Ok(lines)
 }
 
-#[test]
-fn lists_and_owners_keep_their_values(rt: HostRuntime) -> Result<(), Fail> {
-    let alloc = rt.alloc();
-    let lines = lines_of(alloc, &["a", "", "b\0"])?;
-    let copy = lines.copy(alloc)?;
-    for kept in [&lines, &copy] {
-        assert_eq!(rt; kept.len(), 3);
-        assert_eq!(rt; kept.as_slice().len(), 3);
-        for (at, want) in [(0, "a"), (1, ""), (2, "b\0")] {
-            assert_eq!(rt;
-                kept.get(at).map(|line| line.as_slice()),
-                Some(want.as_bytes())
-            );
-        }
-        assert!(rt; kept.get(3).is_none());
+const LINES: &[&str] = &["a", "", "b\0"];
+
+/// The list has just these lines.
+fn expect_lines(rt: &impl Abort, kept: &Lines, want: &[&str]) {
+    assert_eq!(rt; kept.len(), want.len());
+    assert_eq!(rt; kept.as_slice().len(), want.len());
+    assert!(rt; kept.get(want.len()).is_none());
+    for (at, line) in want.iter().enumerate() {
+        let there = kept.get(at).map(|line| line.as_slice());
+        assert_eq!(rt; there, Some(line.as_bytes()));
     }
+}
+
+#[test]
+fn a_list_and_its_copy_have_the_same_lines(rt: HostRuntime) -> Result<(), Fail> {
+    let lines = lines_of(rt.alloc(), LINES)?;
+    let copy = lines.copy(rt.alloc())?;
+    expect_lines(&rt, &lines, LINES);
+    expect_lines(&rt, &copy, LINES);
     let taken = Sequence::from_vec(lines.into_vec());
     assert!(rt; taken == copy);
-    let own = Own::new(alloc, bytes_of(alloc, b"own")?)?;
-    let other = own.copy(alloc)?;
+    Ok(())
+}
+
+#[test]
+fn an_owner_and_its_copy_have_the_same_value(rt: HostRuntime) -> Result<(), Fail> {
+    let own = Own::new(rt.alloc(), bytes_of(rt.alloc(), b"own")?)?;
+    let other = own.copy(rt.alloc())?;
     assert_eq!(rt; own.get().as_slice(), b"own".as_slice());
     assert!(rt; other.into_inner() == own.into_inner());
-    let shared = Shared::new(alloc, bytes_of(alloc, b"shared")?)?;
+    Ok(())
+}
+
+#[test]
+fn all_who_share_see_one_value(rt: HostRuntime) -> Result<(), Fail> {
+    let shared = Shared::new(rt.alloc(), bytes_of(rt.alloc(), b"shared")?)?;
     let sharing = shared.share()?;
     assert_eq!(rt; shared.get().as_slice(), b"shared".as_slice());
     assert_eq!(rt; sharing.get().as_slice(), b"shared".as_slice());
@@ -53,222 +68,272 @@ fn lists_and_owners_keep_their_values(rt: HostRuntime) -> Result<(), Fail> {
 }
 
 /// A number is an optional sign, 1 to 15 digits, and optionally a point and 1 to 6 digits; it counts millionths.
+const NUMBERS: &[(&str, i128)] = &[
+    ("0", 0),
+    ("-0", 0),
+    ("+0.000000", 0),
+    ("1", 1_000_000),
+    ("01", 1_000_000),
+    ("+1", 1_000_000),
+    ("-1", -1_000_000),
+    ("100.0", 100_000_000),
+    ("95.5", 95_500_000),
+    ("-0.5", -500_000),
+    ("0.000001", 1),
+    ("000000000000001", 1_000_000),
+    ("123456789012345", 123_456_789_012_345_000_000),
+    ("-999999999999999.999999", -999_999_999_999_999_999_999),
+];
+
+/// Every other text is a text.
+const TEXTS: &[&str] = &[
+    "",
+    "+",
+    "-",
+    ".",
+    "5.",
+    ".5",
+    "1e3",
+    " 1",
+    "1 ",
+    "--1",
+    "+-1",
+    "1.5.0",
+    "1,5",
+    "0x1",
+    "INTC",
+    "1\0",
+    "\u{661}",
+    "1\u{661}",
+    "1234567890123456",
+    "0000000000000001",
+    "0.0000001",
+    "1.0000000",
+    "+1.",
+    "-.5",
+];
+
+fn expect_atom(rt: &impl Abort, alloc: Global, text: &str, want: &Atom) -> Result<(), Fail> {
+    assert!(rt; atom_of(alloc, text.as_bytes())? == *want, "{text}");
+    Ok(())
+}
+
 #[test]
 fn a_text_is_a_number_or_a_text(rt: HostRuntime) -> Result<(), Fail> {
     let alloc = rt.alloc();
-    for (text, millionths) in [
-        ("0", 0),
-        ("-0", 0),
-        ("+0.000000", 0),
-        ("1", 1_000_000),
-        ("01", 1_000_000),
-        ("+1", 1_000_000),
-        ("-1", -1_000_000),
-        ("100.0", 100_000_000),
-        ("95.5", 95_500_000),
-        ("-0.5", -500_000),
-        ("0.000001", 1),
-        ("000000000000001", 1_000_000),
-        ("123456789012345", 123_456_789_012_345_000_000),
-        ("-999999999999999.999999", -999_999_999_999_999_999_999),
-    ] {
-        assert_eq!(rt;
-            atom_of(alloc, text.as_bytes())?,
-            Atom::Num(millionths),
-            "{text}"
-        );
+    for (text, millionths) in NUMBERS {
+        expect_atom(&rt, alloc, text, &Atom::Num(*millionths))?;
     }
-    for text in [
-        "",
-        "+",
-        "-",
-        ".",
-        "5.",
-        ".5",
-        "1e3",
-        " 1",
-        "1 ",
-        "--1",
-        "+-1",
-        "1.5.0",
-        "1,5",
-        "0x1",
-        "INTC",
-        "1\0",
-        "\u{661}",
-        "1\u{661}",
-        "1234567890123456",
-        "0000000000000001",
-        "0.0000001",
-        "1.0000000",
-        "+1.",
-        "-.5",
-    ] {
-        let wanted = Atom::Text(bytes_of(alloc, text.as_bytes())?);
-        assert_eq!(rt; atom_of(alloc, text.as_bytes())?, wanted, "{text}");
+    for text in TEXTS {
+        let want = Atom::Text(bytes_of(alloc, text.as_bytes())?);
+        expect_atom(&rt, alloc, text, &want)?;
     }
     Ok(())
 }
 
-/// What the comparisons say of two texts whose order is `order` and which are both numbers or not.
+/// Two texts, whether both are numbers, and their order.
+const ORDERS: &[(&str, &str, bool, Ordering)] = &[
+    ("1", "1.0", true, Ordering::Equal),
+    ("-0", "0", true, Ordering::Equal),
+    ("2", "10", true, Ordering::Less),
+    ("-1", "-2", true, Ordering::Greater),
+    ("a", "a", false, Ordering::Equal),
+    ("B", "a", false, Ordering::Less),
+    ("ab", "a", false, Ordering::Greater),
+    ("9", "a", false, Ordering::Less),
+    ("a", "9", false, Ordering::Greater),
+    ("99", "", false, Ordering::Less),
+];
+
+/// What the six comparisons say of two atoms.
+fn expect_holds(rt: &impl Abort, a: &Atom, b: &Atom, numbers: bool, order: Ordering) {
+    let equal = order == Ordering::Equal;
+    assert_eq!(rt; holds(Op::Eq, a, b), equal);
+    assert_eq!(rt; holds(Op::Ne, a, b), !equal);
+    assert_eq!(rt; holds(Op::Lt, a, b), numbers && order == Ordering::Less);
+    assert_eq!(rt; holds(Op::Le, a, b), numbers && order != Ordering::Greater);
+    assert_eq!(rt; holds(Op::Gt, a, b), numbers && order == Ordering::Greater);
+    assert_eq!(rt; holds(Op::Ge, a, b), numbers && order != Ordering::Less);
+}
+
+fn expect_order(
+    rt: &impl Abort,
+    alloc: Global,
+    a: &Atom,
+    b: &Atom,
+    numbers: bool,
+    order: Ordering,
+) -> Result<(), Fail> {
+    assert_eq!(rt; total_order(a, b), order);
+    assert_eq!(rt; compare(a, b), numbers.then_some(order));
+    assert_eq!(rt; same(a, b), order == Ordering::Equal);
+    assert!(rt; same(a, &a.copy(alloc)?));
+    Ok(())
+}
+
 #[test]
 fn atoms_are_compared_by_value(rt: HostRuntime) -> Result<(), Fail> {
     let alloc = rt.alloc();
-    for (left, right, numbers, order) in [
-        ("1", "1.0", true, Ordering::Equal),
-        ("-0", "0", true, Ordering::Equal),
-        ("2", "10", true, Ordering::Less),
-        ("-1", "-2", true, Ordering::Greater),
-        ("a", "a", false, Ordering::Equal),
-        ("B", "a", false, Ordering::Less),
-        ("ab", "a", false, Ordering::Greater),
-        ("9", "a", false, Ordering::Less),
-        ("a", "9", false, Ordering::Greater),
-        ("99", "", false, Ordering::Less),
-    ] {
+    for (left, right, numbers, order) in ORDERS {
         let a = atom_of(alloc, left.as_bytes())?;
         let b = atom_of(alloc, right.as_bytes())?;
-        let equal = order == Ordering::Equal;
-        assert_eq!(rt; total_order(&a, &b), order, "{left}, {right}");
-        assert_eq!(rt;
-            compare(&a, &b),
-            numbers.then_some(order),
-            "{left}, {right}"
-        );
-        assert_eq!(rt; same(&a, &b), equal, "{left}, {right}");
-        assert!(rt; same(&a, &a.copy(alloc)?));
-        for (op, want) in [
-            (Op::Eq, equal),
-            (Op::Ne, !equal),
-            (Op::Lt, numbers && order == Ordering::Less),
-            (Op::Le, numbers && order != Ordering::Greater),
-            (Op::Gt, numbers && order == Ordering::Greater),
-            (Op::Ge, numbers && order != Ordering::Less),
-        ] {
-            assert_eq!(rt; holds(op, &a, &b), want, "{left}, {right}");
-        }
+        expect_order(&rt, alloc, &a, &b, *numbers, *order)?;
+        expect_holds(&rt, &a, &b, *numbers, *order);
     }
     Ok(())
 }
 
+/// Texts, and whether each is a name in a statement and in PYX.
+const NAMES: &[(&str, bool, bool)] = &[
+    ("a", true, true),
+    ("Z9", true, true),
+    ("_", true, true),
+    ("a-b:c_1", true, true),
+    ("é", true, true),
+    ("aé", true, true),
+    ("", false, false),
+    ("1", false, true),
+    ("-a", false, true),
+    (":a", false, true),
+    ("a.b", false, true),
+    ("@a", false, true),
+    ("a\0", false, true),
+    ("a\x0c", false, true),
+    ("a b", false, false),
+    ("a\t", false, false),
+    ("\na", false, false),
+    ("a\r", false, false),
+    ("a\\b", false, false),
+];
+
 #[test]
 fn names_have_their_bytes(rt: HostRuntime) {
-    for (text, name, pyx_name) in [
-        ("a", true, true),
-        ("Z9", true, true),
-        ("_", true, true),
-        ("a-b:c_1", true, true),
-        ("é", true, true),
-        ("aé", true, true),
-        ("", false, false),
-        ("1", false, true),
-        ("-a", false, true),
-        (":a", false, true),
-        ("a.b", false, true),
-        ("@a", false, true),
-        ("a\0", false, true),
-        ("a\x0c", false, true),
-        ("a b", false, false),
-        ("a\t", false, false),
-        ("\na", false, false),
-        ("a\r", false, false),
-        ("a\\b", false, false),
-    ] {
-        assert_eq!(rt; is_name(text.as_bytes()), name, "{text}");
-        assert_eq!(rt; is_pyx_name(text.as_bytes()), pyx_name, "{text}");
+    for (text, name, pyx_name) in NAMES {
+        assert_eq!(rt; is_name(text.as_bytes()), *name, "{text}");
+        assert_eq!(rt; is_pyx_name(text.as_bytes()), *pyx_name, "{text}");
     }
 }
 
+const DIGITS: &[(&str, Option<u64>)] = &[
+    ("0", Some(0)),
+    ("00", Some(0)),
+    ("42", Some(42)),
+    ("18446744073709551615", Some(18_446_744_073_709_551_615)),
+    ("18446744073709551616", None),
+    ("99999999999999999999", None),
+    ("00000000000000000001", Some(1)),
+    ("000000000000000000001", None),
+    ("", None),
+    ("+1", None),
+    ("-1", None),
+    ("1 ", None),
+    ("1.0", None),
+    ("0x1", None),
+    ("\u{661}", None),
+];
+
 #[test]
-fn whole_numbers_are_read_and_written(rt: HostRuntime) -> Result<(), Fail> {
-    for (text, want) in [
-        ("0", Some(0)),
-        ("00", Some(0)),
-        ("42", Some(42)),
-        ("18446744073709551615", Some(18_446_744_073_709_551_615)),
-        ("18446744073709551616", None),
-        ("99999999999999999999", None),
-        ("00000000000000000001", Some(1)),
-        ("000000000000000000001", None),
-        ("", None),
-        ("+1", None),
-        ("-1", None),
-        ("1 ", None),
-        ("1.0", None),
-        ("0x1", None),
-        ("\u{661}", None),
-    ] {
-        assert_eq!(rt; read_u64(text.as_bytes()), want, "{text}");
+fn whole_numbers_are_read(rt: HostRuntime) {
+    for (text, want) in DIGITS {
+        assert_eq!(rt; read_u64(text.as_bytes()), *want, "{text}");
     }
-    for (n, want) in [
-        (0, "n 0"),
-        (10, "n 10"),
-        (907, "n 907"),
-        (18_446_744_073_709_551_615, "n 18446744073709551615"),
-    ] {
+}
+
+const DECIMALS: &[(u64, &str)] = &[
+    (0, "n 0"),
+    (10, "n 10"),
+    (907, "n 907"),
+    (18_446_744_073_709_551_615, "n 18446744073709551615"),
+];
+
+#[test]
+fn whole_numbers_are_written(rt: HostRuntime) -> Result<(), Fail> {
+    for (n, want) in DECIMALS {
         let mut out = Vec::from_slice(rt.alloc(), b"n ")?;
-        write_decimal(n, &mut out)?;
+        write_decimal(*n, &mut out)?;
         assert_eq!(rt; out.as_slice(), want.as_bytes());
     }
+    Ok(())
+}
+
+/// Bytes, and how they are written.
+const ESCAPED: &[(&str, &str)] = &[
+    ("", ""),
+    ("a\nb\tc\rd\\e", "a\\nb\\tc\\rd\\\\e"),
+    ("\\n", "\\\\n"),
+    ("\0 \"\u{ff}'", "\0 \"\u{ff}'"),
+];
+
+/// A backslash before any other byte stands for itself, also at the end.
+const UNESCAPED: &[(&str, &str)] = &[
+    ("\\x\\N\\", "\\x\\N\\"),
+    ("\\\\\\", "\\\\"),
+    ("\\\\n", "\\n"),
+];
+
+fn expect_unescaped(rt: &impl Abort, alloc: Global, text: &str, want: &str) -> Result<(), Fail> {
+    let read = unescape(alloc, text.as_bytes())?;
+    assert_eq!(rt; read.as_slice(), want.as_bytes());
     Ok(())
 }
 
 #[test]
 fn four_bytes_are_escaped(rt: HostRuntime) -> Result<(), Fail> {
     let alloc = rt.alloc();
-    for (plain, written) in [
-        ("", ""),
-        ("a\nb\tc\rd\\e", "a\\nb\\tc\\rd\\\\e"),
-        ("\\n", "\\\\n"),
-        ("\0 \"\u{ff}'", "\0 \"\u{ff}'"),
-    ] {
+    for (plain, written) in ESCAPED {
         let mut out = Vec::from_slice(alloc, b"- ")?;
         write_escaped(plain.as_bytes(), &mut out)?;
-        assert_eq!(rt; &out[2.min(out.len())..], written.as_bytes());
-        let read = unescape(alloc, written.as_bytes())?;
-        assert_eq!(rt; read.as_slice(), plain.as_bytes());
+        let want = joined(alloc, &["- ", *written])?;
+        assert_eq!(rt; out.as_slice(), want.as_slice());
+        expect_unescaped(&rt, alloc, written, plain)?;
     }
-    // A backslash before any other byte stands for itself, also at the end.
-    for (text, want) in [
-        ("\\x\\N\\", "\\x\\N\\"),
-        ("\\\\\\", "\\\\"),
-        ("\\\\n", "\\n"),
-    ] {
-        let read = unescape(alloc, text.as_bytes())?;
-        assert_eq!(rt; read.as_slice(), want.as_bytes());
+    for (text, want) in UNESCAPED {
+        expect_unescaped(&rt, alloc, text, want)?;
     }
     Ok(())
+}
+
+/// Strings that come in, or go out.
+const ADDED: &[(&str, bool)] = &[
+    ("b", true),
+    ("c", true),
+    ("a", false),
+    ("c", false),
+    ("b", true),
+    ("ab", false),
+    ("ab", false),
+];
+
+/// What differs then, rising by the bytes.
+const DIFFERS: &[(&str, bool, u64)] = &[("a", false, 1), ("ab", false, 2), ("b", true, 2)];
+
+fn expect_difference(rt: &impl Abort, told: &Difference, want: &(&str, bool, u64)) {
+    assert_eq!(rt; told.bytes.as_slice(), want.0.as_bytes());
+    assert_eq!(rt; told.gain, want.1);
+    assert_eq!(rt; told.count, want.2);
 }
 
 #[test]
 fn a_bag_tells_what_differs(rt: HostRuntime) -> Result<(), Fail> {
     let alloc = rt.alloc();
     let mut bag = SignedBag::new(alloc);
-    for (key, gain) in [
-        ("b", true),
-        ("c", true),
-        ("a", false),
-        ("c", false),
-        ("b", true),
-        ("ab", false),
-        ("ab", false),
-    ] {
+    for (key, gain) in ADDED {
         assert!(rt; bag.adds() < 7);
-        bag.add(bytes_of(alloc, key.as_bytes())?, gain)?;
+        bag.add(bytes_of(alloc, key.as_bytes())?, *gain)?;
     }
     assert_eq!(rt; bag.adds(), 7);
     let told = bag.difference(alloc)?;
     assert_eq!(rt; told.len(), 3);
-    for (difference, (bytes, gain, count)) in told
-        .as_slice()
-        .iter()
-        .zip([("a", false, 1), ("ab", false, 2), ("b", true, 2)])
-    {
-        assert_eq!(rt; difference.bytes.as_slice(), bytes.as_bytes());
-        assert_eq!(rt; difference.gain, gain);
-        assert_eq!(rt; difference.count, count);
+    for (difference, want) in told.as_slice().iter().zip(DIFFERS) {
+        expect_difference(&rt, difference, want);
     }
-    assert_eq!(rt; SignedBag::new(alloc).difference(alloc)?.len(), 0);
+    Ok(())
+}
+
+#[test]
+fn an_empty_bag_tells_nothing(rt: HostRuntime) -> Result<(), Fail> {
+    let told = SignedBag::new(rt.alloc()).difference(rt.alloc())?;
+    assert_eq!(rt; told.len(), 0);
     Ok(())
 }
 

@@ -9,16 +9,18 @@ use std::process::Abort;
 use std::test::Fail;
 
 /// A script of which one line has a filler: it is `front`, as many fillers as it needs for its length, and `back`.
-#[derive(Clone, Copy)]
+/// Its output is `within` up to the limit of that length, and `over` from there on.
 struct Filled<'a> {
     before: &'a str,
     front: &'a str,
     filler: u8,
     back: &'a str,
     behind: &'a str,
+    within: &'a str,
+    over: &'a str,
 }
 
-fn script_of(alloc: Global, filled: Filled<'_>, length: usize) -> Result<Vec<u8>, AllocError> {
+fn script_of(alloc: Global, filled: &Filled<'_>, length: usize) -> Result<Vec<u8>, AllocError> {
     let fixed = joined(alloc, &[filled.front, filled.back])?.len();
     let mut script = joined(alloc, &[filled.before, filled.front])?;
     let mut fillers = Vec::new(alloc);
@@ -29,205 +31,471 @@ fn script_of(alloc: Global, filled: Filled<'_>, length: usize) -> Result<Vec<u8>
     Ok(script)
 }
 
-fn expect_at(
+/// The script has this output, read in pieces of 65,536 bytes.
+fn expect_once(
     rt: &impl Abort,
     alloc: Global,
-    filled: Filled<'_>,
-    length: usize,
+    script: &[u8],
     want: &str,
+    why: &str,
 ) -> Result<(), Fail> {
-    let script = script_of(alloc, filled, length)?;
-    let outcome = outcome_of(alloc, &script, in_pieces(65536))?;
-    assert_eq!(rt; outcome.status, Status::Done);
-    assert_eq!(rt;
-        outcome.written.as_slice(),
-        want.as_bytes(),
-        "{length}: {}",
-        filled.front
-    );
+    let outcome = outcome_of(alloc, script, in_pieces(65536))?;
+    assert_eq!(rt; outcome.status, Status::Done, "{why}");
+    assert_eq!(rt; outcome.written.as_slice(), want.as_bytes(), "{why}");
     Ok(())
 }
 
-/// A command with a line of more than 1,048,576 bytes is refused; its LF and one carriage return do not count.
-#[test]
-fn a_line_has_at_most_a_mebibyte(rt: HostRuntime) -> Result<(), Fail> {
-    let source = "source quotes root Quotes key Symbol";
-    let into_quotes = "source quotes root Quotes key Symbol\ndelta quotes\n";
-    let into_symbol = "source quotes root Quotes key Symbol\ndelta quotes\n(Quote\n(Symbol\n";
-    let statement =
-        " WHERE <Quotes><Quote><Symbol>INTC</></> ELEMENT_AS $g</> IN \"quotes\" CONSTRUCT $g DO print";
-    for (before, front, filler, back, behind, within, over) in [
-        (
-            "",
-            source,
-            b' ',
-            "",
-            "\n",
-            "1 ok\n",
-            "1 refused 15 limit line\n",
-        ),
-        (
-            "",
-            source,
-            b' ',
-            "",
-            "\r\n",
-            "1 ok\n",
-            "1 refused 15 limit line\n",
-        ),
-        (
-            "",
-            source,
-            b' ',
-            "",
-            "",
-            "1 ok\n",
-            "1 refused 15 limit line\n",
-        ),
-        (
-            "",
-            "clock ",
-            b'0',
-            "",
-            "\n",
-            "1 refused 1 command\n",
-            "1 refused 15 limit line\n",
-        ),
-        (
-            SOURCE,
-            "delta quotes",
-            b'\t',
-            "",
-            "\n.\n",
-            "1 ok\n2 ok\n",
-            "1 ok\n2 refused 15 limit line\n",
-        ),
-        (
-            SOURCE,
-            "create ",
-            b'w',
-            statement,
-            "\n.\n",
-            "1 ok\n2 ok\n",
-            "1 ok\n2 refused 15 limit line\n",
-        ),
-        (
-            into_quotes,
-            "-",
-            b' ',
-            "",
-            "\n.\n",
-            "1 ok\n2 ok\n",
-            "1 ok\n2 refused 15 limit line\n",
-        ),
-        (
-            into_symbol,
-            "-",
-            b'x',
-            "",
-            "\r\n)Symbol\n)Quote\n.\n",
-            "1 ok\n2 ok\n",
-            "1 ok\n2 refused 15 limit line\n",
-        ),
-        // No command of any length: a comment, and blanks in front of what is not looked at.
-        ("", "#", b'#', "", "\n", "", ""),
-        (
-            "",
-            "",
-            b' ',
-            "report",
-            "\nreport\n",
-            "1 refused 99 unbuilt\n2 refused 99 unbuilt\n",
-            "1 refused 15 limit line\n2 refused 99 unbuilt\n",
-        ),
-        (
-            "",
-            "",
-            b' ',
-            "",
-            "report\nreport\n",
-            "1 refused 99 unbuilt\n",
-            "1 refused 99 unbuilt\n",
-        ),
-    ] {
-        let filled = Filled {
-            before,
-            front,
-            filler,
-            back,
-            behind,
-        };
-        expect_at(&rt, rt.alloc(), filled, 1_048_576, within)?;
-        expect_at(&rt, rt.alloc(), filled, 1_048_577, over)?;
+/// The line has this many bytes at most.
+fn expect_limit(
+    rt: &impl Abort,
+    alloc: Global,
+    filled: &Filled<'_>,
+    limit: usize,
+) -> Result<(), Fail> {
+    let last = script_of(alloc, filled, limit)?;
+    expect_once(rt, alloc, &last, filled.within, filled.front)?;
+    let first = script_of(alloc, filled, limit.saturating_add(1))?;
+    expect_once(rt, alloc, &first, filled.over, filled.front)
+}
+
+/// Each line has this many bytes at most.
+fn expect_limits(
+    rt: &impl Abort,
+    alloc: Global,
+    lines: &[Filled<'_>],
+    limit: usize,
+) -> Result<(), Fail> {
+    for filled in lines {
+        expect_limit(rt, alloc, filled, limit)?;
     }
     Ok(())
 }
 
+/// A statement without its name, as it stands behind it and in front of it.
+const STATEMENT: &str =
+    " WHERE <Quotes><Quote><Symbol>INTC</></> ELEMENT_AS $g</> IN \"quotes\" CONSTRUCT $g DO print";
+
+/// A command with a line of more than 1,048,576 bytes is refused; its LF and one carriage return do not count.
+const LONG_LINES: &[Filled<'_>] = &[
+    Filled {
+        before: "",
+        front: "source quotes root Quotes key Symbol",
+        filler: b' ',
+        back: "",
+        behind: "\n",
+        within: "1 ok\n",
+        over: "1 refused 15 limit line\n",
+    },
+    Filled {
+        before: "",
+        front: "source quotes root Quotes key Symbol",
+        filler: b' ',
+        back: "",
+        behind: "\r\n",
+        within: "1 ok\n",
+        over: "1 refused 15 limit line\n",
+    },
+    Filled {
+        before: "",
+        front: "source quotes root Quotes key Symbol",
+        filler: b' ',
+        back: "",
+        behind: "",
+        within: "1 ok\n",
+        over: "1 refused 15 limit line\n",
+    },
+    Filled {
+        before: "",
+        front: "clock ",
+        filler: b'0',
+        back: "",
+        behind: "\n",
+        within: "1 refused 1 command\n",
+        over: "1 refused 15 limit line\n",
+    },
+    // A word that is no command.
+    Filled {
+        before: "",
+        front: "x",
+        filler: b'x',
+        back: "",
+        behind: "\n",
+        within: "1 refused 1 command\n",
+        over: "1 refused 15 limit line\n",
+    },
+    Filled {
+        before: SOURCE,
+        front: "delta quotes",
+        filler: b'\t',
+        back: "",
+        behind: "\n.\n",
+        within: "1 ok\n2 ok\n",
+        over: "1 ok\n2 refused 15 limit line\n",
+    },
+    // The form and the end of a block are judged behind the length of its lines.
+    Filled {
+        before: "",
+        front: "delta",
+        filler: b' ',
+        back: "",
+        behind: "\n",
+        within: "1 refused 1 command\n",
+        over: "1 refused 15 limit line\n",
+    },
+    Filled {
+        before: "",
+        front: "create",
+        filler: b' ',
+        back: "",
+        behind: "\n",
+        within: "1 refused 16 unfinished\n",
+        over: "1 refused 15 limit line\n",
+    },
+];
+
+/// The same of the lines of a block.
+const LONG_BLOCK_LINES: &[Filled<'_>] = &[
+    Filled {
+        before: SOURCE,
+        front: "create ",
+        filler: b'w',
+        back: STATEMENT,
+        behind: "\n.\n",
+        within: "1 ok\n2 ok\n",
+        over: "1 ok\n2 refused 15 limit line\n",
+    },
+    Filled {
+        before: SOURCE,
+        front: "create w",
+        filler: b' ',
+        back: "",
+        behind: "\n.\n",
+        within: "1 ok\n2 refused 10 query\n",
+        over: "1 ok\n2 refused 15 limit line\n",
+    },
+    Filled {
+        before: "source quotes root Quotes key Symbol\ncreate w\n",
+        front: STATEMENT,
+        filler: b' ',
+        back: "",
+        behind: "\r\n.\n",
+        within: "1 ok\n2 ok\n",
+        over: "1 ok\n2 refused 15 limit line\n",
+    },
+    Filled {
+        before: "source quotes root Quotes key Symbol\ndelta quotes\n",
+        front: "-",
+        filler: b' ',
+        back: "",
+        behind: "\n.\n",
+        within: "1 ok\n2 ok\n",
+        over: "1 ok\n2 refused 15 limit line\n",
+    },
+    Filled {
+        before: "source quotes root Quotes key Symbol\ndelta quotes\n(Quote\n(Symbol\n",
+        front: "-",
+        filler: b'x',
+        back: "",
+        behind: "\r\n)Symbol\n)Quote\n.\n",
+        within: "1 ok\n2 ok\n",
+        over: "1 ok\n2 refused 15 limit line\n",
+    },
+];
+
+/// No command of any length: a comment, and blanks in front of what is not looked at.
+const LONG_COMMENTS: &[Filled<'_>] = &[
+    Filled {
+        before: "",
+        front: "#",
+        filler: b'#',
+        back: "",
+        behind: "\n",
+        within: "",
+        over: "",
+    },
+    Filled {
+        before: "",
+        front: "",
+        filler: b' ',
+        back: "report",
+        behind: "\nreport\n",
+        within: "1 refused 99 unbuilt\n2 refused 99 unbuilt\n",
+        over: "1 refused 15 limit line\n2 refused 99 unbuilt\n",
+    },
+    Filled {
+        before: "",
+        front: "",
+        filler: b' ',
+        back: "",
+        behind: "report\nreport\n",
+        within: "1 refused 99 unbuilt\n",
+        over: "1 refused 99 unbuilt\n",
+    },
+];
+
+#[test]
+fn a_line_has_at_most_a_mebibyte(rt: HostRuntime) -> Result<(), Fail> {
+    let alloc = rt.alloc();
+    expect_limits(&rt, alloc, LONG_LINES, 1_048_576)?;
+    expect_limits(&rt, alloc, LONG_BLOCK_LINES, 1_048_576)?;
+    expect_limits(&rt, alloc, LONG_COMMENTS, 1_048_576)
+}
+
+/// A declared name has 255 bytes at most. A query and a delta have no source of such a name.
+const NAMES: &[Filled<'_>] = &[
+    Filled {
+        before: "",
+        front: "source ",
+        filler: b'q',
+        back: " root a key b",
+        behind: "\n",
+        within: "1 ok\n",
+        over: "1 refused 1 command\n",
+    },
+    Filled {
+        before: "",
+        front: "create w WHERE <a><b><c>d</></> ELEMENT_AS $g</> IN \"",
+        filler: b'q',
+        back: "\" CONSTRUCT $g DO print",
+        behind: "\n.\n",
+        within: "1 refused 4 no-source\n",
+        over: "1 refused 4 no-source\n",
+    },
+    Filled {
+        before: "",
+        front: "delta ",
+        filler: b'q',
+        back: "",
+        behind: "\n.\n",
+        within: "1 refused 4 no-source\n",
+        over: "1 refused 4 no-source\n",
+    },
+];
+
 #[test]
 fn a_source_name_has_at_most_255_bytes(rt: HostRuntime) -> Result<(), Fail> {
-    let create = "create w WHERE <a><b><c>d</></> ELEMENT_AS $g</> IN \"";
-    let print = "\" CONSTRUCT $g DO print";
-    for (front, back, behind, within, over) in [
-        (
-            "source ",
-            " root a key b",
-            "\n",
-            "1 ok\n",
-            "1 refused 1 command\n",
-        ),
-        (
-            create,
-            print,
-            "\n.\n",
-            "1 refused 4 no-source\n",
-            "1 refused 99 unbuilt\n",
-        ),
-        (
-            "delta ",
-            "",
-            "\n.\n",
-            "1 refused 4 no-source\n",
-            "1 refused 4 no-source\n",
-        ),
-    ] {
-        let filled = Filled {
-            before: "",
-            front,
-            filler: b'q',
-            back,
-            behind,
-        };
-        let fixed = joined(rt.alloc(), &[front, back])?.len();
-        expect_at(&rt, rt.alloc(), filled, fixed.saturating_add(255), within)?;
-        expect_at(&rt, rt.alloc(), filled, fixed.saturating_add(256), over)?;
+    for filled in NAMES {
+        let fixed = filled.front.len().saturating_add(filled.back.len());
+        expect_limit(&rt, rt.alloc(), filled, fixed.saturating_add(255))?;
+    }
+    Ok(())
+}
+
+/// A script in which two pieces stand a number of times, each behind the text in front of it.
+/// Its output is `within` where they stand `last` times, and `over` where they stand once more.
+struct Repeated<'a> {
+    front: &'a str,
+    piece: &'a str,
+    middle: &'a str,
+    second: &'a str,
+    back: &'a str,
+    last: usize,
+    within: &'a str,
+    over: &'a str,
+}
+
+fn script_with(alloc: Global, pieces: &Repeated<'_>, count: usize) -> Result<Vec<u8>, AllocError> {
+    let mut script = joined(alloc, &[pieces.front])?;
+    for _ in 0..count {
+        script.extend_from_slice(pieces.piece.as_bytes())?;
+    }
+    script.extend_from_slice(pieces.middle.as_bytes())?;
+    for _ in 0..count {
+        script.extend_from_slice(pieces.second.as_bytes())?;
+    }
+    script.extend_from_slice(pieces.back.as_bytes())?;
+    Ok(script)
+}
+
+/// The pieces may stand so often, and no more.
+fn expect_last(rt: &impl Abort, alloc: Global, pieces: &Repeated<'_>) -> Result<(), Fail> {
+    let last = script_with(alloc, pieces, pieces.last)?;
+    expect_once(rt, alloc, &last, pieces.within, pieces.piece)?;
+    let first = script_with(alloc, pieces, pieces.last.saturating_add(1))?;
+    expect_once(rt, alloc, &first, pieces.over, pieces.piece)
+}
+
+fn expect_each_last(rt: &impl Abort, alloc: Global, scripts: &[Repeated<'_>]) -> Result<(), Fail> {
+    for pieces in scripts {
+        expect_last(rt, alloc, pieces)?;
     }
     Ok(())
 }
 
 /// Elements may be nested 64 deep. The key of the outermost one is the text in the innermost one.
+const NESTED: &[Repeated<'_>] = &[
+    Repeated {
+        front: "source s root R key a\ndelta s\n",
+        piece: "(a\n",
+        middle: "-x\n",
+        second: ")a\n",
+        back: ".\n",
+        last: 1,
+        within: "1 ok\n2 refused 6 key 1\n",
+        over: "1 ok\n2 ok\n",
+    },
+    Repeated {
+        front: "source s root R key a\ndelta s\n",
+        piece: "(a\n",
+        middle: "-x\n",
+        second: ")a\n",
+        back: ".\n",
+        last: 64,
+        within: "1 ok\n2 ok\n",
+        over: "1 ok\n2 refused 15 limit nesting\n",
+    },
+];
+
 #[test]
 fn elements_are_nested_at_most_64_deep(rt: HostRuntime) -> Result<(), Fail> {
+    expect_each_last(&rt, rt.alloc(), NESTED)
+}
+
+/// Tags nest 32 deep. The root is one of them; the tags of a template count by themselves; the text need be no statement.
+const DEEP_TAGS: &[Repeated<'_>] = &[
+    Repeated {
+        front: "create w WHERE <R>",
+        piece: "<a>",
+        middle: "",
+        second: "</>",
+        back: "</> IN q CONSTRUCT $g DO print\n.\n",
+        last: 31,
+        within: "1 refused 99 unbuilt\n",
+        over: "1 refused 15 limit pattern\n",
+    },
+    Repeated {
+        front: "create w WHERE <R><a/></> IN q CONSTRUCT ",
+        piece: "<a>",
+        middle: "x",
+        second: "</>",
+        back: " DO print\n.\n",
+        last: 32,
+        within: "1 refused 99 unbuilt\n",
+        over: "1 refused 15 limit pattern\n",
+    },
+    Repeated {
+        front: "create ",
+        piece: "<a>",
+        middle: "",
+        second: "",
+        back: "\n.\n",
+        last: 32,
+        within: "1 refused 10 query\n",
+        over: "1 refused 15 limit pattern\n",
+    },
+    // A tag that is closed at once ends too, and an end too many does not make room.
+    Repeated {
+        front: "create </></>",
+        piece: "<a>",
+        middle: "<a/>",
+        second: "",
+        back: "\n.\n",
+        last: 31,
+        within: "1 refused 10 query\n",
+        over: "1 refused 15 limit pattern\n",
+    },
+];
+
+/// Eight patterns stand under the roots, of all matches together.
+const ARMS: &[Repeated<'_>] = &[
+    Repeated {
+        front: "create w WHERE <R>",
+        piece: "<a/>",
+        middle: "",
+        second: "",
+        back: "</> IN q CONSTRUCT $g DO print\n.\n",
+        last: 8,
+        within: "1 refused 99 unbuilt\n",
+        over: "1 refused 15 limit arms\n",
+    },
+    Repeated {
+        front: "create w WHERE <R>",
+        piece: "<a/>",
+        middle: "</> IN q, <R>",
+        second: "<a><b/><c/></>",
+        back: "</> IN q CONSTRUCT $g DO print\n.\n",
+        last: 4,
+        within: "1 refused 99 unbuilt\n",
+        over: "1 refused 15 limit arms\n",
+    },
+];
+
+/// 64 attributes of patterns, texts and suffixes, at every depth.
+const SLOTS: &[Repeated<'_>] = &[
+    Repeated {
+        front: "create w WHERE <R><a>",
+        piece: "<b>c</>",
+        middle: "",
+        second: "",
+        back: "</></> IN q CONSTRUCT $g DO print\n.\n",
+        last: 64,
+        within: "1 refused 99 unbuilt\n",
+        over: "1 refused 15 limit slots\n",
+    },
+    Repeated {
+        front: "create w WHERE <R><a>",
+        piece: "<b id=\"7\"/>",
+        middle: "<d>",
+        second: "<b><c/></> ELEMENT_AS $c",
+        back: "</></></> IN q CONSTRUCT $g DO print\n.\n",
+        last: 32,
+        within: "1 refused 99 unbuilt\n",
+        over: "1 refused 15 limit slots\n",
+    },
+    // Patterns without them, and what stands in the template, are none.
+    Repeated {
+        front: "create w WHERE <R><a><b>$c</>",
+        piece: "<b/>",
+        middle: "</></> IN q CONSTRUCT <hit>",
+        second: "<b id=\"7\">c</>",
+        back: "</> DO print\n.\n",
+        last: 65,
+        within: "1 refused 99 unbuilt\n",
+        over: "1 refused 99 unbuilt\n",
+    },
+];
+
+/// 32 conditions, as they are written. Arms are judged before slots, and slots before conditions.
+const CONDITIONS: &[Repeated<'_>] = &[
+    Repeated {
+        front: "create w WHERE <R><a/></> IN q",
+        piece: ", $x = 1",
+        middle: "",
+        second: "",
+        back: " CONSTRUCT $g DO print\n.\n",
+        last: 32,
+        within: "1 refused 99 unbuilt\n",
+        over: "1 refused 15 limit conditions\n",
+    },
+    Repeated {
+        front: "create w WHERE <R><a>",
+        piece: "<b>$c</><b>$c</>",
+        middle: "</></> IN q",
+        second: ", $x != 1",
+        back: " CONSTRUCT $g DO print\n.\n",
+        last: 32,
+        within: "1 refused 99 unbuilt\n",
+        over: "1 refused 15 limit slots\n",
+    },
+    Repeated {
+        front: "create w WHERE <R>",
+        piece: "<a><b>$c</><b>$c</><b>$c</><b>$c</><b>$c</><b>$c</><b>$c</><b>$c</></>",
+        middle: "</> IN q",
+        second: ", $a < 1, $b < 1, $c < 1, $d < 1",
+        back: " CONSTRUCT $g DO print\n.\n",
+        last: 8,
+        within: "1 refused 99 unbuilt\n",
+        over: "1 refused 15 limit arms\n",
+    },
+];
+
+#[test]
+fn a_statement_has_its_limits(rt: HostRuntime) -> Result<(), Fail> {
     let alloc = rt.alloc();
-    for (depth, want) in [
-        (1, "1 ok\n2 refused 6 key 1\n"),
-        (2, "1 ok\n2 ok\n"),
-        (64, "1 ok\n2 ok\n"),
-        (65, "1 ok\n2 refused 15 limit nesting\n"),
-    ] {
-        let mut script = joined(alloc, &["source s root R key a\ndelta s\n"])?;
-        for _ in 0..depth {
-            script.extend_from_slice(b"(a\n")?;
-        }
-        script.extend_from_slice(b"-x\n")?;
-        for _ in 0..depth {
-            script.extend_from_slice(b")a\n")?;
-        }
-        script.extend_from_slice(b".\n")?;
-        let outcome = outcome_of(alloc, &script, in_pieces(4096))?;
-        assert_eq!(rt; outcome.status, Status::Done);
-        assert_eq!(rt; outcome.written.as_slice(), want.as_bytes(), "{depth}");
-    }
-    Ok(())
+    expect_each_last(&rt, alloc, DEEP_TAGS)?;
+    expect_each_last(&rt, alloc, ARMS)?;
+    expect_each_last(&rt, alloc, SLOTS)?;
+    expect_each_last(&rt, alloc, CONDITIONS)
 }
 
 /// Gives comment lines of 1,024 bytes each, or of less where the buffer or the end is nearer.
