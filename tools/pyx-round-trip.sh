@@ -1,6 +1,8 @@
 #!/bin/sh
 # Reads the PYX that `xmlstarlet pyx` makes of XML files and writes it again, with the built program ncq; then reads what
 # was written. Both readings have to give the same element.
+# The files go through `xmlstarlet c14n` first, which writes CDATA sections and entities as texts: their lines are no PYX
+# that ncq reads.
 #
 # usage: tools/pyx-round-trip.sh NCQ FILE.xml..
 # Ends with 0 where each file comes round or the tool is missing, with 1 where one does not, with 2 for wrong words.
@@ -32,9 +34,14 @@ told() {
 
 failed=0
 for file in "$@"; do
+    if ! xmlstarlet c14n "$file" > "$folder/plain" || ! xmlstarlet pyx "$folder/plain" > "$folder/lines"; then
+        echo "$file: xmlstarlet does not read it" >&2
+        failed=1
+        continue
+    fi
     {
         printf '%s\n' '(Document' 'Afile 1' '(Kind' '-xml' ')Kind'
-        xmlstarlet pyx "$file"
+        cat "$folder/lines"
         echo ')Document'
     } > "$folder/first"
     told "$folder/first" > "$folder/told"
