@@ -140,6 +140,26 @@ fn outcome_of(alloc: Global, script: &[u8], outside: Outside<'_>) -> Result<Outc
     })
 }
 
+fn expect_bytes(rt: &impl Abort, got: &[u8], want: &[u8], why: &str) {
+    assert_eq!(rt; got, want, "{why}");
+}
+
+/// The session on this script ends so, with this written.
+fn expect_end(
+    rt: &impl Abort,
+    alloc: Global,
+    script: &[u8],
+    outside: Outside<'_>,
+    status: Status,
+    written: &[u8],
+    why: &str,
+) -> Result<(), Fail> {
+    let outcome = outcome_of(alloc, script, outside)?;
+    assert_eq!(rt; outcome.status, status, "{why}");
+    expect_bytes(rt, &outcome.written, written, why);
+    Ok(())
+}
+
 /// The script is answered with this output, however it is cut into pieces.
 fn expect_output(
     rt: &impl Abort,
@@ -149,9 +169,7 @@ fn expect_output(
     why: &str,
 ) -> Result<(), Fail> {
     for piece in [1, 7, 65536] {
-        let outcome = outcome_of(alloc, script, in_pieces(piece))?;
-        assert_eq!(rt; outcome.status, Status::Done, "{why}");
-        assert_eq!(rt; outcome.written.as_slice(), want, "{why}");
+        expect_end(rt, alloc, script, in_pieces(piece), Status::Done, want, why)?;
     }
     Ok(())
 }

@@ -3,7 +3,7 @@
 ghost use Rattle.std.specs.Prelude.{IfOk};
 ghost use Rattle.ncq_source.specs.StoreStates.{IsDeclared};
 
-use super::joined;
+use super::{expect_bytes, joined};
 use ncq_bag::{Difference, SignedBag};
 use ncq_base::{
     Atom, Bytes, Copied, Lines, Op, Own, Sequence, Shared, atom_of, bytes_of, compare, holds,
@@ -28,22 +28,22 @@ fn lines_of(alloc: Global, texts: &[&str]) -> Result<Lines, AllocError> {
 const LINES: &[&str] = &["a", "", "b\0"];
 
 /// The list has just these lines.
-fn expect_lines(rt: &impl Abort, kept: &Lines, want: &[&str]) {
-    assert_eq!(rt; kept.len(), want.len());
-    assert_eq!(rt; kept.as_slice().len(), want.len());
+fn expect_lines(rt: &impl Abort, kept: &Lines, want: &[&str]) -> Result<(), Fail> {
+    assert!(rt; kept.len() == want.len() && kept.as_slice().len() == want.len());
     assert!(rt; kept.get(want.len()).is_none());
     for (at, line) in want.iter().enumerate() {
-        let there = kept.get(at).map(|line| line.as_slice());
-        assert_eq!(rt; there, Some(line.as_bytes()));
+        let there = kept.get(at).ok_or("a line is missing")?;
+        expect_bytes(rt, there.as_slice(), line.as_bytes(), "");
     }
+    Ok(())
 }
 
 #[test]
 fn a_list_and_its_copy_have_the_same_lines(rt: HostRuntime) -> Result<(), Fail> {
     let lines = lines_of(rt.alloc(), LINES)?;
     let copy = lines.copy(rt.alloc())?;
-    expect_lines(&rt, &lines, LINES);
-    expect_lines(&rt, &copy, LINES);
+    expect_lines(&rt, &lines, LINES)?;
+    expect_lines(&rt, &copy, LINES)?;
     let taken = Sequence::from_vec(lines.into_vec());
     assert!(rt; taken == copy);
     Ok(())
@@ -53,7 +53,7 @@ fn a_list_and_its_copy_have_the_same_lines(rt: HostRuntime) -> Result<(), Fail> 
 fn an_owner_and_its_copy_have_the_same_value(rt: HostRuntime) -> Result<(), Fail> {
     let own = Own::new(rt.alloc(), bytes_of(rt.alloc(), b"own")?)?;
     let other = own.copy(rt.alloc())?;
-    assert_eq!(rt; own.get().as_slice(), b"own".as_slice());
+    expect_bytes(&rt, own.get().as_slice(), b"own", "");
     assert!(rt; other.into_inner() == own.into_inner());
     Ok(())
 }
@@ -62,8 +62,8 @@ fn an_owner_and_its_copy_have_the_same_value(rt: HostRuntime) -> Result<(), Fail
 fn all_who_share_see_one_value(rt: HostRuntime) -> Result<(), Fail> {
     let shared = Shared::new(rt.alloc(), bytes_of(rt.alloc(), b"shared")?)?;
     let sharing = shared.share()?;
-    assert_eq!(rt; shared.get().as_slice(), b"shared".as_slice());
-    assert_eq!(rt; sharing.get().as_slice(), b"shared".as_slice());
+    expect_bytes(&rt, shared.get().as_slice(), b"shared", "");
+    expect_bytes(&rt, sharing.get().as_slice(), b"shared", "");
     Ok(())
 }
 
@@ -148,12 +148,12 @@ const ORDERS: &[(&str, &str, bool, Ordering)] = &[
 /// What the six comparisons say of two atoms.
 fn expect_holds(rt: &impl Abort, a: &Atom, b: &Atom, numbers: bool, order: Ordering) {
     let equal = order == Ordering::Equal;
-    assert_eq!(rt; holds(Op::Eq, a, b), equal);
-    assert_eq!(rt; holds(Op::Ne, a, b), !equal);
-    assert_eq!(rt; holds(Op::Lt, a, b), numbers && order == Ordering::Less);
-    assert_eq!(rt; holds(Op::Le, a, b), numbers && order != Ordering::Greater);
-    assert_eq!(rt; holds(Op::Gt, a, b), numbers && order == Ordering::Greater);
-    assert_eq!(rt; holds(Op::Ge, a, b), numbers && order != Ordering::Less);
+    let less = numbers && order == Ordering::Less;
+    let greater = numbers && order == Ordering::Greater;
+    assert!(rt; holds(Op::Eq, a, b) == equal && holds(Op::Ne, a, b) != equal);
+    assert!(rt; holds(Op::Lt, a, b) == less && holds(Op::Gt, a, b) == greater);
+    assert!(rt; holds(Op::Le, a, b) == (numbers && !greater));
+    assert!(rt; holds(Op::Ge, a, b) == (numbers && !less));
 }
 
 fn expect_order(
@@ -164,9 +164,9 @@ fn expect_order(
     numbers: bool,
     order: Ordering,
 ) -> Result<(), Fail> {
-    assert_eq!(rt; total_order(a, b), order);
-    assert_eq!(rt; compare(a, b), numbers.then_some(order));
-    assert_eq!(rt; same(a, b), order == Ordering::Equal);
+    assert!(rt; total_order(a, b) == order);
+    assert!(rt; compare(a, b) == numbers.then_some(order));
+    assert!(rt; same(a, b) == (order == Ordering::Equal));
     assert!(rt; same(a, &a.copy(alloc)?));
     Ok(())
 }
@@ -209,8 +209,8 @@ const NAMES: &[(&str, bool, bool)] = &[
 #[test]
 fn names_have_their_bytes(rt: HostRuntime) {
     for (text, name, pyx_name) in NAMES {
-        assert_eq!(rt; is_name(text.as_bytes()), *name, "{text}");
-        assert_eq!(rt; is_pyx_name(text.as_bytes()), *pyx_name, "{text}");
+        assert!(rt; is_name(text.as_bytes()) == *name, "{text}");
+        assert!(rt; is_pyx_name(text.as_bytes()) == *pyx_name, "{text}");
     }
 }
 
@@ -251,7 +251,7 @@ fn whole_numbers_are_written(rt: HostRuntime) -> Result<(), Fail> {
     for (n, want) in DECIMALS {
         let mut out = Vec::from_slice(rt.alloc(), b"n ")?;
         write_decimal(*n, &mut out)?;
-        assert_eq!(rt; out.as_slice(), want.as_bytes());
+        expect_bytes(&rt, &out, want.as_bytes(), "");
     }
     Ok(())
 }
@@ -273,7 +273,7 @@ const UNESCAPED: &[(&str, &str)] = &[
 
 fn expect_unescaped(rt: &impl Abort, alloc: Global, text: &str, want: &str) -> Result<(), Fail> {
     let read = unescape(alloc, text.as_bytes())?;
-    assert_eq!(rt; read.as_slice(), want.as_bytes());
+    expect_bytes(rt, read.as_slice(), want.as_bytes(), text);
     Ok(())
 }
 
@@ -284,7 +284,7 @@ fn four_bytes_are_escaped(rt: HostRuntime) -> Result<(), Fail> {
         let mut out = Vec::from_slice(alloc, b"- ")?;
         write_escaped(plain.as_bytes(), &mut out)?;
         let want = joined(alloc, &["- ", *written])?;
-        assert_eq!(rt; out.as_slice(), want.as_slice());
+        expect_bytes(&rt, &out, &want, plain);
         expect_unescaped(&rt, alloc, written, plain)?;
     }
     for (text, want) in UNESCAPED {
@@ -308,9 +308,8 @@ const ADDED: &[(&str, bool)] = &[
 const DIFFERS: &[(&str, bool, u64)] = &[("a", false, 1), ("ab", false, 2), ("b", true, 2)];
 
 fn expect_difference(rt: &impl Abort, told: &Difference, want: &(&str, bool, u64)) {
-    assert_eq!(rt; told.bytes.as_slice(), want.0.as_bytes());
-    assert_eq!(rt; told.gain, want.1);
-    assert_eq!(rt; told.count, want.2);
+    expect_bytes(rt, told.bytes.as_slice(), want.0.as_bytes(), "");
+    assert!(rt; told.gain == want.1 && told.count == want.2);
 }
 
 #[test]
@@ -347,7 +346,7 @@ fn a_notice_is_printed(rt: HostRuntime) -> Result<(), Fail> {
     let alloc = rt.alloc();
     let mut out = Vec::from_slice(alloc, b"7 ok\n")?;
     write_print(b"w", 0, &[], &mut out)?;
-    assert_eq!(rt; out.as_slice(), b"7 ok\n".as_slice());
+    expect_bytes(&rt, &out, b"7 ok\n", "");
     let told = [
         difference(alloc, false, 1, "(a\n)a\n")?,
         difference(alloc, true, 12, "-x\n")?,
@@ -355,7 +354,7 @@ fn a_notice_is_printed(rt: HostRuntime) -> Result<(), Fail> {
     ];
     write_print(b"w", 30, &told, &mut out)?;
     let want = "7 ok\nnotice w 30\nlose 1\n(a\n)a\ngain 12\n-x\ngain 1\nend\n";
-    assert_eq!(rt; out.as_slice(), want.as_bytes());
+    expect_bytes(&rt, &out, want.as_bytes(), "");
     Ok(())
 }
 
@@ -382,17 +381,13 @@ fn a_store_takes_what_was_put(rt: HostRuntime) -> Result<(), Fail> {
     let block = ["(Quote", "(Symbol", "-INTC", ")Symbol", ")Quote"];
     let items = read_block(alloc, &lines_of(alloc, &block)?)?;
     if let Some(Item::Put(element)) = items.get(0) {
-        let key = store.key_of(alloc, id, element)?;
-        assert_eq!(rt;
-            key.as_ref().map(|key| key.as_slice()),
-            Some(b"INTC".as_slice())
-        );
+        let key = store.key_of(alloc, id, element)?.ok_or("a key is missing")?;
+        expect_bytes(&rt, key.as_slice(), b"INTC", "");
     }
     let change = store.prepare(alloc, b"quotes", &items)?;
     for entry in change.entries() {
-        assert_eq!(rt; entry.key.as_slice(), b"INTC".as_slice());
-        assert!(rt; entry.before.is_none());
-        assert!(rt; entry.after.is_some());
+        expect_bytes(&rt, entry.key.as_slice(), b"INTC", "");
+        assert!(rt; entry.before.is_none() && entry.after.is_some());
     }
     assert_eq!(rt; change.entries().len(), 1);
     store.reserve(&change)?;

@@ -1,23 +1,29 @@
 //! The same script in pieces of every size, and scripts that end in the middle of a command.
 
 use super::{
-    DELETE, LOST_95, PUT_95, PUT_96, SOURCE, TOLD_95, TOLD_96, WATCH, in_pieces, joined, outcome_of,
+    DELETE, LOST_95, PUT_95, PUT_96, SOURCE, TOLD_95, TOLD_96, WATCH, expect_end, in_pieces, joined,
 };
 use ncq_run::Status;
 use std::alloc::Global;
 use std::process::Abort;
 use std::test::Fail;
 
-/// In pieces of 1 to 64 bytes each script that is read is cut at each of its bytes, in lines, words and ends of lines.
+/// So lines, words and ends of lines are cut at each of their bytes.
 #[test]
 fn pieces_of_any_size_make_one_output(rt: HostRuntime) -> Result<(), Fail> {
     let alloc = rt.alloc();
     let script = joined(alloc, &[SOURCE, WATCH, PUT_95, PUT_96])?;
     let want = joined(alloc, &["1 ok\n2 ok\n3 ok\n", TOLD_95, "4 ok\n", TOLD_96])?;
     for piece in 1..65 {
-        let outcome = outcome_of(alloc, &script, in_pieces(piece))?;
-        assert_eq!(rt; outcome.status, Status::Done, "{piece}");
-        assert_eq!(rt; outcome.written.as_slice(), want.as_slice(), "{piece}");
+        expect_end(
+            &rt,
+            alloc,
+            &script,
+            in_pieces(piece),
+            Status::Done,
+            &want,
+            "",
+        )?;
     }
     Ok(())
 }
@@ -102,13 +108,9 @@ fn expect_front(
     end: usize,
     want: &[u8],
 ) -> Result<(), Fail> {
-    for piece in [1, 64] {
-        let front = &script[..end.min(script.len())];
-        let outcome = outcome_of(alloc, front, in_pieces(piece))?;
-        assert_eq!(rt; outcome.status, Status::Done, "{end}");
-        assert_eq!(rt; outcome.written.as_slice(), want, "{end}");
-    }
-    Ok(())
+    let front = &script[..end.min(script.len())];
+    expect_end(rt, alloc, front, in_pieces(1), Status::Done, want, "")?;
+    expect_end(rt, alloc, front, in_pieces(64), Status::Done, want, "")
 }
 
 /// The fronts of one row.

@@ -1,8 +1,8 @@
 //! Reads and writes that fail, room that runs out, and words that fit no form.
 
 use super::{
-    Outside, PUT_95, PUT_96, SOURCE, TOLD_95, TOLD_96, WATCH, calls_of, in_pieces, joined,
-    outcome_of, run_on,
+    Outside, PUT_95, PUT_96, SOURCE, TOLD_95, TOLD_96, WATCH, calls_of, expect_end, in_pieces,
+    joined, run_on,
 };
 use ncq_base::bytes_of;
 use ncq_outside::{memory_sink, memory_source};
@@ -26,18 +26,15 @@ fn answers(alloc: Global, count: usize) -> Result<Vec<u8>, AllocError> {
 }
 
 /// The session on the four commands ends so, with this written.
-fn expect_end(
+fn expect_session(
     rt: &impl Abort,
     alloc: Global,
     outside: Outside<'_>,
     status: Status,
     written: &[u8],
-    at: usize,
 ) -> Result<(), Fail> {
-    let outcome = outcome_of(alloc, &joined(alloc, &SCRIPT)?, outside)?;
-    assert_eq!(rt; outcome.status, status, "at {at}");
-    assert_eq!(rt; outcome.written.as_slice(), written, "at {at}");
-    Ok(())
+    let script = joined(alloc, &SCRIPT)?;
+    expect_end(rt, alloc, &script, outside, status, written, "")
 }
 
 /// Where the read at a number fails, the commands that were whole by then are answered.
@@ -54,7 +51,7 @@ fn a_read_that_fails_leaves_the_answers_so_far(rt: HostRuntime) -> Result<(), Fa
                 read_faults: &[read],
                 ..in_pieces(1)
             };
-            expect_end(&rt, alloc, outside, Status::ReadFault, &written, count)?;
+            expect_session(&rt, alloc, outside, Status::ReadFault, &written)?;
         }
     }
     Ok(())
@@ -74,7 +71,7 @@ fn the_read_of_the_end_may_fail(rt: HostRuntime) -> Result<(), Fail> {
             read_faults: &[read as u64],
             ..in_pieces(1)
         };
-        expect_end(&rt, alloc, outside, status, &all, read)?;
+        expect_session(&rt, alloc, outside, status, &all)?;
     }
     // The first read of all, and the second of two.
     for (read, count) in [(1, 0), (2, 4)] {
@@ -83,7 +80,7 @@ fn the_read_of_the_end_may_fail(rt: HostRuntime) -> Result<(), Fail> {
             ..in_pieces(4096)
         };
         let written = answers(alloc, count)?;
-        expect_end(&rt, alloc, outside, Status::ReadFault, &written, count)?;
+        expect_session(&rt, alloc, outside, Status::ReadFault, &written)?;
     }
     Ok(())
 }
@@ -104,7 +101,7 @@ fn a_write_that_fails_leaves_the_answers_before_it(rt: HostRuntime) -> Result<()
             ..in_pieces(7)
         };
         let written = answers(alloc, count)?;
-        expect_end(&rt, alloc, outside, status, &written, count)?;
+        expect_session(&rt, alloc, outside, status, &written)?;
     }
     Ok(())
 }
@@ -118,13 +115,13 @@ fn room_that_runs_out_holds_a_front_of_the_output(rt: HostRuntime) -> Result<(),
             room,
             ..in_pieces(64)
         };
-        expect_end(&rt, alloc, outside, Status::WriteFault, &all[..room], room)?;
+        expect_session(&rt, alloc, outside, Status::WriteFault, &all[..room])?;
     }
     let outside = Outside {
         room: all.len(),
         ..in_pieces(64)
     };
-    expect_end(&rt, alloc, outside, Status::Done, &all, all.len())
+    expect_session(&rt, alloc, outside, Status::Done, &all)
 }
 
 /// Words that are not the one word `run`.

@@ -1,6 +1,6 @@
 //! The limits: the last script that is within each, and the first that is not.
 
-use super::{SOURCE, calls_of, in_pieces, joined, outcome_of, run_on};
+use super::{SOURCE, calls_of, expect_end, in_pieces, joined, run_on};
 use ncq_outside::{StdSource, memory_sink};
 use ncq_run::Status;
 use std::alloc::{AllocError, Global};
@@ -39,10 +39,8 @@ fn expect_once(
     want: &str,
     why: &str,
 ) -> Result<(), Fail> {
-    let outcome = outcome_of(alloc, script, in_pieces(65536))?;
-    assert_eq!(rt; outcome.status, Status::Done, "{why}");
-    assert_eq!(rt; outcome.written.as_slice(), want.as_bytes(), "{why}");
-    Ok(())
+    let want = want.as_bytes();
+    expect_end(rt, alloc, script, in_pieces(65536), Status::Done, want, why)
 }
 
 /// The line has this many bytes at most.
@@ -516,17 +514,19 @@ impl io::Read for Comments {
     }
 }
 
+/// How a session on so many bytes of comments ends.
+fn status_at(alloc: Global, length: usize) -> Result<Status, AllocError> {
+    let mut input = StdSource::new(Comments { left: length });
+    let mut output = memory_sink(alloc, 0, calls_of(alloc, &[])?)?;
+    Ok(run_on(alloc, &["run"], &mut input, &mut output))
+}
+
 /// A second where it is compiled; too long for a try with its checks.
 #[test]
 fn a_script_has_at_most_256_mebibytes(rt: HostRuntime) -> Result<(), Fail> {
-    let alloc = rt.alloc();
-    for (length, status) in [
-        (268_435_456, Status::Done),
-        (268_435_457, Status::ScriptTooLong),
-    ] {
-        let mut input = StdSource::new(Comments { left: length });
-        let mut output = memory_sink(alloc, 0, calls_of(alloc, &[])?)?;
-        assert_eq!(rt; run_on(alloc, &["run"], &mut input, &mut output), status);
-    }
+    let last = status_at(rt.alloc(), 268_435_456)?;
+    assert_eq!(rt; last, Status::Done);
+    let first = status_at(rt.alloc(), 268_435_457)?;
+    assert_eq!(rt; first, Status::ScriptTooLong);
     Ok(())
 }
