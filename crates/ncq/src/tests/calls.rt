@@ -10,8 +10,8 @@ use ncq_base::{
     is_name, is_pyx_name, read_u64, same, total_order, unescape, write_decimal, write_escaped,
 };
 use ncq_callback::write_print;
-use ncq_pyx::{Item, read_block};
-use ncq_source::{Key, SourceId, Store};
+use ncq_pyx::{Item, Items, read_block};
+use ncq_source::{Entry, Key, SourceId, Store};
 use std::alloc::{AllocError, Global};
 use std::cmp::Ordering;
 use std::process::Abort;
@@ -372,27 +372,50 @@ fn quotes(alloc: Global) -> Result<(Store, SourceId), Fail>
     Ok((store, id))
 }
 
-#[test]
-fn a_store_takes_what_was_put(rt: HostRuntime) -> Result<(), Fail> {
-    let alloc = rt.alloc();
-    let (mut store, id) = quotes(alloc)?;
-    assert_eq!(rt; store.find(b"quotes"), Some(id));
-    assert_eq!(rt; store.find(b"Quotes"), None);
+/// The put of the quote INTC.
+fn put_of_intc(alloc: Global) -> Result<Items, Fail> {
     let block = ["(Quote", "(Symbol", "-INTC", ")Symbol", ")Quote"];
-    let items = read_block(alloc, &lines_of(alloc, &block)?)?;
-    if let Some(Item::Put(element)) = items.get(0) {
-        let key = store.key_of(alloc, id, element)?.ok_or("a key is missing")?;
+    Ok(read_block(alloc, &lines_of(alloc, &block)?)?)
+}
+
+#[test]
+fn a_declared_source_is_found(rt: HostRuntime) -> Result<(), Fail> {
+    let (store, id) = quotes(rt.alloc())?;
+    assert!(rt; store.find(b"quotes") == Some(id));
+    assert!(rt; store.find(b"Quotes").is_none());
+    Ok(())
+}
+
+#[test]
+fn an_element_tells_its_key(rt: HostRuntime) -> Result<(), Fail> {
+    let (store, id) = quotes(rt.alloc())?;
+    let items = put_of_intc(rt.alloc())?;
+    if let Item::Put(element) = items.get(0).ok_or("an item is missing")? {
+        let key = store.key_of(rt.alloc(), id, element)?;
+        let key = key.ok_or("a key is missing")?;
         expect_bytes(&rt, key.as_slice(), b"INTC", "");
     }
-    let change = store.prepare(alloc, b"quotes", &items)?;
-    for entry in change.entries() {
-        expect_bytes(&rt, entry.key.as_slice(), b"INTC", "");
+    Ok(())
+}
+
+/// One element of the key INTC comes in, and none goes out.
+fn expect_put(rt: &impl Abort, entries: &[Entry]) {
+    assert!(rt; entries.len() == 1);
+    for entry in entries {
+        expect_bytes(rt, entry.key.as_slice(), b"INTC", "");
         assert!(rt; entry.before.is_none() && entry.after.is_some());
     }
-    assert_eq!(rt; change.entries().len(), 1);
+}
+
+#[test]
+fn a_store_takes_what_was_put(rt: HostRuntime) -> Result<(), Fail> {
+    let (mut store, _) = quotes(rt.alloc())?;
+    let items = put_of_intc(rt.alloc())?;
+    let change = store.prepare(rt.alloc(), b"quotes", &items)?;
+    expect_put(&rt, change.entries());
     store.reserve(&change)?;
-    assert_eq!(rt; store.changes(), 0);
+    assert!(rt; store.changes() == 0);
     store.commit(change);
-    assert_eq!(rt; store.changes(), 1);
+    assert!(rt; store.changes() == 1);
     Ok(())
 }

@@ -1,11 +1,11 @@
 //! Reads and writes that fail, room that runs out, and words that fit no form.
 
 use super::{
-    Outside, PUT_95, PUT_96, SOURCE, TOLD_95, TOLD_96, WATCH, calls_of, expect_end, in_pieces,
-    joined, run_on,
+    Outside, PUT_95, PUT_96, SOURCE, TOLD_95, TOLD_96, WATCH, calls_of, expect_bytes, expect_end,
+    in_pieces, joined, run_on,
 };
 use ncq_base::bytes_of;
-use ncq_outside::{memory_sink, memory_source};
+use ncq_outside::{Sink, Source, memory_sink, memory_source};
 use ncq_run::{Status, exit_code};
 use std::alloc::{AllocError, Global};
 use std::process::Abort;
@@ -139,6 +139,13 @@ const OTHER_WORDS: &[&[&str]] = &[
     &[""],
 ];
 
+fn refuse_words<I: Source, O: Sink>(rt: &impl Abort, alloc: Global, input: &mut I, output: &mut O) {
+    for words in OTHER_WORDS {
+        let status = run_on(alloc, words, input, output);
+        assert!(rt; status == Status::Usage);
+    }
+}
+
 /// Such words read and write nothing: the same source then gives its whole script.
 #[test]
 fn other_words_read_and_write_nothing(rt: HostRuntime) -> Result<(), Fail> {
@@ -146,14 +153,11 @@ fn other_words_read_and_write_nothing(rt: HostRuntime) -> Result<(), Fail> {
     let none = calls_of(alloc, &[])?;
     let mut input = memory_source(bytes_of(alloc, b"report\n")?, 64, none);
     let mut output = memory_sink(alloc, 64, calls_of(alloc, &[])?)?;
-    for words in OTHER_WORDS {
-        let status = run_on(alloc, words, &mut input, &mut output);
-        assert_eq!(rt; status, Status::Usage);
-    }
+    refuse_words(&rt, alloc, &mut input, &mut output);
     assert!(rt; output.held().is_empty());
     let status = run_on(alloc, &["run"], &mut input, &mut output);
-    assert_eq!(rt; status, Status::Done);
-    assert_eq!(rt; output.held(), b"1 refused 99 unbuilt\n".as_slice());
+    assert!(rt; status == Status::Done);
+    expect_bytes(&rt, output.held(), b"1 refused 99 unbuilt\n", "");
     Ok(())
 }
 
