@@ -12,6 +12,7 @@ use ncq_base::{
 use ncq_callback::write_print;
 use ncq_pyx::{Item, Items, read_block};
 use ncq_source::{Entry, Key, SourceId, Store};
+use ncq_tree::Element;
 use std::alloc::{AllocError, Global};
 use std::cmp::Ordering;
 use std::process::Abort;
@@ -386,14 +387,28 @@ fn a_declared_source_is_found(rt: HostRuntime) -> Result<(), Fail> {
     Ok(())
 }
 
+fn expect_key(
+    rt: &impl Abort,
+    alloc: Global,
+    store: &Store,
+    id: SourceId,
+    element: &Element,
+) -> Result<(), Fail>
+    requires { IsDeclared store.now id }
+{
+    let key = store.key_of(alloc, id, element)?;
+    let key = key.ok_or("a key is missing")?;
+    expect_bytes(rt, key.as_slice(), b"INTC", "");
+    Ok(())
+}
+
 #[test]
 fn an_element_tells_its_key(rt: HostRuntime) -> Result<(), Fail> {
     let (store, id) = quotes(rt.alloc())?;
     let items = put_of_intc(rt.alloc())?;
-    if let Item::Put(element) = items.get(0).ok_or("an item is missing")? {
-        let key = store.key_of(rt.alloc(), id, element)?;
-        let key = key.ok_or("a key is missing")?;
-        expect_bytes(&rt, key.as_slice(), b"INTC", "");
+    assert!(rt; matches!(items.get(0), Some(Item::Put(_))));
+    if let Some(Item::Put(element)) = items.get(0) {
+        expect_key(&rt, rt.alloc(), &store, id, element)?;
     }
     Ok(())
 }
