@@ -1,6 +1,7 @@
 //! The program `ncq`: a script comes from standard input, and the answer to each of its commands goes to standard output.
 //! The words after the program's name say what to do; the exit code says how it ended, and nothing else is printed.
-//! What is written is what `ncq_run::run` promises.
+//! What is written is what `ncq_run::run` promises. The functions here have no clauses, since none could say what the
+//! terminal gives or gets: that they are safe and end is proved, and the stored run and the tests show the rest.
 #![tactic(auto)]
 
 ghost use Rattle.std.specs.Prelude.{◌≡◌, ◌<◌};
