@@ -1,10 +1,11 @@
 //! The program `ncq`: a script comes from standard input, and the answer to each of its commands goes to standard output.
 //! The words after the program's name say what to do; the exit code says how it ended, and nothing else is printed.
-//! What is written is what `ncq_run::run` promises. The functions here have no clauses, since none could say what the
-//! terminal gives or gets: that they are safe and end is proved, and the stored run and the tests show the rest.
+//! What is written is what `ncq_run::run` promises. No clause can say what the terminal gives or gets: which words are taken
+//! and which code a status ends with is proved, and the stored run and the tests show the rest.
 #![tactic(auto)]
 
-ghost use Rattle.std.specs.Prelude.{◌≡◌, ◌<◌};
+ghost use Rattle.std.specs.Prelude.{◌≡◌, ◌<◌, ◌↔◌, MatchResult};
+ghost use Rattle.ncq_run.specs.Status.{IsRun, exit_code_of};
 
 use ncq_base::Steps;
 use ncq_outside::{StdSink, StdSource};
@@ -36,6 +37,7 @@ fn words_of<R: Env + AllocGlobal>(rt: &R) -> Result<Vec<String>, AllocError> {
 }
 
 /// A session over this reader and this writer, whose steps are counted in a ledger of its own.
+/// It ends with `Usage` exactly where the words are not the one word `run`.
 fn session<R: Read, W: Write, L: Ledger>(
     alloc: Global,
     words: &[&str],
@@ -49,6 +51,7 @@ where
     requires name { blank.name ≡ L.name }
     requires parts { blank.parts ≡ L.parts }
     requires some { 0 < L.parts }
+    ensures usage { result ≡ Status.Usage ↔ ¬ IsRun words.now }
 {
     let mut steps = Steps::<L>::new(blank);
     let mut input = StdSource::new(reader);
@@ -72,7 +75,13 @@ fn answer<R: Env + Input + Print + AllocGlobal>(rt: &R) -> Result<Status, AllocE
     ))
 }
 
+/// The exit code of an answer: that of its status, and 5 where memory ran out before there was one.
+fn code_of(answer: Result<Status, AllocError>) -> u8
+    ensures { MatchResult answer (λ status. result ≡ exit_code_of status) (λ _. result ≡ 5) }
+{
+    exit_code(answer.unwrap_or(Status::NoMemory))
+}
+
 fn main(rt: HostRuntime) -> ExitCode {
-    let status = answer(&rt).unwrap_or(Status::NoMemory);
-    ExitCode::from(exit_code(status))
+    ExitCode::from(code_of(answer(&rt)))
 }
