@@ -5,7 +5,7 @@ use Rattle.std.specs.Map.{keys_of}
 use Rattle.std.specs.FinMap.{get, entries}
 use Rattle.ncq_base.specs.Keys.{is_key, times}
 use Rattle.ncq_tree.specs.declared.model.Element.{Element}
-use Rattle.ncq_pyx.specs.declared.turns.Item.{Item}
+use Rattle.ncq_pyx.specs.declared.item.Item.{Item}
 use Rattle.ncq_source.specs.Changes.{store_after}
 use Rattle.ncq_source.specs.ChangeStates.{ChangeState}
 use Rattle.ncq_source.specs.Held.{Kept}
