@@ -11,7 +11,7 @@ use Rattle.ncq_base.proofs.Keyed.{get_map_of}
 use Rattle.ncq_tree.specs.declared.model.Element.{Element}
 use Rattle.ncq_source.specs.Changes.{after, taken, store_after}
 use Rattle.ncq_source.specs.Held.{Kept, with_at}
-use Rattle.ncq_pyx.specs.declared.turns.Item.{Item}
+use Rattle.ncq_pyx.specs.declared.item.Item.{Item}
 use Rattle.ncq_source.specs.ChangeStates.{ChangeState}
 use Rattle.ncq_source.specs.Prepared.{IsPrepared}
 use Rattle.ncq_source.specs.Proper.{IsProper, IsProperStore, HoldsProper, PutsProper}

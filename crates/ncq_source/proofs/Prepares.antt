@@ -6,8 +6,8 @@ use Rattle.std.specs.FinMap.{get}
 use Rattle.ncq_base.proofs.Tests.{both_true}
 use Rattle.ncq_tree.specs.declared.model.Element.{Element}
 use Rattle.ncq_pyx.specs.Canonical.{item_is_proper}
-use Rattle.ncq_pyx.specs.declared.turns.Item.{Item}
-use Rattle.ncq_pyx.specs.declared.turns.Item.TheVariants.{Put, Remove}
+use Rattle.ncq_pyx.specs.declared.item.Item.{Item}
+use Rattle.ncq_pyx.specs.declared.item.Item.TheVariants.{Put, Remove}
 use Rattle.ncq_source.specs.Changes.{Trial, prepared, entry_of, put_entry, gone_entry, behind, next}
 use Rattle.ncq_source.specs.Changes.Trial.{Good, NoKey, NotThere}
 use Rattle.ncq_source.specs.Held.{Kept, with_at}

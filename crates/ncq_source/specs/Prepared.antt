@@ -1,6 +1,6 @@
 -- What a prepared change is, told by the source that it was prepared from.
 use Rattle.std.specs.Prelude.{◌≡◌, List, length}
-use Rattle.ncq_pyx.specs.declared.turns.Item.{Item}
+use Rattle.ncq_pyx.specs.declared.item.Item.{Item}
 use Rattle.ncq_source.specs.Changes.{after, store_after, Chains}
 use Rattle.ncq_source.specs.Stores.{Source}
 use Rattle.ncq_source.specs.declared.change.Entry.{Entry}

@@ -2,7 +2,7 @@
 use Rattle.std.specs.Prelude.{◌≡◌, ℕ, true, List, [], ◌∷◌, slice_get, Some, IfSome}
 use Rattle.std.specs.FinMap.{get}
 use Rattle.ncq_tree.specs.declared.model.Element.{Element}
-use Rattle.ncq_pyx.specs.declared.turns.Item.TheVariants.{Put}
+use Rattle.ncq_pyx.specs.declared.item.Item.TheVariants.{Put}
 use Rattle.ncq_pyx.specs.Canonical.{item_is_proper}
 use Rattle.ncq_source.specs.Held.{Kept}
 use Rattle.ncq_source.specs.Stores.{Source}

@@ -3,7 +3,7 @@ ghost use Rattle.std.specs.Prelude.{◌≡◌, ◌≢◌, ◌<◌, ◌↔◌, �
 ghost use Rattle.std.specs.List.{Contains};
 ghost use Rattle.std.specs.FinMap.{get, entries};
 ghost use Rattle.ncq_base.specs.Keys.{times};
-ghost use Rattle.ncq_pyx.specs.declared.turns.Item.{Item};
+ghost use Rattle.ncq_pyx.specs.declared.item.Item.{Item};
 ghost use Rattle.ncq_tree.specs.declared.model.Element.{Element};
 ghost use Rattle.ncq_source.specs.Changes.{prepared, after, store_after, Chains};
 ghost use Rattle.ncq_source.specs.Changes.Trial.{Good};
