@@ -14,7 +14,7 @@ use crate::error::PyxError;
 use crate::item::{Item, Items};
 use crate::tag::TagAttributes;
 use crate::turns::{Stop, Turn, turn_of};
-use ncq_base::{Bytes, Lines};
+use ncq_base::{Bytes, Lines, first_line};
 use ncq_tree::{Attribute, Element, Forest, Node, normal_element};
 use std::alloc::{AllocError, Global};
 
@@ -216,18 +216,20 @@ fn read_lines(alloc: Global, lines: &Lines, limit: usize) -> Result<Items, PyxEr
 {
     let mut reader = Reader::new(alloc);
     let mut number = 0;
-    for line in lines.as_slice() {
+    let mut rest = lines.text();
+    while let Some((line, behind)) = first_line(rest) {
         number += 1;
-        if let Err(why) = reader.step(line.as_slice(), limit) {
+        if let Err(why) = reader.step(line, limit) {
             return Err(refusal(why, number));
         }
+        rest = behind;
     }
     finish(reader, number)
 }
 
 /// The items, where no element is open behind the lines.
 fn finish(reader: Reader, count: u64) -> Result<Items, PyxError>
-    requires { count < 2 ^ 62 }
+    requires { count < 2 ^ 63 }
     ensures { Ends reader count result }
 {
     let Reader { stack, items, .. } = reader;
