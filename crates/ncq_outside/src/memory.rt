@@ -199,7 +199,7 @@ impl Sink for MemorySink {
         ensures bytes { WriteAppends (Some self.old.held) (Some self.new.held) result buf.now }
         ensures cause { HasCause self.old.faults self.new.faults result }
         ensures stays { sure_room self.new ≡ sure_room self.old }
-        ensures full { OnErr result (IsFull (sure_room self.old) (Some self.old.held)) }
+        ensures full { OnErr result (IsFull (sure_room self.old) (Some self.new.held)) }
         ensures fails { IsErr result
             ↔ (Contains self.old.failing (one_more self.old.calls) ⊎ (self.old.room ≤ length self.old.held)) }
         ensures takes { IfOk result (λ n. n ≡ min (length buf.now) (self.old.room - length self.old.held)) }

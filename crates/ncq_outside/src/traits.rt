@@ -56,5 +56,5 @@ pub trait Sink {
         ensures bytes { WriteAppends (held self.old) (held self.new) result buf.now }
         ensures cause { HasCause (faults self.old) (faults self.new) result }
         ensures stays { sure self.new ≡ sure self.old }
-        ensures full { OnErr result (IsFull (sure self.old) (held self.old)) };
+        ensures full { OnErr result (IsFull (sure self.old) (held self.new)) };
 }
