@@ -1,5 +1,5 @@
 -- What holds of the entries of a prepared change.
-use Rattle.std.proofs.Common.{◌≡◌, ℕ, suc, ◌+◌, true, List, [], ◌∷◌, length, Option, Some, None, refl, sym, ap, ◌∙◌, subst}
+use Rattle.std.proofs.Common.{◌≡◌, ℕ, suc, ◌+◌, true, List, [], ◌∷◌, length, Option, Some, None, refl, ap, ◌∙◌, subst}
 use Rattle.std.specs.Prelude.{IfSome}
 use Rattle.std.specs.List.{list_all}
 use Rattle.std.specs.FinMap.{get}
@@ -68,5 +68,5 @@ is_prepared s items es h =
     record { count = count_of_entries s.key 1 s.elements items es h; chains = fold.1; fold = fold.0 }
 
 -- what was prepared from a source, told by what is seen of it
-pub prepared_from : (s seen : Source) (given items : List Item) (es : List Entry) → s ≡ seen → given ≡ items → prepared seen.key 1 seen.elements given ≡ Good es → prepared s.key 1 s.elements items ≡ Good es
-prepared_from s seen given items es is same h = (λ i. prepared (is i).key 1 (is i).elements (sym same i)) ∙ h
+pub prepared_from : (s seen : Source) (items : List Item) (es : List Entry) → s ≡ seen → prepared seen.key 1 seen.elements items ≡ Good es → prepared s.key 1 s.elements items ≡ Good es
+prepared_from s seen items es is h = (λ i. prepared (is i).key 1 (is i).elements items) ∙ h

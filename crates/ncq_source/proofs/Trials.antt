@@ -1,6 +1,5 @@
 -- Entries that are prepared one by one.
-use Rattle.std.proofs.Common.{◌≡◌, ℕ, suc, ◌+◌, ◌<◌, ◌≤◌, List, [], ◌∷◌, ◌++◌, length, drop, get_or, Err, refl, sym, ap, ◌∙◌, subst, arith, drop-cons, add-one}
-use Rattle.std.proofs.lemmas.Grind.{common_steps}
+use Rattle.std.proofs.Common.{◌≡◌, ℕ, ◌+◌, ◌<◌, List, [], ◌∷◌, ◌++◌, length, Err, refl, sym, ap, ◌∙◌, subst, arith, length-append}
 use Rattle.std.specs.declared.result.Result.{Result}
 use Rattle.ncq_source.specs.declared.change.ChangeError.{ChangeError}
 use Rattle.ncq_source.specs.declared.change.ChangeError.TheVariants.{BadKey, NoSuchKey, NoSource, OutOfMemory}
@@ -27,34 +26,33 @@ front_not_there : (es : List Entry) (n : ℕ) → front es (NotThere n) ≡ NotT
 front_not_there [] n = refl
 front_not_there (e ∷ es) n = ap (behind e) (front_not_there es n)
 
-module _ (rule : Key) (kept : Kept) (items : List Item) (i : ℕ) (item : Item) (es : List Entry) (whole : Trial (List Entry))
-    (within : i < length items) (is : item ≡ get_or items i item)
-    (left : front es (prepared rule (i + 1) kept (drop i items)) ≡ whole) where
+-- the elements matter only where an item is left to see them
+seen_by : (rule : Key) (items : List Item) (p q : ℕ) (a b : Kept) → p ≡ q → (0 < length items → a ≡ b) → prepared rule p a items ≡ prepared rule q b items
+seen_by rule [] p q a b count sees = refl
+seen_by rule (item ∷ items) p q a b count sees = let same : a ≡ b = sees (omega arith) in λ i. prepared rule (count i) (same i) (item ∷ items)
+
+module _ (rule : Key) (kept : Kept) (item : Item) (items : List Item) (es : List Entry) (whole : Trial (List Entry))
+    (left : front es (prepared rule (length es + 1) kept (item ∷ items)) ≡ whole) where
   abbrev more : Entry → Trial (List Entry)
-  more e = prepared rule (i + 1 + 1) (with_at kept e.key e.after) (drop (i + 1) items)
-
-  split : drop i items ≡ item ∷ drop (i + 1) items
-  split = rw (add-one, drop-cons items i item within) (λ j. sym is j ∷ drop (suc i) items)
-
-  now : front es (next (entry_of rule (i + 1) kept item) more) ≡ whole
-  now = subst (λ l. front es (prepared rule (i + 1) kept l) ≡ whole) split left
+  more e = prepared rule (length es + 1 + 1) (with_at kept e.key e.after) items
 
   -- one more entry
-  pub one_more : (e : Entry) → entry_of rule (i + 1) kept item ≡ Good e → front (es ++ e ∷ []) (more e) ≡ whole
-  one_more e good = front_push es e (more e) ∙ subst (λ t. front es (next t more) ≡ whole) good now
+  pub one_more : (e : Entry) (ahead : Kept) → entry_of rule (length es + 1) kept item ≡ Good e → (0 < length items → ahead ≡ with_at kept e.key e.after)
+      → front (es ++ e ∷ []) (prepared rule (length (es ++ e ∷ []) + 1) ahead items) ≡ whole
+  one_more e ahead good sees =
+      ap (front (es ++ e ∷ [])) (seen_by rule items _ (length es + 1 + 1) ahead _ (ap (λ n. n + 1) (length-append es (e ∷ []))) sees)
+      ∙ front_push es e (more e) ∙ subst (λ t. front es (next t more) ≡ whole) good left
 
   -- an item that cannot be applied decides
-  pub decides : (r : Result Entry ChangeError) (s : Result (List Entry) ChangeError) (e : ChangeError) → r ≡ Err e → s ≡ Err e → Tells r (entry_of rule (i + 1) kept item) → Tells s whole
-  decides r s e was is tells = subst (λ (x : Result (List Entry) ChangeError). Tells x whole) (sym is) (by e (subst (λ (x : Result Entry ChangeError). Tells x (entry_of rule (i + 1) kept item)) was tells))
+  pub decides : (r : Result Entry ChangeError) (s : Result (List Entry) ChangeError) (e : ChangeError) → r ≡ Err e → s ≡ Err e → Tells r (entry_of rule (length es + 1) kept item) → Tells s whole
+  decides r s e was is tells = subst (λ (x : Result (List Entry) ChangeError). Tells x whole) (sym is) (by e (subst (λ (x : Result Entry ChangeError). Tells x (entry_of rule (length es + 1) kept item)) was tells))
     where
-      by : (e : ChangeError) → Tells {A = Entry} (Err e) (entry_of rule (i + 1) kept item) → Tells {A = List Entry} (Err e) whole
+      by : (e : ChangeError) → Tells {A = Entry} (Err e) (entry_of rule (length es + 1) kept item) → Tells {A = List Entry} (Err e) whole
       by NoSource h = h
-      by (BadKey n) h = sym (subst (λ t. front es (next t more) ≡ whole) h now) ∙ front_no_key es n
-      by (NoSuchKey n) h = sym (subst (λ t. front es (next t more) ≡ whole) h now) ∙ front_not_there es n
+      by (BadKey n) h = sym (subst (λ t. front es (next t more) ≡ whole) h left) ∙ front_no_key es n
+      by (NoSuchKey n) h = sym (subst (λ t. front es (next t more) ≡ whole) h left) ∙ front_not_there es n
       by OutOfMemory h = tt
 
-pub at_end : (rule : Key) (kept : Kept) (items : List Item) (i : ℕ) (es : List Entry) → length items ≤ i → front es (prepared rule (i + 1) kept (drop i items)) ≡ Good es
-at_end rule kept items i es past = rw (drop_past items i past) (front_good es)
-  where
-    drop_past : (items : List Item) (i : ℕ) → length items ≤ i → drop i items ≡ []
-    drop_past items i past = grind (arith, common_steps)
+pub at_end : (rule : Key) (kept : Kept) (items : List Item) (es : List Entry) → length items ≡ 0 → front es (prepared rule (length es + 1) kept items) ≡ Good es
+at_end rule kept [] es none = front_good es
+at_end rule kept (item ∷ items) es none = absurd (omega (arith, none))

@@ -50,8 +50,3 @@ only = only_behind None
 abbrev pub key_of : Key → Element → Option (List ℕ)
 key_of (Child name) element = only (flat_map (child_keys name) element.children)
 key_of (OfAttribute name) element = only (flat_map (attribute_keys name) element.attributes)
-
--- the value, or nothing
-abbrev pub option_list : Option (List ℕ) → Strings
-option_list None = []
-option_list (Some value) = value ∷ []

@@ -1,7 +1,8 @@
 //! The key of an element, by a rule.
 ghost use Rattle.std.specs.Prelude.{◌≡◌, [], IfOk};
-ghost use Rattle.ncq_source.specs.Keys.{key_of, child_keys, attribute_keys, only, only_behind, option_list};
+ghost use Rattle.ncq_source.specs.Keys.{key_of, child_keys, attribute_keys, only, only_behind};
 ghost use Rattle.std.specs.List.{flat_map};
+ghost use Rattle.std.specs.Option.{option_to_list};
 
 use ncq_base::{Bytes, Copied};
 use ncq_tree::{Attribute, Element, Node, string_value};
@@ -46,7 +47,7 @@ fn child_key(alloc: Global, name: &Bytes, nodes: &[Node]) -> Result<Option<Bytes
 /// The string value of a node that is an element of this name; none of any other node.
 #[tactic(auto, using(crate::proofs::KeyLaws::child_keys_are))]
 pub fn child_value(alloc: Global, name: &Bytes, node: &Node) -> Result<Option<Bytes>, AllocError>
-    ensures { IfOk result (λ value. option_list value ≡ child_keys name.now node.now) }
+    ensures { IfOk result (λ value. option_to_list value ≡ child_keys name.now node.now) }
 {
     match node {
         Node::Text(_) => Ok(None),

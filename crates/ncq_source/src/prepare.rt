@@ -1,5 +1,5 @@
 //! The entries of items.
-ghost use Rattle.std.specs.Prelude.{◌≡◌, ◌+◌, Ok, IfOk, OnOk, Some};
+ghost use Rattle.std.specs.Prelude.{◌≡◌, ◌+◌, Ok, IfOk, IsTrue, OnOk, Some};
 ghost use Rattle.ncq_source.specs.Changes.{Tells, entry_of, put_entry, gone_entry, prepared};
 ghost use Rattle.ncq_source.specs.Held.{map_of, with_at};
 ghost use Rattle.ncq_source.specs.Keys.{key_of};
@@ -11,7 +11,7 @@ use crate::change::{ChangeError, Entries, Entry};
 use crate::elements::Elements;
 use crate::key::{Key, key_of};
 use ncq_base::{Bytes, Copied, Shared};
-use ncq_pyx::Item;
+use ncq_pyx::{Item, Items};
 use ncq_tree::Element;
 use std::alloc::{AllocError, Global};
 
@@ -21,16 +21,16 @@ pub(crate) fn prepare(
     alloc: Global,
     rule: &Key,
     elements: &Elements,
-    items: &[Item],
+    items: Items,
 ) -> Result<Entries, ChangeError>
-    ensures { Tells result (prepared rule.now 1 (map_of elements.now.pairs) items.now) }
+    ensures { Tells result (prepared rule.now 1 (map_of elements.now.pairs) items) }
 {
+    let count = items.len();
     let mut ahead = Ahead::new(alloc, elements);
-    let mut entries = Entries::new(alloc);
-    for item in items {
-        let position = entries.len() as u64 + 1;
-        let entry = entry_of(alloc, rule, &ahead, item, position)?;
-        note(alloc, &mut ahead, &entry)?;
+    let mut entries = Entries::with_capacity(alloc, count)?;
+    for item in items.into_vec() {
+        let entry = entry_of(alloc, rule, &ahead, item, entries.len() as u64 + 1)?;
+        note(alloc, &mut ahead, &entry, entries.len() + 1 < count)?;
         entries.push(entry)?;
     }
     Ok(entries)
@@ -41,17 +41,17 @@ fn entry_of(
     alloc: Global,
     rule: &Key,
     ahead: &Ahead<'_>,
-    item: &Item,
+    item: Item,
     position: u64,
 ) -> Result<Entry, ChangeError>
-    ensures { Tells result (entry_of rule.now position ahead.now item.now) }
+    ensures { Tells result (entry_of rule.now position ahead.now item) }
 {
     match item {
         Item::Put(element) => {
-            let key = key_of(alloc, rule, element)?;
+            let key = key_of(alloc, rule, &element)?;
             put_entry(alloc, ahead, key, element, position)
         }
-        Item::Remove(key) => gone_entry(alloc, ahead, key, position),
+        Item::Remove(key) => gone_entry(ahead, key, position),
     }
 }
 
@@ -60,16 +60,16 @@ fn put_entry(
     alloc: Global,
     ahead: &Ahead<'_>,
     key: Option<Bytes>,
-    element: &Element,
+    element: Element,
     position: u64,
 ) -> Result<Entry, ChangeError>
-    ensures { Tells result (put_entry position ahead.now key element.now) }
+    ensures { Tells result (put_entry position ahead.now key element) }
 {
     let Some(key) = key else {
         return Err(ChangeError::BadKey { position });
     };
     let before = shared(ahead.get(&key))?;
-    let after = Shared::new(alloc, element.copy(alloc)?)?;
+    let after = Shared::new(alloc, element)?;
     Ok(Entry {
         key,
         before,
@@ -78,29 +78,33 @@ fn put_entry(
 }
 
 /// The entry of a removal of this key.
-fn gone_entry(
-    alloc: Global,
-    ahead: &Ahead<'_>,
-    key: &Bytes,
-    position: u64,
-) -> Result<Entry, ChangeError>
-    ensures { Tells result (gone_entry position key.now (get ahead.now key.now)) }
+fn gone_entry(ahead: &Ahead<'_>, key: Bytes, position: u64) -> Result<Entry, ChangeError>
+    ensures { Tells result (gone_entry position key (get ahead.now key)) }
 {
-    let Some(before) = ahead.get(key) else {
+    let Some(before) = ahead.get(&key) else {
         return Err(ChangeError::NoSuchKey { position });
     };
     let before = before.share()?;
     Ok(Entry {
-        key: key.copy(alloc)?,
+        key,
         before: Some(before),
         after: None,
     })
 }
 
-/// Lets the items that follow see the entry.
-fn note(alloc: Global, ahead: &mut Ahead<'_>, entry: &Entry) -> Result<(), AllocError>
-    ensures { OnOk result (ahead.new ≡ with_at ahead.old entry.now.key entry.now.after) }
+/// Lets the items that follow see the entry, where some follow: behind the last item nobody looks.
+fn note(
+    alloc: Global,
+    ahead: &mut Ahead<'_>,
+    entry: &Entry,
+    some_follow: bool,
+) -> Result<(), AllocError>
+    ensures { OnOk result (IsTrue some_follow
+        → ahead.new ≡ with_at ahead.old entry.now.key entry.now.after) }
 {
+    if !some_follow {
+        return Ok(());
+    }
     let key = entry.key.copy(alloc)?;
     let after = shared(entry.after.as_ref())?;
     ahead.set(key, after)

@@ -205,25 +205,26 @@ impl Store {
     /// What the items do to the source of this name, without doing it: one entry for each item, with what its key holds
     /// before and after. `NoSource` comes exactly where the name is not declared. Else the first item that cannot be applied,
     /// seen through the items before it, decides: `BadKey` for a put whose element has not exactly one key value that is
-    /// not empty, `NoSuchKey` for a removal of a key that holds no element there. Positions count from 1.
-    pub fn prepare(&self, alloc: Global, name: &[u8], items: &Items) -> Result<Change, ChangeError>
+    /// not empty, `NoSuchKey` for a removal of a key that holds no element there. Positions count from 1. It keeps the
+    /// elements and keys of the items.
+    pub fn prepare(&self, alloc: Global, name: &[u8], items: Items) -> Result<Change, ChangeError>
         ensures declared { IfOk result (λ change. IsDeclared self.now change.source) }
         ensures source { IfOk result (λ change. found self.now name.now ≡ Some change.source.0) }
         ensures prepared { IfOk result (λ change.
-            At self.now change.source (λ s. IsPrepared s items.now change.entries)) }
-        ensures proper { list_all item_is_proper items.now ≡ true
+            At self.now change.source (λ s. IsPrepared s items change.entries)) }
+        ensures proper { list_all item_is_proper items ≡ true
             → IfOk result (λ change. PutsProper change.entries) }
         ensures only { result ≡ Err ChangeError.NoSource → found self.now name.now ≡ None }
         ensures none { found self.now name.now ≡ None → result ≡ Err ChangeError.NoSource }
         ensures some { (at : _) (s : _) → found self.now name.now ≡ Some at
             → slice_get self.now.sources at ≡ Some s
-            → TellsChange result at (prepared s.key 1 s.elements items.now) }
+            → TellsChange result at (prepared s.key 1 s.elements items) }
     {
         let Some(source) = self.find(name) else {
             return Err(ChangeError::NoSource);
         };
         let declared = self.source(source);
-        let entries = prepare(alloc, &declared.key, &declared.elements, items.as_slice())?;
+        let entries = prepare(alloc, &declared.key, &declared.elements, items)?;
         Ok(Change::new(source, entries))
     }
 

@@ -1,7 +1,7 @@
 use crate::{ChangeError, DeclareError, Entry, Key, SourceId, Store, child_value, key_of};
-use ncq_base::{Bytes, Copied, Lines, Shared, bytes_of, is_line};
-use ncq_pyx::{Item, Items, read_block, write_forest};
-use ncq_tree::{Attribute, Attributes, Element, Forest, Node, is_normal, string_value};
+use ncq_base::{Bytes, Lines, Shared, bytes_of, is_line};
+use ncq_pyx::{Item, Items, read_block, write_element};
+use ncq_tree::{Attribute, Attributes, Element, Forest, Node, string_value};
 use std::alloc::{AllocError, Global};
 use std::process::Abort;
 use std::test::Fail;
@@ -15,10 +15,7 @@ fn items_of(alloc: Global, text: &str) -> Result<Items, AllocError> {
         }
         lines.push(line.as_bytes())?;
     }
-    match read_block(alloc, &lines) {
-        Ok(items) => Ok(items),
-        Err(_) => Err(AllocError),
-    }
+    read_block(alloc, &lines).map_err(|_| AllocError)
 }
 
 /// The first element that the lines put.
@@ -39,32 +36,42 @@ fn attribute(alloc: Global, name: &str) -> Result<Key, AllocError> {
     Ok(Key::Attribute(bytes_of(alloc, name.as_bytes())?))
 }
 
+/// Declares a source, and tells whether there was none of its name.
 fn declare(
     alloc: Global,
     store: &mut Store,
     name: &str,
     root: &str,
     key: Key,
-) -> Result<&'static str, AllocError> {
+) -> Result<bool, AllocError> {
     let name = bytes_of(alloc, name.as_bytes())?;
     let root = bytes_of(alloc, root.as_bytes())?;
     match store.declare(alloc, name, root, key) {
-        Ok(_) => Ok("ok"),
-        Err(DeclareError::Exists) => Ok("exists"),
+        Ok(_) => Ok(true),
+        Err(DeclareError::Exists) => Ok(false),
         Err(DeclareError::OutOfMemory) => Err(AllocError),
     }
 }
 
-/// A store with the source `quotes`, whose key is the child `Symbol`.
-fn quotes(alloc: Global) -> Result<Store, AllocError> {
+/// A store with the sources `quotes` and `companies`, whose key is the child `Symbol`, and `c`, whose key is the
+/// attribute `id`.
+fn sources(alloc: Global) -> Result<Store, AllocError> {
     let mut store = Store::new(alloc);
-    declare(
+    let _new = declare(
         alloc,
         &mut store,
         "quotes",
         "Quotes",
         child(alloc, "Symbol")?,
     )?;
+    let _new = declare(
+        alloc,
+        &mut store,
+        "companies",
+        "Companies",
+        child(alloc, "Symbol")?,
+    )?;
+    let _new = declare(alloc, &mut store, "c", "Cs", attribute(alloc, "id")?)?;
     Ok(store)
 }
 
@@ -73,8 +80,7 @@ fn deliver(alloc: Global, store: &mut Store, name: &str, text: &str) -> Result<S
     if store.changes() == u64::MAX {
         return Err(AllocError);
     }
-    let items = items_of(alloc, text)?;
-    match store.prepare(alloc, name.as_bytes(), &items) {
+    match store.prepare(alloc, name.as_bytes(), items_of(alloc, text)?) {
         Ok(change) => {
             store.reserve(&change)?;
             store.commit(change);
@@ -88,7 +94,7 @@ fn deliver(alloc: Global, store: &mut Store, name: &str, text: &str) -> Result<S
 }
 
 /// The string values of the elements that the source shows, rising, each ended by a bar.
-fn shown(alloc: Global, store: &Store, name: &str) -> Result<String, AllocError> {
+fn shown(alloc: Global, store: &Store, name: &str) -> Result<Vec<u8>, AllocError> {
     let mut values = Vec::new(alloc);
     if let Some(id) = store.find(name.as_bytes()) {
         for at in 0..store.size(id) {
@@ -96,46 +102,164 @@ fn shown(alloc: Global, store: &Store, name: &str) -> Result<String, AllocError>
         }
     }
     values.sort()?;
-    let mut text = String::new(alloc);
+    let mut text = Vec::new(alloc);
     for value in &values {
-        for byte in value.as_slice() {
-            text.push(char::from(*byte))?;
-        }
-        text.push('|')?;
+        text.extend_from_slice(value.as_slice())?;
+        text.push(b'|')?;
     }
     Ok(text)
 }
 
-/// Delivers each delta in turn, and compares the answer and what the source then shows.
+/// Deltas in turn: the source, the lines, the answer, and what the source then shows.
+const IN_TURN: &[&[(&str, &str, &str, &str)]] = &[
+    // an element stands under its attribute
+    &[
+        ("c", "(C/Aid 7/-a/- b/?x/-\\n/)C", "ok 1", "a b|"),
+        ("c", "!7.0", "no key 1", "a b|"),
+        ("c", "!7", "ok 2", ""),
+    ],
+    // deltas follow one another
+    &[
+        ("quotes", "", "ok 1", ""),
+        (
+            "quotes",
+            "(Quote/(Symbol/-INTC/)Symbol/(Price/-1/)Price/)Quote",
+            "ok 2",
+            "INTC 1|",
+        ),
+        (
+            "quotes",
+            "(Quote/(Symbol/-INTC/)Symbol/(Price/-1/)Price/)Quote",
+            "ok 3",
+            "INTC 1|",
+        ),
+        (
+            "quotes",
+            "(Quote/(Symbol/-INTC/)Symbol/(Price/-2/)Price/)Quote",
+            "ok 4",
+            "INTC 2|",
+        ),
+        (
+            "quotes",
+            "(Quote/(Symbol/-MSFT/)Symbol/(Price/-3/)Price/)Quote",
+            "ok 5",
+            "INTC 2|MSFT 3|",
+        ),
+        ("quotes", "!INTC", "ok 6", "MSFT 3|"),
+        ("quotes", "!INTC", "no key 1", "MSFT 3|"),
+        ("quotes", "!MSFT", "ok 7", ""),
+        ("quotes", "!", "no key 1", ""),
+    ],
+    // a delta is taken whole or not at all
+    &[
+        ("quotes", "(Q/(Symbol/-A/)Symbol/-1/)Q/(Q/)Q", "key 2", ""),
+        ("quotes", "!A", "no key 1", ""),
+        ("quotes", "!A/(Q/(Symbol/-A/)Symbol/-1/)Q", "no key 1", ""),
+        ("quotes", "(Q/(Symbol/-A/)Symbol/-1/)Q/!A", "ok 1", ""),
+        (
+            "quotes",
+            "(Q/(Symbol/-A/)Symbol/-1/)Q/!A/!A",
+            "no key 3",
+            "",
+        ),
+        (
+            "quotes",
+            "(Q/(Symbol/-A/)Symbol/-1/)Q/(Q/(Symbol/-A/)Symbol/-2/)Q",
+            "ok 2",
+            "A 2|",
+        ),
+        (
+            "quotes",
+            "(Q/(Symbol/-A/)Symbol/-1/)Q/(Q/)Q",
+            "key 2",
+            "A 2|",
+        ),
+        ("quotes", "!A/(Q/(Symbol/-A/)Symbol/-1/)Q", "ok 3", "A 1|"),
+        (
+            "quotes",
+            "(Q/(Symbol/-A/)Symbol/-1/)Q/!A/(Q/(Symbol/-A/)Symbol/-2/)Q",
+            "ok 4",
+            "A 2|",
+        ),
+    ],
+    // sources stand beside one another
+    &[
+        (
+            "quotes",
+            "(Quote/(Symbol/-INTC/)Symbol/)Quote",
+            "ok 1",
+            "INTC|",
+        ),
+        (
+            "companies",
+            "(C/(Symbol/-INTC/)Symbol/(Area/-Chips/)Area/)C",
+            "ok 2",
+            "INTC Chips|",
+        ),
+        ("quote", "(C/(Symbol/-INTC/)Symbol/)C", "no source", ""),
+        ("Quotes", "(C/(Symbol/-INTC/)Symbol/)C", "no source", ""),
+        ("", "", "no source", ""),
+        ("companies", "", "ok 3", "INTC Chips|"),
+        ("quotes", "!MSFT", "no key 1", "INTC|"),
+    ],
+];
+
+/// Delivers the deltas to a new store, and compares.
 fn expect_deltas(
     rt: &impl Abort,
     alloc: Global,
-    store: &mut Store,
-    cases: &[(&str, &str, &str)],
+    deltas: &[(&str, &str, &str, &str)],
 ) -> Result<(), AllocError> {
-    for (text, want, elements) in cases {
-        let got = deliver(alloc, store, "quotes", text)?;
-        assert_eq!(rt; got.as_str(), *want, "at {text}");
-        let shown = shown(alloc, store, "quotes")?;
-        assert_eq!(rt; shown.as_str(), *elements, "at {text}");
+    let mut store = sources(alloc)?;
+    for (name, text, answer, elements) in deltas {
+        let got = deliver(alloc, &mut store, name, text)?;
+        assert_eq!(rt; got.as_str(), *answer, "at {text}");
+        assert_eq!(rt;
+            shown(alloc, &store, name)?.as_slice(),
+            elements.as_bytes(),
+            "at {text}"
+        );
     }
     Ok(())
 }
 
-/// Compares the canonical lines of the element.
-fn expect_lines(
-    rt: &impl Abort,
-    alloc: Global,
-    element: &Element,
-    want: &str,
-) -> Result<(), AllocError> {
-    let mut forest = Forest::new(alloc);
-    forest.push(Node::Element(element.copy(alloc)?))?;
-    let mut out = Vec::new(alloc);
-    if is_normal(&forest) {
-        write_forest(&forest, &mut out)?;
+#[test]
+fn deltas_are_answered_in_turn(rt: HostRuntime) -> Result<(), Fail> {
+    for deltas in IN_TURN {
+        expect_deltas(&rt, rt.alloc(), deltas)?;
     }
-    assert_eq!(rt; out.as_slice(), want.as_bytes());
+    Ok(())
+}
+
+/// Sources by name: the root, and the last change.
+const TOLD: &[(&str, &str, u64)] = &[
+    ("quotes", "Quotes", 1),
+    ("companies", "Companies", 3),
+    ("c", "Cs", 0),
+];
+
+/// Compares what the store says of the source of this name.
+fn expect_source(rt: &impl Abort, store: &Store, name: &str, root: &str, last: u64) {
+    assert!(rt; store.find(name.as_bytes()).is_some());
+    if let Some(id) = store.find(name.as_bytes()) {
+        assert_eq!(rt; store.name_of(id).as_slice(), name.as_bytes());
+        assert_eq!(rt; store.root_of(id).as_slice(), root.as_bytes());
+        assert_eq!(rt; store.last_change(id), last, "at {name}");
+    }
+}
+
+#[test]
+fn sources_have_a_name_a_root_and_a_last_change(rt: HostRuntime) -> Result<(), Fail> {
+    let alloc = rt.alloc();
+    let mut store = sources(alloc)?;
+    assert!(rt; !declare(alloc, &mut store, "quotes", "Q", attribute(alloc, "id")?)?);
+    assert_eq!(rt; store.count(), 3);
+    for name in ["quotes", "companies", "companies"] {
+        let _answer = deliver(alloc, &mut store, name, "")?;
+    }
+    for (name, root, last) in TOLD {
+        expect_source(&rt, &store, name, root, *last);
+    }
     Ok(())
 }
 
@@ -147,86 +271,31 @@ fn expect_one(
     name: &str,
     want: &str,
 ) -> Result<(), AllocError> {
+    let mut out = Vec::new(alloc);
     if let Some(id) = store.find(name.as_bytes()) {
-        assert_eq!(rt; store.size(id), 1);
         for at in 0..store.size(id) {
-            expect_lines(rt, alloc, store.element(id, at), want)?;
+            write_element(store.element(id, at), &mut out)?;
         }
-    } else {
-        assert!(rt; false);
     }
+    assert_eq!(rt; out.as_slice(), want.as_bytes());
     Ok(())
 }
 
 #[test]
-fn an_element_stands_under_its_attribute(rt: HostRuntime) -> Result<(), Fail> {
+fn an_element_is_shown_as_it_was_put(rt: HostRuntime) -> Result<(), Fail> {
     let alloc = rt.alloc();
-    let mut store = Store::new(alloc);
-    declare(alloc, &mut store, "quotes", "Cs", attribute(alloc, "id")?)?;
-    let put = "(C/Aid 7/-a/- b/?x/-\\n/)C";
-    expect_deltas(
-        &rt,
-        alloc,
-        &mut store,
-        &[(put, "ok 1", "a b|"), ("!7.0", "no key 1", "a b|")],
-    )?;
-    expect_one(&rt, alloc, &store, "quotes", "(C\nAid 7\n-a b\n)C\n")?;
-    expect_deltas(&rt, alloc, &mut store, &[("!7", "ok 2", "")])?;
+    let mut store = sources(alloc)?;
+    let answer = deliver(alloc, &mut store, "c", "(C/Aid 7/-a/- b/?x/-\\n/)C")?;
+    assert_eq!(rt; answer.as_str(), "ok 1");
+    expect_one(&rt, alloc, &store, "c", "(C\nAid 7\n-a b\n)C\n")?;
     Ok(())
 }
 
-#[test]
-fn deltas_follow_one_another(rt: HostRuntime) -> Result<(), Fail> {
-    let alloc = rt.alloc();
-    let one = "(Quote/(Symbol/-INTC/)Symbol/(Price/-1/)Price/)Quote";
-    let two = "(Quote/(Symbol/-INTC/)Symbol/(Price/-2/)Price/)Quote";
-    let other = "(Quote/(Symbol/-MSFT/)Symbol/(Price/-3/)Price/)Quote";
-    expect_deltas(
-        &rt,
-        alloc,
-        &mut quotes(alloc)?,
-        &[
-            ("", "ok 1", ""),
-            (one, "ok 2", "INTC 1|"),
-            (one, "ok 3", "INTC 1|"),
-            (two, "ok 4", "INTC 2|"),
-            (other, "ok 5", "INTC 2|MSFT 3|"),
-            ("!INTC", "ok 6", "MSFT 3|"),
-            ("!INTC", "no key 1", "MSFT 3|"),
-            ("!MSFT", "ok 7", ""),
-            ("!", "no key 1", ""),
-        ],
-    )?;
-    Ok(())
-}
-
-#[test]
-fn a_delta_is_taken_whole_or_not_at_all(rt: HostRuntime) -> Result<(), Fail> {
-    let alloc = rt.alloc();
-    let put_keyless = "(Q/(Symbol/-A/)Symbol/-1/)Q/(Q/)Q";
-    let put_put = "(Q/(Symbol/-A/)Symbol/-1/)Q/(Q/(Symbol/-A/)Symbol/-2/)Q";
-    let put_gone = "(Q/(Symbol/-A/)Symbol/-1/)Q/!A";
-    let gone_put = "!A/(Q/(Symbol/-A/)Symbol/-1/)Q";
-    let put_gone_gone = "(Q/(Symbol/-A/)Symbol/-1/)Q/!A/!A";
-    let put_gone_put = "(Q/(Symbol/-A/)Symbol/-1/)Q/!A/(Q/(Symbol/-A/)Symbol/-2/)Q";
-    expect_deltas(
-        &rt,
-        alloc,
-        &mut quotes(alloc)?,
-        &[
-            (put_keyless, "key 2", ""),
-            ("!A", "no key 1", ""),
-            (gone_put, "no key 1", ""),
-            (put_gone, "ok 1", ""),
-            (put_gone_gone, "no key 3", ""),
-            (put_put, "ok 2", "A 2|"),
-            (put_keyless, "key 2", "A 2|"),
-            (gone_put, "ok 3", "A 1|"),
-            (put_gone_put, "ok 4", "A 2|"),
-        ],
-    )?;
-    Ok(())
-}
+/// Three items of one key, and the string values that it has before and after each; a bar where it holds nothing.
+const SEEN: (&str, &[(&str, &str)]) = (
+    "(Q/(Symbol/-A/)Symbol/)Q/(Q/(Symbol/-A/)Symbol/-2/)Q/!A",
+    &[("|", "A"), ("A", "A 2"), ("A 2", "|")],
+);
 
 /// Compares the string value of an element, or a bar where there is none.
 fn expect_value(
@@ -261,130 +330,67 @@ fn expect_entries(
 #[test]
 fn an_entry_sees_the_items_before_it(rt: HostRuntime) -> Result<(), Fail> {
     let alloc = rt.alloc();
-    let store = quotes(alloc)?;
-    let items = items_of(
-        alloc,
-        "(Q/(Symbol/-A/)Symbol/)Q/(Q/(Symbol/-A/)Symbol/-2/)Q/!A",
-    )?;
-    match store.prepare(alloc, b"quotes", &items) {
-        Ok(change) => {
-            assert_eq!(rt; change.source(), SourceId(0));
-            let wanted = [("|", "A"), ("A", "A 2"), ("A 2", "|")];
-            expect_entries(&rt, alloc, change.entries(), &wanted)?;
-        }
-        Err(_) => assert!(rt; false),
+    let (text, wanted) = SEEN;
+    let change = sources(alloc)?.prepare(alloc, b"quotes", items_of(alloc, text)?);
+    assert!(rt; change.is_ok());
+    if let Ok(change) = change {
+        assert_eq!(rt; change.source(), SourceId(0));
+        expect_entries(&rt, alloc, change.entries(), wanted)?;
     }
     Ok(())
 }
 
-/// Compares what the store says of the source of this name.
-fn expect_source(rt: &impl Abort, store: &Store, name: &str, root: &str, last: u64) {
-    if let Some(id) = store.find(name.as_bytes()) {
-        assert_eq!(rt; store.name_of(id).as_slice(), name.as_bytes());
-        assert_eq!(rt; store.root_of(id).as_slice(), root.as_bytes());
-        assert_eq!(rt; store.last_change(id), last, "at {name}");
-    } else {
-        assert!(rt; false);
-    }
-}
+/// Elements, and their keys by the child `Symbol`: empty where there is none.
+const BY_CHILD: &[(&str, &str)] = &[
+    ("(Q/(Symbol/-INTC/)Symbol/)Q", "INTC"),
+    ("(Q/-x/(Symbol/-INTC/)Symbol/-y/)Q", "INTC"),
+    ("(Q/(Symbol/-a/(b/-c/)b/-d/)Symbol/)Q", "a c d"),
+    ("(Q/(Symbol/(b/)b/-a/)Symbol/)Q", "a"),
+    ("(C/Aid 7/(Symbol/-INTC/)Symbol/)C", "INTC"),
+    ("(Q/)Q", ""),
+    ("(Q/(symbol/-INTC/)symbol/)Q", ""),
+    ("(Q/(Symbol/)Symbol/)Q", ""),
+    ("(Q/(Symbol/- /)Symbol/)Q", ""),
+    ("(Q/(Symbol/(b/)b/)Symbol/)Q", ""),
+    ("(Q/(Symbol/-A/)Symbol/(Symbol/-A/)Symbol/)Q", ""),
+    ("(Q/(Symbol/-A/)Symbol/(Symbol/)Symbol/)Q", ""),
+    ("(Q/(x/(Symbol/-A/)Symbol/)x/)Q", ""),
+    ("(Q/ASymbol A/)Q", ""),
+    ("(Symbol/-A/)Symbol", ""),
+];
 
-/// Delivers deltas to sources by name, and compares the answers.
-fn expect_answers(
-    rt: &impl Abort,
-    alloc: Global,
-    store: &mut Store,
-    cases: &[(&str, &str, &str)],
-) -> Result<(), AllocError> {
-    for (name, text, want) in cases {
-        let got = deliver(alloc, store, name, text)?;
-        assert_eq!(rt; got.as_str(), *want, "at {name}");
-    }
-    Ok(())
-}
+/// Elements, and their keys by the attribute `id`.
+const BY_ATTRIBUTE: &[(&str, &str)] = &[
+    ("(C/Aid 7/-a b/)C", "7"),
+    ("(C/Aid  7 /Aie 8/)C", " 7 "),
+    ("(C/Aid 7/(Symbol/-INTC/)Symbol/)C", "7"),
+    ("(C/)C", ""),
+    ("(C/Aid/)C", ""),
+    ("(C/AId 7/)C", ""),
+    ("(C/(id/-7/)id/)C", ""),
+];
 
-/// Compares what the source shows.
-fn expect_shown(
-    rt: &impl Abort,
-    alloc: Global,
-    store: &Store,
-    name: &str,
-    want: &str,
-) -> Result<(), AllocError> {
-    let got = shown(alloc, store, name)?;
-    assert_eq!(rt; got.as_str(), want, "at {name}");
-    Ok(())
-}
-
-#[test]
-fn sources_stand_beside_one_another(rt: HostRuntime) -> Result<(), Fail> {
-    let alloc = rt.alloc();
-    let mut store = quotes(alloc)?;
-    let symbol = child(alloc, "Symbol")?;
-    assert_eq!(rt;
-        declare(alloc, &mut store, "companies", "Companies", symbol)?,
-        "ok"
-    );
-    let other = attribute(alloc, "id")?;
-    assert_eq!(rt; declare(alloc, &mut store, "quotes", "Q", other)?, "exists");
-    assert_eq!(rt; store.count(), 2);
-    let quote = "(Quote/(Symbol/-INTC/)Symbol/)Quote";
-    let company = "(Company/(Symbol/-INTC/)Symbol/(Area/-Chips/)Area/)Company";
-    expect_answers(
-        &rt,
-        alloc,
-        &mut store,
-        &[
-            ("quotes", quote, "ok 1"),
-            ("companies", company, "ok 2"),
-            ("quote", company, "no source"),
-            ("Quotes", company, "no source"),
-            ("", "", "no source"),
-            ("companies", "", "ok 3"),
-        ],
-    )?;
-    expect_shown(&rt, alloc, &store, "quotes", "INTC|")?;
-    expect_shown(&rt, alloc, &store, "companies", "INTC Chips|")?;
-    expect_source(&rt, &store, "quotes", "Quotes", 1);
-    expect_source(&rt, &store, "companies", "Companies", 3);
-    Ok(())
-}
-
-/// Compares a key with the wanted one, which is empty where there is to be none.
-fn expect_key(rt: &impl Abort, key: Option<&Bytes>, want: &str) {
-    let got = match key {
+/// The bytes of a key, or none.
+fn bytes_in(key: Option<&Bytes>) -> &[u8] {
+    match key {
         Some(key) => key.as_slice(),
         None => b"".as_slice(),
-    };
-    assert_eq!(rt; got, want.as_bytes(), "where it is {want}");
+    }
 }
 
-/// Compares the key of each element by the rule.
+/// Compares the key of each element by the rule of the source.
 fn expect_keys(
     rt: &impl Abort,
     alloc: Global,
-    rule: &Key,
+    name: &str,
     cases: &[(&str, &str)],
 ) -> Result<(), AllocError> {
-    for (text, want) in cases {
-        let element = element_of(alloc, text)?;
-        let key = key_of(alloc, rule, &element)?;
-        expect_key(rt, key.as_ref(), want);
-    }
-    Ok(())
-}
-
-#[test]
-fn a_source_has_a_rule_of_its_own(rt: HostRuntime) -> Result<(), Fail> {
-    let alloc = rt.alloc();
-    let mut store = quotes(alloc)?;
-    declare(alloc, &mut store, "c", "Cs", attribute(alloc, "id")?)?;
-    let element = element_of(alloc, "(C/Aid 7/(Symbol/-INTC/)Symbol/)C")?;
-    for (name, want) in [(b"quotes".as_slice(), "INTC"), (b"c".as_slice(), "7")] {
-        if let Some(id) = store.find(name) {
-            let key = store.key_of(alloc, id, &element)?;
-            expect_key(&rt, key.as_ref(), want);
-        } else {
-            assert!(rt; false);
+    let store = sources(alloc)?;
+    assert!(rt; store.find(name.as_bytes()).is_some());
+    if let Some(id) = store.find(name.as_bytes()) {
+        for (text, want) in cases {
+            let key = store.key_of(alloc, id, &element_of(alloc, text)?)?;
+            assert_eq!(rt; bytes_in(key.as_ref()), want.as_bytes(), "at {text}");
         }
     }
     Ok(())
@@ -392,41 +398,8 @@ fn a_source_has_a_rule_of_its_own(rt: HostRuntime) -> Result<(), Fail> {
 
 #[test]
 fn a_key_is_one_value_that_is_not_empty(rt: HostRuntime) -> Result<(), Fail> {
-    let alloc = rt.alloc();
-    expect_keys(
-        &rt,
-        alloc,
-        &child(alloc, "Symbol")?,
-        &[
-            ("(Q/(Symbol/-INTC/)Symbol/)Q", "INTC"),
-            ("(Q/-x/(Symbol/-INTC/)Symbol/-y/)Q", "INTC"),
-            ("(Q/(Symbol/-a/(b/-c/)b/-d/)Symbol/)Q", "a c d"),
-            ("(Q/(Symbol/(b/)b/-a/)Symbol/)Q", "a"),
-            ("(Q/)Q", ""),
-            ("(Q/(symbol/-INTC/)symbol/)Q", ""),
-            ("(Q/(Symbol/)Symbol/)Q", ""),
-            ("(Q/(Symbol/- /)Symbol/)Q", ""),
-            ("(Q/(Symbol/(b/)b/)Symbol/)Q", ""),
-            ("(Q/(Symbol/-A/)Symbol/(Symbol/-A/)Symbol/)Q", ""),
-            ("(Q/(Symbol/-A/)Symbol/(Symbol/)Symbol/)Q", ""),
-            ("(Q/(x/(Symbol/-A/)Symbol/)x/)Q", ""),
-            ("(Q/ASymbol A/)Q", ""),
-            ("(Symbol/-A/)Symbol", ""),
-        ],
-    )?;
-    expect_keys(
-        &rt,
-        alloc,
-        &attribute(alloc, "id")?,
-        &[
-            ("(C/Aid 7/-a b/)C", "7"),
-            ("(C/Aid  7 /Aie 8/)C", " 7 "),
-            ("(C/)C", ""),
-            ("(C/Aid/)C", ""),
-            ("(C/AId 7/)C", ""),
-            ("(C/(id/-7/)id/)C", ""),
-        ],
-    )?;
+    expect_keys(&rt, rt.alloc(), "quotes", BY_CHILD)?;
+    expect_keys(&rt, rt.alloc(), "c", BY_ATTRIBUTE)?;
     Ok(())
 }
 
