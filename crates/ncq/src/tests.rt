@@ -12,7 +12,6 @@ use std::sync::ledger::{Blank, Ledger};
 use std::test::Fail;
 
 mod blocks;
-mod calls;
 mod cuts;
 mod declarations;
 mod faults;

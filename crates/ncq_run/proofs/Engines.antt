@@ -1,5 +1,5 @@
 -- What the engine stands for behind each kind of command.
-use Rattle.std.proofs.Common.{◌≡◌, ℕ, ◌+◌, Bool, true, false, List, [], ◌∷◌, ◌++◌, map, length, slice_get, set, refl, sym, ◌∙◌, ap, subst, arith, append_assoc}
+use Rattle.std.proofs.Common.{◌≡◌, ℕ, ◌+◌, Bool, true, false, List, [], ◌∷◌, ◌++◌, map, length, slice_get, slice_set, refl, sym, ◌∙◌, ap, subst, arith, append_assoc}
 use Rattle.std.specs.Prelude.{Option, Some, None, Result, Ok, Err, codes, decimal, if◌then◌else◌}
 use Rattle.std.specs.List.{position, flat_map}
 use Rattle.std.proofs.lemmas.List.{append-nil, nil_from_length}
@@ -11,7 +11,6 @@ use Rattle.ncq_pyx.specs.declared.item.Item.{Item}
 use Rattle.ncq_source.specs.Changes.{prepared, after, Chains}
 use Rattle.ncq_source.specs.Changes.Trial.{Good}
 use Rattle.ncq_source.specs.Held.{Kept}
-use Rattle.ncq_source.specs.Stores.{kept, without_room, Follows}
 use Rattle.std.proofs.Common.{inl, inr}
 use Rattle.std.specs.Prelude.{◌⊎◌, IsSome}
 use Rattle.std.specs.Option.{option_map}
@@ -22,7 +21,7 @@ use Rattle.ncq_source.specs.declared.change.ChangeError.{ChangeError}
 use Rattle.ncq_source.specs.declared.change.ChangeError.TheVariants.{NoSource, BadKey, NoSuchKey}
 use Rattle.ncq_source.specs.StoreStates.{StoreState, found, IsCommitted, TellsChange}
 use Rattle.ncq_source.specs.declared.change.Entry.{Entry}
-use Rattle.ncq_source.specs.declared.declared.Declared.{Declared}
+use Rattle.ncq_source.specs.Stores.{Source as Declared, declared, without_room, Follows}
 use Rattle.ncq_source.specs.declared.key.Key.{Key}
 use Rattle.ncq_source.specs.declared.store.DeclareError.{DeclareError}
 use Rattle.ncq_source.specs.declared.store.DeclareError.TheVariants.{Exists}
@@ -94,7 +93,7 @@ module _ (store : StoreState) (live : List Subscription) (number : ℕ) (out : L
   ]
 
   pub declare_accepted : (name root : List ℕ) (key : Key) (store' : StoreState) (out' : List ℕ) → (IsSome (found store name) → ⊥)
-      → map without_room store'.sources ≡ map without_room store.sources ++ (name, root, key, [], 0) ∷ [] → out' ≡ out ++ ok_text number
+      → map without_room store'.sources ≡ map without_room store.sources ++ declared name root key ∷ [] → out' ≡ out ++ ok_text number
       → Applies store live number (Declare name root key) out store' live out'
   declare_accepted name root key store' out' new more e = elim (place store name) [
     | inr p ↦ absurd (new (subst IsSome (sym p.2) refl))
@@ -120,23 +119,23 @@ module _ (store : StoreState) (live : List Subscription) (number : ℕ) (out : L
     source_is history s = ap (source_in name) (sym s.sources_are) ∙ is_found name store.sources at d is here
 
     -- a delta one of whose items cannot be applied
-    pub delta_refused : (why : Refusal) (out' : List ℕ) → trial_refusal (prepared d.key 1 (kept d) items) ≡ Some why → out' ≡ out ++ refused_text number why
+    pub delta_refused : (why : Refusal) (out' : List ℕ) → trial_refusal (prepared d.key 1 d.elements items) ≡ Some why → out' ≡ out ++ refused_text number why
         → Applies store live number (Delta name items) out store live out'
     delta_refused why out' fails e = refuse (Delta name items) why out' e
         (λ history s. ap (delta_refusal (Delta name items)) (source_is history s) ∙ fails)
 
     -- a delta that is applied
-    pub delta_accepted : (entries : List Entry) (ready store' : StoreState) (out' : List ℕ) → prepared d.key 1 (kept d) items ≡ Good entries
+    pub delta_accepted : (entries : List Entry) (ready store' : StoreState) (out' : List ℕ) → prepared d.key 1 d.elements items ≡ Good entries
         → map without_room ready.sources ≡ map without_room store.sources
-        → ((r : Declared) → slice_get ready.sources at ≡ Some r → (t : Declared) × (store'.sources ≡ set ready.sources at t) × Follows r t entries store'.changes)
+        → ((r : Declared) → slice_get ready.sources at ≡ Some r → (t : Declared) × (store'.sources ≡ slice_set ready.sources at t) × Follows r t entries store'.changes)
         → ((before : Kept) → Chains before entries → out' ≡ (out ++ ok_text number) ++ flat_map (told_change name before (after before entries)) live)
         → Applies store live number (Delta name items) out store' live out'
     delta_accepted entries ready store' out' good same changed told = accept (Delta name items) store' live out' (λ history s.
-        let fold = fold_of_entries d.key 1 (kept d) items entries good in
-        let tells : flat_map (told_change name (kept d) (after (kept d) entries)) live ≡ notices history (Delta name items) =
-        (λ i. flat_map (told_change name (kept d) (fold.0 i)) (s.live_are i)) ∙ sym (delta_tells history name items (content_of d) (source_is history s)) in (
+        let fold = fold_of_entries d.key 1 d.elements items entries good in
+        let tells : flat_map (told_change name d.elements (after d.elements entries)) live ≡ notices history (Delta name items) =
+        (λ i. flat_map (told_change name d.elements (fold.0 i)) (s.live_are i)) ∙ sym (delta_tells history name items (content_of d) (source_is history s)) in (
           ap (delta_refusal (Delta name items)) (source_is history s) ∙ ap trial_refusal good,
-          told (kept d) fold.1 ∙ append_assoc out (ok_text number) _ ∙ ap (λ (xs : List ℕ). out ++ (ok_text number ++ xs)) tells,
+          told d.elements fold.1 ∙ append_assoc out (ok_text number) _ ∙ ap (λ (xs : List ℕ). out ++ (ok_text number ++ xs)) tells,
           record {
             sources_are = moved_by name items store.sources ready.sources store'.sources at d entries store'.changes is here same changed fold.0 ∙ ap (with_items name items) s.sources_are;
             live_are = s.live_are;
@@ -167,7 +166,7 @@ module _ (store : StoreState) (live : List Subscription) (number : ℕ) (out : L
 
       -- the query is installed, and told its whole answer
       pub create_accepted : (live' : List Subscription) (out' : List ℕ) → is_key d.root query.root ≡ true → live' ≡ live ++ record { query = query; install = 1 } ∷ []
-          → out' ≡ (out ++ ok_text number) ++ print_text query.name 0 (difference (answer_in query (kept d)) []) → Applies store live number (Create query) out store live' out'
+          → out' ≡ (out ++ ok_text number) ++ print_text query.name 0 (difference (answer_in query d.elements) []) → Applies store live number (Create query) out store live' out'
       create_accepted live' out' root more told = accept (Create query) store live' out' (λ history s.
           let there = ap (source_in query.source) (sym s.sources_are) ∙ is_found query.source store.sources at d is here in
           let first : creates history + 1 ≡ 1 = omega (arith, no_creates history (no_live history s none)) in (
@@ -230,8 +229,8 @@ not_missing why e apart = apart (cc)
 
 module _ (store : StoreState) (live : List Subscription) (number : ℕ) (out : List ℕ) (name name' : List ℕ) (items : List Item) (result : Result ChangeState ChangeError) (same : name' ≡ name)
     (none : found store name' ≡ None → result ≡ Err NoSource)
-    (some : (at : ℕ) (d : Declared) → found store name' ≡ Some at → slice_get store.sources at ≡ Some d → TellsChange result at (prepared d.key 1 (kept d) items)) where
-  tells : (at : ℕ) (d : Declared) → found store name ≡ Some at → slice_get store.sources at ≡ Some d → TellsChange result at (prepared d.key 1 (kept d) items)
+    (some : (at : ℕ) (d : Declared) → found store name' ≡ Some at → slice_get store.sources at ≡ Some d → TellsChange result at (prepared d.key 1 d.elements items)) where
+  tells : (at : ℕ) (d : Declared) → found store name ≡ Some at → slice_get store.sources at ≡ Some d → TellsChange result at (prepared d.key 1 d.elements items)
   tells at d is here = some at d (ap (found store) same ∙ is) here
 
   missing : found store name ≡ None → result ≡ Err NoSource
@@ -240,21 +239,21 @@ module _ (store : StoreState) (live : List Subscription) (number : ℕ) (out : L
   pub prepared_none : (out' : List ℕ) → result ≡ Err NoSource → out' ≡ out ++ refused_text number refusal.NoSource → Applies store live number (Delta name items) out store live out'
   prepared_none out' e text = elim (place store name) [
     | inl is ↦ delta_of_none store live number out name items out' is text
-    | inr p ↦ absurd (subst (λ (r : Result ChangeState ChangeError). TellsChange r p.0 (prepared p.1.key 1 (kept p.1) items)) e (tells p.0 p.1 p.2 p.3))
+    | inr p ↦ absurd (subst (λ (r : Result ChangeState ChangeError). TellsChange r p.0 (prepared p.1.key 1 p.1.elements items)) e (tells p.0 p.1 p.2 p.3))
   ]
 
   pub prepared_bad : (position : ℕ) (out' : List ℕ) → result ≡ Err (BadKey position) → out' ≡ out ++ refused_text number (refusal.Key position) → Applies store live number (Delta name items) out store live out'
   prepared_bad position out' e text = elim (place store name) [
     | inl is ↦ absurd (not_missing (BadKey position) (sym e ∙ missing is) (λ bad. let wrong : BadKey position ≡ NoSource = bad in cc))
     | inr p ↦ delta_refused store live number out name items p.0 p.1 p.2 p.3 (refusal.Key position) out'
-        (ap trial_refusal (subst (λ (r : Result ChangeState ChangeError). TellsChange r p.0 (prepared p.1.key 1 (kept p.1) items)) e (tells p.0 p.1 p.2 p.3))) text
+        (ap trial_refusal (subst (λ (r : Result ChangeState ChangeError). TellsChange r p.0 (prepared p.1.key 1 p.1.elements items)) e (tells p.0 p.1 p.2 p.3))) text
   ]
 
   pub prepared_gone : (position : ℕ) (out' : List ℕ) → result ≡ Err (NoSuchKey position) → out' ≡ out ++ refused_text number (refusal.NoKey position) → Applies store live number (Delta name items) out store live out'
   prepared_gone position out' e text = elim (place store name) [
     | inl is ↦ absurd (not_missing (NoSuchKey position) (sym e ∙ missing is) (λ bad. let wrong : NoSuchKey position ≡ NoSource = bad in cc))
     | inr p ↦ delta_refused store live number out name items p.0 p.1 p.2 p.3 (refusal.NoKey position) out'
-        (ap trial_refusal (subst (λ (r : Result ChangeState ChangeError). TellsChange r p.0 (prepared p.1.key 1 (kept p.1) items)) e (tells p.0 p.1 p.2 p.3))) text
+        (ap trial_refusal (subst (λ (r : Result ChangeState ChangeError). TellsChange r p.0 (prepared p.1.key 1 p.1.elements items)) e (tells p.0 p.1 p.2 p.3))) text
   ]
 
   pub prepared_good : (change : ChangeState) (ready store' : StoreState) (out' : List ℕ) → result ≡ Ok change → map without_room ready.sources ≡ map without_room store.sources → IsCommitted ready change store'
@@ -263,9 +262,9 @@ module _ (store : StoreState) (live : List Subscription) (number : ℕ) (out : L
   prepared_good change ready store' out' e kept_same done told = elim (place store name) [
     | inl is ↦ absurd (let bad : Ok change ≡ Err NoSource = sym e ∙ missing is in cc)
     | inr p ↦
-        let t = subst (λ (r : Result ChangeState ChangeError). TellsChange r p.0 (prepared p.1.key 1 (kept p.1) items)) e (tells p.0 p.1 p.2 p.3) in
+        let t = subst (λ (r : Result ChangeState ChangeError). TellsChange r p.0 (prepared p.1.key 1 p.1.elements items)) e (tells p.0 p.1 p.2 p.3) in
         delta_accepted store live number out name items p.0 p.1 p.2 p.3 change.entries ready store' out' t.1 kept_same
-        (subst (λ (at : ℕ). (r : Declared) → slice_get ready.sources at ≡ Some r → (t : Declared) × (store'.sources ≡ set ready.sources at t) × Follows r t change.entries store'.changes) t.0 done.sources) told
+        (subst (λ (at : ℕ). (r : Declared) → slice_get ready.sources at ≡ Some r → (t : Declared) × (store'.sources ≡ slice_set ready.sources at t) × Follows r t change.entries store'.changes) t.0 done.sources) told
   ]
 
 pub not_exists : (result : Result SourceId DeclareError) (id : SourceId) → result ≡ Ok id → result ≡ Err Exists → ⊥

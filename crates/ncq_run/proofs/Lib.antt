@@ -1,3 +1,4 @@
+mod EndLaws
 pub mod Engines
 pub mod HistoryLaws
 pub mod Locating

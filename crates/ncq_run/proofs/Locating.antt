@@ -1,19 +1,17 @@
 -- A source of the store, found by its name, and what changing it changes.
-use Rattle.std.proofs.Common.{◌≡◌, ℕ, zero, suc, ◌+◌, ◌<◌, Bool, true, false, cond, not, nat_lt, List, [], ◌∷◌, ◌++◌, map, length, get_or, slice_get, set, refl, sym, ◌∙◌, ap, subst, arith, true≢false}
+use Rattle.std.proofs.Common.{◌≡◌, ℕ, zero, suc, ◌+◌, ◌<◌, Bool, true, false, cond, not, nat_lt, List, [], ◌∷◌, ◌++◌, map, length, get_or, slice_get, slice_set, refl, sym, ◌∙◌, ap, subst, arith, true≢false}
 use Rattle.std.specs.Prelude.{Some, None, if◌then◌else◌}
 use Rattle.std.specs.List.{position, position_or_len}
 use Rattle.std.proofs.lemmas.Bool.Decides.{nat_tests}
 use Rattle.std.proofs.lemmas.List.Quantifiers.{position-Some}
 use Rattle.std.specs.FinMap.{empty}
-use Rattle.ncq_base.specs.Keys.{is_key, map_of}
+use Rattle.ncq_base.specs.Keys.{is_key}
 use Rattle.ncq_pyx.specs.declared.item.Item.{Item}
 use Rattle.std.proofs.lemmas.Option.{slice_get-get_or}
 use Rattle.ncq_source.specs.Changes.{store_after, after}
-use Rattle.ncq_source.specs.Stores.{kept, without_room, Follows}
 use Rattle.ncq_source.specs.declared.change.Entry.{Entry}
-use Rattle.ncq_source.specs.declared.declared.Declared.{Declared}
+use Rattle.ncq_source.specs.Stores.{Source as Declared, declared, without_room, Follows}
 use Rattle.ncq_source.specs.declared.key.Key.{Key}
-use Rattle.ncq_tree.specs.declared.model.Element.{Element}
 use Rattle.ncq_run.specs.History.{Source, with_items, source_in}
 use Rattle.ncq_run.specs.Stands.{content_of}
 
@@ -58,28 +56,24 @@ module _ (name : List ℕ) where
 
   set_place : (items : List Item) (all : List Declared) (at : ℕ) (d new : Declared) → slice_get all at ≡ Some d → is_key name (get_or (names_of all) at []) ≡ true
       → ((k : ℕ) → k < at → is_key name (get_or (names_of all) k []) ≡ false)
-      → content_of new ≡ record (content_of d) { elements = store_after d.key (kept d) items } → map content_of (set all at new) ≡ with_items name items (map content_of all)
+      → content_of new ≡ record (content_of d) { elements = store_after d.key d.elements items } → map content_of (slice_set all at new) ≡ with_items name items (map content_of all)
   set_place items [] at d new here is before e = cc
   set_place items (x ∷ all) zero d new here is before e =
-      ap (λ (s : Source). s ∷ map content_of all) (e ∙ ap (λ (y : Declared). record (content_of y) { elements = store_after y.key (kept y) items }) (sym (same_Some x d here)))
-      ∙ sym (λ i. if is i then record (content_of x) { elements = store_after x.key (kept x) items } ∷ map content_of all else content_of x ∷ with_items name items (map content_of all))
+      ap (λ (s : Source). s ∷ map content_of all) (e ∙ ap (λ (y : Declared). record (content_of y) { elements = store_after y.key y.elements items }) (sym (same_Some x d here)))
+      ∙ sym (λ i. if is i then record (content_of x) { elements = store_after x.key x.elements items } ∷ map content_of all else content_of x ∷ with_items name items (map content_of all))
   set_place items (x ∷ all) (suc at) d new here is before e =
       ap (λ (ss : List Source). content_of x ∷ ss) (set_place items all at d new here is (λ k less. before (suc k) (let more : suc k < suc at = omega (arith, less) in more)) e)
-      ∙ sym (λ i. if before 0 (let some : 0 < suc at = omega arith in some) i then record (content_of x) { elements = store_after x.key (kept x) items } ∷ map content_of all else content_of x ∷ with_items name items (map content_of all))
+      ∙ sym (λ i. if before 0 (let some : 0 < suc at = omega arith in some) i then record (content_of x) { elements = store_after x.key x.elements items } ∷ map content_of all else content_of x ∷ with_items name items (map content_of all))
 
   pub is_found : (all : List Declared) (at : ℕ) (d : Declared) → position (is_key name) (map (λ d. d.name) all) ≡ Some at → slice_get all at ≡ Some d → source_in name (map content_of all) ≡ Some (content_of d)
   is_found all at d found here = let p = position-Some (is_key name) (names_of all) at [] found in at_place all at d here p.1 p.2
 
   pub is_changed : (items : List Item) (all : List Declared) (at : ℕ) (d new : Declared) → position (is_key name) (map (λ d. d.name) all) ≡ Some at → slice_get all at ≡ Some d
-      → content_of new ≡ record (content_of d) { elements = store_after d.key (kept d) items } → map content_of (set all at new) ≡ with_items name items (map content_of all)
+      → content_of new ≡ record (content_of d) { elements = store_after d.key d.elements items } → map content_of (slice_set all at new) ≡ with_items name items (map content_of all)
   is_changed items all at d new found here e = let p = position-Some (is_key name) (names_of all) at [] found in set_place items all at d new here p.1 p.2 e
 
   pub found_within : (all : List Declared) (at : ℕ) → position (is_key name) (map (λ d. d.name) all) ≡ Some at → at < length all
   found_within all at found = let p = position-Some (is_key name) (names_of all) at [] found in within_names all at p.0
-
--- a source as its description without room says it
-abbrev pub content : List ℕ × List ℕ × Key × List (List ℕ × Element) × ℕ → Source
-content parts = record { name = parts.0; root = parts.1; key = parts.2; elements = map_of parts.3 }
 
 map_map : {A B C : Type 0} (f : A → B) (g : B → C) (xs : List A) → map (λ x. g (f x)) xs ≡ map g (map f xs)
 map_map f g [] = refl
@@ -89,21 +83,21 @@ map_push : {A B : Type 0} (f : A → B) (xs : List A) (x : A) → map f (xs ++ x
 map_push f [] x = refl
 map_push f (y ∷ xs) x = ap (λ ys. f y ∷ ys) (map_push f xs x)
 
-pub contents : (all : List Declared) → map content_of all ≡ map content (map without_room all)
-contents all = map_map without_room content all
+pub contents : (all : List Declared) → map content_of all ≡ map content_of (map without_room all)
+contents all = map_map without_room content_of all
 
 -- room is no content
 pub room_is_no_content : (old new : List Declared) → map without_room new ≡ map without_room old → map content_of new ≡ map content_of old
-room_is_no_content old new e = contents new ∙ ap (map content) e ∙ sym (contents old)
+room_is_no_content old new e = contents new ∙ ap (map content_of) e ∙ sym (contents old)
 
-pub one_declared : (old new : List Declared) (name root : List ℕ) (key : Key) → map without_room new ≡ map without_room old ++ (name, root, key, [], 0) ∷ []
+pub one_declared : (old new : List Declared) (name root : List ℕ) (key : Key) → map without_room new ≡ map without_room old ++ declared name root key ∷ []
     → map content_of new ≡ map content_of old ++ record { name = name; root = root; key = key; elements = empty } ∷ []
 one_declared old new name root key e =
-    contents new ∙ ap (map content) e ∙ map_push content (map without_room old) (name, root, key, [], 0)
+    contents new ∙ ap (map content_of) e ∙ map_push content_of (map without_room old) (declared name root key)
     ∙ ap (λ (ss : List Source). ss ++ record { name = name; root = root; key = key; elements = empty } ∷ []) (sym (contents old))
 
 same_names : (old new : List Declared) → map without_room new ≡ map without_room old → map (λ d. d.name) new ≡ map (λ d. d.name) old
-same_names old new e = map_map without_room (λ w. w.0) new ∙ ap (map (λ w. w.0)) e ∙ sym (map_map without_room (λ w. w.0) old)
+same_names old new e = map_map without_room (λ w. w.name) new ∙ ap (map (λ w. w.name)) e ∙ sym (map_map without_room (λ w. w.name) old)
 
 module _ {A B : Type 0} (f : A → B) where
   same_at : (xs ys : List A) (i : ℕ) (x y : A) → map f xs ≡ map f ys → slice_get xs i ≡ Some x → slice_get ys i ≡ Some y → f x ≡ f y
@@ -121,18 +115,18 @@ module _ {A B : Type 0} (f : A → B) where
 -- a change that was prepared before the room was taken
 pub moved_by : (name : List ℕ) (items : List Item) (old ready new : List Declared) (at : ℕ) (d : Declared) (entries : List Entry) (number : ℕ)
     → position (is_key name) (map (λ d. d.name) old) ≡ Some at → slice_get old at ≡ Some d → map without_room ready ≡ map without_room old
-    → ((r : Declared) → slice_get ready at ≡ Some r → (t : Declared) × (new ≡ set ready at t) × Follows r t entries number)
-    → after (kept d) entries ≡ store_after d.key (kept d) items → map content_of new ≡ with_items name items (map content_of old)
+    → ((r : Declared) → slice_get ready at ≡ Some r → (t : Declared) × (new ≡ slice_set ready at t) × Follows r t entries number)
+    → after d.elements entries ≡ store_after d.key d.elements items → map content_of new ≡ with_items name items (map content_of old)
 moved_by name items old ready new at d entries number found here same changed fold =
     let within : at < length ready = omega (arith, found_within name old at found, same_length without_room ready old same) in
     let r = get_or ready at d in
     let there : slice_get ready at ≡ Some r = slice_get-get_or ready at d within in
     let parts : without_room r ≡ without_room d = same_at without_room ready old at r d same there here in
-    let fold_r : after (kept r) entries ≡ store_after r.key (kept r) items =
-    subst (λ (w : List ℕ × List ℕ × Key × List (List ℕ × Element) × ℕ). after (map_of w.3) entries ≡ store_after w.2 (map_of w.3) items) (sym parts) fold in
+    let fold_r : after r.elements entries ≡ store_after r.key r.elements items =
+    subst (λ (w : Declared). after w.elements entries ≡ store_after w.key w.elements items) (sym parts) fold in
     let c = changed r there in
     let f = c.2 in
-    let e : content_of c.0 ≡ record (content_of r) { elements = store_after r.key (kept r) items } =
+    let e : content_of c.0 ≡ record (content_of r) { elements = store_after r.key r.elements items } =
     (λ i. record { name = f.name i; root = f.root i; key = f.key i; elements = (f.elements ∙ fold_r) i }) in
     ap (map content_of) c.1
     ∙ is_changed name items ready at r c.0 (ap (position (is_key name)) (same_names old ready same) ∙ found) there e

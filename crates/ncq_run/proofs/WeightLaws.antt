@@ -8,7 +8,7 @@ use Rattle.std.specs.Ordering.{nat_cmp}
 use Rattle.std.specs.Cmp.Lexicographic.{slice_cmp}
 use Rattle.std.proofs.lemmas.List.{drop_more, drop_all}
 use Rattle.ncq_base.specs.Keys.{ByBytes, is_key, times, total, total_of, weight}
-use Rattle.ncq_bag.specs.Bags.{count_of, count_in, added, step, no_counts, difference, differences}
+use Rattle.ncq_bag.specs.Bags.{count_of, count_in, added, signed, no_counts, difference, differences}
 use Rattle.ncq_bag.specs.Counted.{Counted}
 use Rattle.ncq_bag.proofs.Tallies.{times_append, tally_decides}
 use Rattle.ncq_bag.proofs.CallerLemmas.{count_of-added}
@@ -25,7 +25,7 @@ use Rattle.ncq_run.specs.Answer.{choices, bindings, answer, answer_bytes}
 use Rattle.ncq_bag.specs.declared.bag.Difference.{Difference}
 use Rattle.ncq_callback.specs.Texts.{print_text}
 use Rattle.ncq_run.specs.declared.command.Subscription.{Subscription}
-use Rattle.ncq_run.specs.Weights.{weight_in, signed, answer_in, told_change}
+use Rattle.ncq_run.specs.Weights.{weight_in, answer_in, told_change}
 
 no_times : (t : Bool) → (let none : ℕ = 0 in none ≡ (if t then none else 0))
 no_times true = refl
@@ -142,22 +142,16 @@ all_counted f pairs at count end e =
     plain : (count whole : ℤ) (n : ℕ) → n ≡ 0 → count +ℤ pos n ≡ whole → count ≡ whole
     plain count whole n none e = omega (arith, ints)
 
-signed_step : (gain : Bool) (n : ℕ) (was now new : ℤ) → now ≡ was +ℤ signed gain n → new ≡ now +ℤ step gain → new ≡ was +ℤ signed gain (n + 1)
-signed_step true n was now new e f = omega (arith, ints)
-signed_step false n was now new e f = omega (arith, ints)
-
--- one more add
-pub added_more : (counts new : ByBytes ℤ) (bytes key : List ℕ) (gain : Bool) (was : ℤ) (n : ℕ) → new ≡ added counts bytes gain
-    → count_of counts key ≡ was +ℤ signed gain (if is_key key bytes then n else 0) → count_of new key ≡ was +ℤ signed gain (if is_key key bytes then n + 1 else 0)
-added_more counts new bytes key gain was n e h =
-    ap (λ (m : ByBytes ℤ). count_of m key) e ∙ count_of-added counts bytes key gain
-    ∙ elim (is_key key bytes) as (λ t. count_of counts key ≡ was +ℤ signed gain (if t then n else 0) → (if t then count_of counts key +ℤ step gain else count_of counts key) ≡ was +ℤ signed gain (if t then n + 1 else 0)) [
-      | true ↦ λ h. signed_step gain n was (count_of counts key) (count_of counts key +ℤ step gain) h refl
-      | false ↦ λ h. h
-    ] h
-
-pub added_none : (gain : Bool) (was : ℤ) (t : Bool) → was ≡ was +ℤ signed gain (if t then 0 else 0)
-added_none true was true = omega (arith, ints)
-added_none true was false = omega (arith, ints)
-added_none false was true = omega (arith, ints)
-added_none false was false = omega (arith, ints)
+-- one add of so many
+pub added_times : (counts new : ByBytes ℤ) (bytes key : List ℕ) (gain : Bool) (times : ℕ) → new ≡ added counts bytes times gain
+    → count_of new key ≡ count_of counts key +ℤ signed gain (if is_key key bytes then times else 0)
+added_times counts new bytes key gain times e =
+    ap (λ (m : ByBytes ℤ). count_of m key) e ∙ count_of-added counts bytes key times gain
+    ∙ elim (is_key key bytes) as (λ t. (if t then count_of counts key +ℤ signed gain times else count_of counts key) ≡ count_of counts key +ℤ signed gain (if t then times else 0)) [
+      | true ↦ refl
+      | false ↦ unchanged gain (count_of counts key)
+    ]
+  where
+    unchanged : (gain : Bool) (was : ℤ) → was ≡ was +ℤ signed gain 0
+    unchanged true was = omega (arith, ints)
+    unchanged false was = omega (arith, ints)

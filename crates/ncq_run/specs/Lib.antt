@@ -1,5 +1,6 @@
 pub mod Built
 pub mod History
+pub mod Limits
 pub mod Answer
 pub mod Firing
 pub mod Output

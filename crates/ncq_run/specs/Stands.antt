@@ -1,8 +1,7 @@
 -- The engine stands for a history. Only the crate's private clauses cite it.
 use Rattle.std.specs.Prelude.{◌≡◌, ℕ, List, ◌++◌, map}
-use Rattle.ncq_source.specs.Stores.{kept}
 use Rattle.ncq_source.specs.StoreStates.{StoreState}
-use Rattle.ncq_source.specs.declared.declared.Declared.{Declared}
+use Rattle.ncq_source.specs.Stores.{Source as Declared}
 use Rattle.ncq_run.specs.declared.command.BuiltCommand.{BuiltCommand}
 use Rattle.ncq_run.specs.declared.command.Subscription.{Subscription}
 use Rattle.ncq_run.specs.History.{History, Source, sources, subscriptions}
@@ -10,7 +9,7 @@ use Rattle.ncq_run.specs.Output.{answered, refusal_in, with_accepted}
 
 -- what a declared source of the store is in a history
 abbrev pub content_of : Declared → Source
-content_of declared = record { name = declared.name; root = declared.root; key = declared.key; elements = kept declared }
+content_of declared = record { name = declared.name; root = declared.root; key = declared.key; elements = declared.elements }
 
 -- the store and the subscriptions are those after the history
 pub record Stands (store : StoreState) (live : List Subscription) (history : History) : Type 0 where

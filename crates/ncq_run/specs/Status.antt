@@ -1,5 +1,5 @@
 -- What each status says of the source and the sink, before and after.
-use Rattle.std.specs.Prelude.{◌≡◌, ◌+◌, ◌<◌, ◌≤◌, ◌-◌, ◌^◌, min, ℕ, List, [], ◌∷◌, ◌++◌, length, take, map, codes, Option, IfSome}
+use Rattle.std.specs.Prelude.{◌≡◌, ◌+◌, ◌<◌, ◌≤◌, ◌-◌, ◌^◌, min, ℕ, List, [], ◌∷◌, ◌++◌, length, take, map, codes, Option, Some, IfSome, ◌⊎◌}
 use Rattle.std.specs.Borrow.{Bor}
 use Rattle.std.specs.Io.KnownBytes.{Appends, Consumes, IsAtEnd}
 use Rattle.ncq_outside.specs.Causes.{Rose}
@@ -66,6 +66,15 @@ Ended limit most old new ReadFault = IsReadFault limit old new
 Ended limit most old new WriteFault = IsWriteFault limit old new
 Ended limit most old new NoMemory = IsOutOfMemory limit old new
 Ended limit most old new ScriptTooLong = IsTooLong limit most old new
+
+-- the script is within the limit: its bytes are told and are no more, or the count of the bytes given says so
+abbrev pub IsShort : ℕ → Told → Told → Type 0
+IsShort most old new = ((script : List ℕ) × (old.left ≡ Some script) × (length script ≤ most)) ⊎ ¬ GaveMore old.given most new.given
+
+-- the sink is sure to hold what it holds already and the whole output
+abbrev pub HoldsAll : ℕ → ℕ → Told → Type 0
+HoldsAll limit sure old = (script : List ℕ) × (held : List ℕ) × (old.left ≡ Some script) × (old.held ≡ Some held)
+    × (length held + length (output_of limit script) ≤ sure)
 
 -- the words are the one word `run`
 abbrev pub IsRun : List (Bor (List ℕ)) → Type 0

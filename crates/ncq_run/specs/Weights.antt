@@ -1,5 +1,5 @@
 -- How often a forest stands in an answer, counted element by element. Only the crate's private clauses cite it.
-use Rattle.std.specs.Prelude.{ℕ, ℤ, pos, neg_ℤ, if◌then◌else◌, Bool, List, [], map}
+use Rattle.std.specs.Prelude.{ℕ, if◌then◌else◌, List, [], map}
 use Rattle.std.specs.FinMap.{entries}
 use Rattle.ncq_base.specs.Keys.{is_key}
 use Rattle.ncq_bag.specs.Bags.{count_in, difference}
@@ -14,10 +14,6 @@ use Rattle.ncq_run.specs.Answer.{bindings, answer_bytes}
 -- how often the bytes stand among the forests that the element gives
 abbrev pub weight_in : ChildQuery → List ℕ → Element → ℕ
 weight_in query key element = count_in key (map pyx (bindings query element))
-
--- so many more, or so many less
-abbrev pub signed : Bool → ℕ → ℤ
-signed gain n = if gain then pos n else neg_ℤ (pos n)
 
 -- the answer over these elements
 abbrev pub answer_in : ChildQuery → Kept → List (List ℕ)

@@ -1,7 +1,7 @@
 //! Answering the commands of a script, each as soon as it is whole.
 ghost use Rattle.std.specs.Prelude.{◌≡◌, ◌+◌, ◌-◌, ◌<◌, ◌≤◌, ◌^◌, ℕ, List, [], OnOk, OnErr, IsErrOf, length, drop};
 ghost use Rattle.std.specs.Io.KnownBytes.{Appends};
-ghost use Rattle.ncq_outside.specs.Causes.{HasCause, Rose};
+ghost use Rattle.ncq_outside.specs.Causes.{HasCause, IsFull, Rose};
 ghost use Rattle.ncq_script.specs.Script.{known_script};
 ghost use Rattle.ncq_script.specs.ScriptReading.{FollowsScript, limit_of, is_finished};
 ghost use Rattle.ncq_run.specs.History.{History};
@@ -26,6 +26,8 @@ fn write_all<O: Sink>(output: &mut O, bytes: &[u8]) -> Result<(), Failed>
     ensures ok { OnOk result (Appends (O.held output.old) (O.held output.new) bytes.now) }
     ensures err { OnErr result (AppendsProperPrefix (O.held output.old) (O.held output.new) bytes.now) }
     ensures cause { HasCause (O.faults output.old) (O.faults output.new) result }
+    ensures full { OnErr result (IsFull (O.sure output.old) (O.held output.new)) }
+    ensures sure { O.sure output.new ≡ O.sure output.old }
 {
     let mut rest = bytes;
     while !rest.is_empty() {
@@ -43,12 +45,14 @@ fn rest_of(bytes: &[u8], at: usize) -> &[u8]
     &bytes[at..]
 }
 
-/// Writes the answer to the command of this number.
+/// Writes the answer to the command of this number. The text of the answer is made in `text`, in
+/// place of what stood there.
 fn answer_one<O: Sink>(
     alloc: Global,
     engine: &mut Engine,
     number: u64,
     command: Command,
+    text: &mut Vec<u8>,
     output: &mut O,
 ) -> Result<(), Stop>
     requires few { engine.old.store.changes < number }
@@ -62,9 +66,11 @@ fn answer_one<O: Sink>(
         AppendsProperPrefix (O.held output.old) (O.held output.new) (answer_to history number command) }
     ensures later { O.faults output.old ≤ O.faults output.new }
     ensures cause { IsErrOf result Stop.WriteFault → Rose (O.faults output.old) (O.faults output.new) }
+    ensures full { IsErrOf result Stop.WriteFault → IsFull (O.sure output.old) (O.held output.new) }
+    ensures sure { O.sure output.new ≡ O.sure output.old }
 {
-    let mut text = Vec::new(alloc);
-    let Ok(()) = engine.answer(alloc, number, command, &mut text) else {
+    text.clear();
+    let Ok(()) = engine.answer(alloc, number, command, text) else {
         return Err(Stop::NoMemory);
     };
     match write_all(output, text.as_slice()) {
@@ -96,13 +102,16 @@ pub(crate) fn answer_commands<O: Sink>(
         AppendsProperPrefix (O.held output.old) (O.held output.new) (out_of history (count.old + 1) (drop count.old (known_script (limit_of reader.old) (is_finished reader.old) pushed))) }
     ensures later { O.faults output.old ≤ O.faults output.new }
     ensures cause { IsErrOf result Stop.WriteFault → Rose (O.faults output.old) (O.faults output.new) }
+    ensures full { IsErrOf result Stop.WriteFault → IsFull (O.sure output.old) (O.held output.new) }
+    ensures sure { O.sure output.new ≡ O.sure output.old }
     ensures limit { limit_of reader.new ≡ limit_of reader.old }
     ensures finished { is_finished reader.new ≡ is_finished reader.old }
 {
+    let mut text = Vec::new(alloc);
     'commands: loop {
         match reader.next() {
             Ok(Next::Command(command)) => {
-                answer_one(alloc, engine, *count + 1, command, output)?;
+                answer_one(alloc, engine, *count + 1, command, &mut text, output)?;
                 *count += 1;
             }
             Ok(Next::Wanting | Next::End) => return Ok(()),

@@ -70,7 +70,7 @@ impl Engine {
                 alloc, number, name, root, key, out,
             ),
             BuiltCommand::Delta { source, items } => self.change(
-                alloc, number, &source, &items, out,
+                alloc, number, &source, items, out,
             ),
             BuiltCommand::Create { query } => self.create(alloc, number, query, out),
         }
@@ -101,12 +101,12 @@ impl Engine {
         alloc: Global,
         number: u64,
         source: &Bytes,
-        items: &Items,
+        items: Items,
         out: &mut Vec<u8>,
     ) -> Result<(), AllocError>
         requires few { self.old.store.changes < number }
         requires small { number < 2 ^ 60 }
-        ensures applies { OnOk result (Applies self.old.store self.old.subscriptions.items number (BuiltCommand.Delta source.now items.now) out.old.items self.new.store self.new.subscriptions.items out.new.items) }
+        ensures applies { OnOk result (Applies self.old.store self.old.subscriptions.items number (BuiltCommand.Delta source.now items) out.old.items self.new.store self.new.subscriptions.items out.new.items) }
         ensures few { self.new.store.changes ≤ number }
     {
         match self.store.prepare(alloc, source.as_slice(), items) {

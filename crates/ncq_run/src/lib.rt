@@ -7,8 +7,10 @@ mod answer;
 mod built;
 mod command;
 mod engine;
+mod laws;
 mod session;
 mod tell;
 
 pub use command::{BuiltCommand, ChildQuery, Subscription};
-pub use session::{MAX_LINE, MAX_SCRIPT, Status, exit_code, run};
+pub use laws::{a_sure_sink_is_enough, nothing_but_memory_ends_it};
+pub use session::{Status, exit_code, run};

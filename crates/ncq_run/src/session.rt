@@ -1,9 +1,10 @@
 //! The top call: a session over a source and a sink.
-ghost use Rattle.std.specs.Prelude.{◌≡◌, ◌≢◌, ◌+◌, ◌-◌, ◌<◌, ◌≤◌, ◌^◌, ◌++◌, ℕ, List, Option, OnOk, OnErr, IfOk, IfSome, IfNone, IsErrOf, IsTrue, ◌↔◌, false, length, take};
+ghost use Rattle.std.specs.Prelude.{◌≡◌, ◌≢◌, ◌+◌, ◌-◌, ◌<◌, ◌≤◌, ◌^◌, ◌++◌, ℕ, List, Option, OnOk, OnErr, IfOk, IfSome, IfNone, IsErrOf, IsOk, IsTrue, Some, ◌↔◌, true, false, length, take};
 ghost use Rattle.std.specs.Io.KnownBytes.{Appends, Consumes, Keeps, IsAtEnd};
-ghost use Rattle.ncq_outside.specs.Causes.{HasCause, Rose, RoseBy};
+ghost use Rattle.ncq_outside.specs.Causes.{HasCause, IsFull, Rose, RoseBy};
 ghost use Rattle.ncq_script.specs.Script.{script, whole_script};
 ghost use Rattle.ncq_script.specs.ScriptReading.{FollowsScript, limit_of, is_finished};
+ghost use Rattle.ncq_run.specs.Limits.{longest_line, longest_script};
 ghost use Rattle.ncq_run.specs.Status.{Told, told, Ended, IsRun, exit_code_of, AppendsPrefix, AppendsProperPrefix};
 ghost use Rattle.ncq_run.specs.Session.{SoFar, IsReady};
 ghost use Rattle.ncq_run.specs.Stands.{Stands};
@@ -18,10 +19,10 @@ use std::alloc::{AllocError, Global};
 use std::sync::ledger::Ledger;
 
 /// The longest script, in bytes.
-pub const MAX_SCRIPT: usize = 268_435_456;
+const MAX_SCRIPT: usize = 268_435_456;
 
 /// The longest line that is looked at whole, in bytes, without its LF and one CR at its end.
-pub const MAX_LINE: usize = 1_048_576;
+const MAX_LINE: usize = 1_048_576;
 
 /// The most bytes that a read asks for.
 const PIECE: usize = 65536;
@@ -39,7 +40,7 @@ pub enum Status {
     WriteFault,
     /// Memory ran out.
     NoMemory,
-    /// The script is longer than `MAX_SCRIPT`.
+    /// The script has more than 268,435,456 bytes.
     ScriptTooLong,
 }
 
@@ -53,6 +54,8 @@ fn fill<I: Source>(input: &mut I, buffer: &mut [u8], most: usize) -> Result<usiz
     ensures given { IfOk result (λ n. RoseBy (I.given input.old) n (I.given input.new)) }
     ensures stays { OnErr result (Keeps (I.left input.old) (I.left input.new) × (I.given input.new ≡ I.given input.old)) }
     ensures cause { HasCause (I.faults input.old) (I.faults input.new) result }
+    ensures sure { I.is_sure input.old ≡ true → IsOk result }
+    ensures keeps { I.is_sure input.new ≡ I.is_sure input.old }
 {
     input.read(&mut buffer[..most])
 }
@@ -85,6 +88,8 @@ fn answer_piece<O: Sink>(
         Appends before (O.held output.old) (output_of_whole (limit_of reader.old) pushed) → (more : List ℕ) → AppendsProperPrefix before (O.held output.new) (output_of (limit_of reader.old) ((pushed ++ piece.now) ++ more)) }
     ensures later { O.faults output.old ≤ O.faults output.new }
     ensures cause { IsErrOf result Stop.WriteFault → Rose (O.faults output.old) (O.faults output.new) }
+    ensures full { IsErrOf result Stop.WriteFault → IsFull (O.sure output.old) (O.held output.new) }
+    ensures sure { O.sure output.new ≡ O.sure output.old }
     ensures limit { limit_of reader.new ≡ limit_of reader.old }
     ensures is_open { is_finished reader.new ≡ false }
 {
@@ -116,6 +121,8 @@ fn answer_rest<O: Sink>(
         Appends before (O.held output.old) (output_of_whole (limit_of reader.old) pushed) → AppendsProperPrefix before (O.held output.new) (output_of (limit_of reader.old) pushed) }
     ensures later { O.faults output.old ≤ O.faults output.new }
     ensures cause { IsErrOf result Stop.WriteFault → Rose (O.faults output.old) (O.faults output.new) }
+    ensures full { IsErrOf result Stop.WriteFault → IsFull (O.sure output.old) (O.held output.new) }
+    ensures sure { O.sure output.new ≡ O.sure output.old }
     ensures limit { limit_of reader.new ≡ limit_of reader.old }
 {
     reader.finish();
@@ -161,6 +168,9 @@ fn turn<I: Source, O: Sink>(
         (told (I.left input.new) (O.held output.new) (I.given input.new) (I.faults input.new) (O.faults output.new)) status) }
     ensures within { I.given input.new ≤ I.given input.old + (session.old.most - session.old.taken + 1) }
     ensures limits { (session.new.most ≡ session.old.most) × (limit_of session.new.reader ≡ limit_of session.old.reader) }
+    ensures sure_source { result ≡ Some Status.ReadFault → I.is_sure input.old ≡ true → ⊥ }
+    ensures sure_sink { result ≡ Some Status.WriteFault → IsFull (O.sure output.old) (O.held output.new) }
+    ensures stays { (I.is_sure input.new ≡ I.is_sure input.old) × (O.sure output.new ≡ O.sure output.old) }
 {
     let room = session.most - session.taken;
     let Ok(got) = fill(input, &mut session.buffer, PIECE.min(room + 1)) else {
@@ -213,6 +223,8 @@ fn serve<I: Source, O: Sink>(
         (told (I.left input.old) (O.held output.old) (I.given input.old) (I.faults input.old) (O.faults output.old))
         (told (I.left input.new) (O.held output.new) (I.given input.new) (I.faults input.new) (O.faults output.new)) result }
     ensures within { I.given input.new ≤ I.given input.old + (most + 1) }
+    ensures sure_source { result ≡ Status.ReadFault → I.is_sure input.old ≡ true → ⊥ }
+    ensures sure_sink { result ≡ Status.WriteFault → IsFull (O.sure output.old) (O.held output.new) }
 {
     let Ok(buffer) = vec![in alloc; 0u8; PIECE] else {
         return Status::NoMemory;
@@ -245,10 +257,12 @@ fn is_run(words: &[&str]) -> bool
 /// Reads the script from `input` and writes the answer to each of its commands to `output`.
 ///
 /// `Usage` comes exactly where the words are not the one word `run`; then nothing is read or written.
-/// `Done` means that the script was read to its end and that `output` was extended by the whole defined output.
-/// `ReadFault` and `WriteFault` come only where a read or a write failed in this call, `ScriptTooLong` only
-/// where the source gave more than `MAX_SCRIPT` bytes in this call. After each of them, and after `NoMemory`, `output` was
-/// extended by a front of the defined output. No more than one byte past `MAX_SCRIPT` is read.
+/// `Done` means that the script was read to its end and that `output` was extended by the whole
+/// defined output. `ReadFault` and `WriteFault` come only where a read or a write failed in this
+/// call, `ScriptTooLong` only where the source gave more than 268,435,456 bytes in this call. After
+/// each of them, and after `NoMemory`, `output` was extended by a front of the defined output. No
+/// more than one byte past 268,435,456 is read. A source that is sure never gives a `ReadFault`, and
+/// a sink gives a `WriteFault` only where it holds all that it was sure to hold.
 /// No row is made yet, so `steps` stays.
 pub fn run<I: Source, O: Sink, L: Ledger>(
     alloc: Global,
@@ -259,10 +273,15 @@ pub fn run<I: Source, O: Sink, L: Ledger>(
 ) -> Status
     ensures usage { result ≡ Status.Usage ↔ ¬ IsRun words.now }
     ensures untouched { result ≡ Status.Usage → (input.new ≡ input.old) × (output.new ≡ output.old) }
-    ensures ended { IsRun words.now → Ended MAX_LINE MAX_SCRIPT
-        (told (I.left input.old) (O.held output.old) (I.given input.old) (I.faults input.old) (O.faults output.old))
-        (told (I.left input.new) (O.held output.new) (I.given input.new) (I.faults input.new) (O.faults output.new)) result }
-    ensures within { I.given input.new ≤ I.given input.old + (MAX_SCRIPT + 1) }
+    ensures ended { IsRun words.now → Ended longest_line longest_script
+        (told (I.left input.old) (O.held output.old) (I.given input.old)
+        (I.faults input.old) (O.faults output.old))
+        (told (I.left input.new) (O.held output.new) (I.given input.new)
+        (I.faults input.new) (O.faults output.new)) result }
+    ensures within { I.given input.new ≤ I.given input.old + (longest_script + 1) }
+    ensures sure_source { result ≡ Status.ReadFault → I.is_sure input.old ≡ true → ⊥ }
+    ensures sure_sink { result ≡ Status.WriteFault
+        → IsFull (O.sure output.old) (O.held output.new) }
     ensures steps { steps.new ≡ steps.old }
 {
     let _ = steps;

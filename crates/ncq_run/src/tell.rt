@@ -3,26 +3,27 @@ ghost use Rattle.std.specs.Prelude.{◌≡◌, ◌++◌, ◌<◌, ◌^◌, ℕ, 
 ghost use Rattle.std.specs.Option.{option_copied};
 ghost use Rattle.std.specs.List.{flat_map, filter};
 ghost use Rattle.ncq_base.specs.Keys.{is_key, weight, total_of};
-ghost use Rattle.ncq_bag.specs.Bags.{count_of, difference, differences};
+ghost use Rattle.ncq_bag.specs.Bags.{count_of, difference, differences, signed};
 ghost use Rattle.ncq_callback.specs.Texts.{print_text};
 ghost use Rattle.ncq_source.specs.Changes.{after, Chains, gains, losses};
 ghost use Rattle.ncq_source.specs.Held.{Kept};
 ghost use Rattle.ncq_source.specs.Keys.{child_keys};
-ghost use Rattle.ncq_source.specs.Stores.{kept};
 ghost use Rattle.ncq_source.specs.StoreStates.{IsDeclared};
-ghost use Rattle.ncq_source.specs.declared.declared.Declared.{Declared};
-ghost use Rattle.ncq_tree.specs.declared.model.Node.TheVariants.{Element as element_node};
+ghost use Rattle.ncq_source.specs.Stores.{Source as Declared};
 ghost use Rattle.ncq_run.specs.Answer.{choices, is_wanted};
-ghost use Rattle.ncq_run.specs.Weights.{weight_in, signed, answer_in, told_change};
+ghost use Rattle.ncq_run.specs.Weights.{weight_in, answer_in, told_change};
 
 use crate::command::{ChildQuery, Subscription};
 use ncq_bag::SignedBag;
-use ncq_base::{Bytes, Copied, Op, Shared, atom_of, bytes_of, holds};
+use ncq_base::{Bytes, Shared, is_atom_of};
 use ncq_callback::write_print;
-use ncq_pyx::write_forest;
+use ncq_pyx::write_element;
 use ncq_source::{Entry, SourceId, Store, child_value};
-use ncq_tree::{Element, Forest, Node};
+use ncq_tree::{Element, Node};
 use std::alloc::{AllocError, Global};
+
+/// The room that is asked for before an element is written: most elements take no more.
+const ELEMENT_ROOM: usize = 128;
 
 /// Tells the subscriptions to this source what the entries changed in their answers.
 pub(crate) fn tell_changed(
@@ -68,7 +69,7 @@ pub(crate) fn tell_whole(
 ) -> Result<(), AllocError>
     requires { IsDeclared store.now source }
     ensures { OnOk result ((declared : Declared) → slice_get store.now.sources source.0 ≡ Some declared →
-        out.new.items ≡ out.old.items ++ print_text query.now.name 0 (difference (answer_in query.now (kept declared)) [])) }
+        out.new.items ≡ out.old.items ++ print_text query.now.name 0 (difference (answer_in query.now declared.elements) [])) }
 {
     let bag = tally_of_source(alloc, query, store, source)?;
     write_differences(alloc, &query.name, bag, out)
@@ -139,7 +140,7 @@ fn tally_of_source(
 ) -> Result<SignedBag, AllocError>
     requires { IsDeclared store.now source }
     ensures { IfOk result (λ bag. (key : List ℕ) (declared : Declared) → slice_get store.now.sources source.0 ≡ Some declared →
-        count_of bag.counts key ≡ pos (total_of (weight_in query.now key) (kept declared))) }
+        count_of bag.counts key ≡ pos (total_of (weight_in query.now key) declared.elements)) }
 {
     let mut bag = SignedBag::new(alloc);
     for at in 0..store.size(source) {
@@ -165,18 +166,9 @@ fn count_element(
     if count == 0 {
         return Ok(());
     }
-    let mut bytes = Vec::new(alloc);
-    write_forest(&forest_of(alloc, element)?, &mut bytes)?;
-    add_times(alloc, bytes.as_slice(), count, gain, bag)
-}
-
-/// The forest that a binding in the element gives: the element itself.
-fn forest_of(alloc: Global, element: &Element) -> Result<Forest, AllocError>
-    ensures { IfOk result (λ forest. forest ≡ element_node element.now ∷ []) }
-{
-    let mut forest = Forest::new(alloc);
-    forest.push(Node::Element(element.copy(alloc)?))?;
-    Ok(forest)
+    let mut bytes = Vec::with_capacity(alloc, ELEMENT_ROOM)?;
+    write_element(element, &mut bytes)?;
+    add_times(Bytes::from_vec(bytes), count as u64, gain, bag)
 }
 
 /// How many of the children the query's part can be embedded in.
@@ -198,25 +190,25 @@ fn is_choice(alloc: Global, query: &ChildQuery, child: &Node) -> Result<bool, Al
     let Some(value) = child_value(alloc, &query.child, child)? else {
         return Ok(false);
     };
-    let atom = atom_of(alloc, value.as_slice())?;
-    Ok(holds(Op::Eq, &atom, &query.wanted))
+    Ok(is_wanted(query, &value))
+}
+
+/// Whether a text has the atom that the query asks for.
+fn is_wanted(query: &ChildQuery, text: &Bytes) -> bool
+    ensures { result ≡ is_wanted query.now text.now }
+{
+    is_atom_of(&query.wanted, text.as_slice())
 }
 
 /// Counts the bytes so many times more, or less. A bag that is full answers that memory ran out.
-fn add_times(
-    alloc: Global,
-    bytes: &[u8],
-    count: usize,
-    gain: bool,
-    bag: &mut SignedBag,
-) -> Result<(), AllocError>
-    ensures { OnOk result ((key : List ℕ) → count_of bag.new.counts key ≡ count_of bag.old.counts key +ℤ signed gain (if is_key key bytes.now then count else 0)) }
+fn add_times(bytes: Bytes, times: u64, gain: bool, bag: &mut SignedBag) -> Result<(), AllocError>
+    ensures { OnOk result ((key : List ℕ) → count_of bag.new.counts key ≡ count_of bag.old.counts key +ℤ signed gain (if is_key key bytes then times else 0)) }
 {
-    for _added in 0..count {
-        if bag.adds() >= SignedBag::MOST_ADDS {
-            return Err(AllocError);
-        }
-        bag.add(bytes_of(alloc, bytes)?, gain)?;
+    let Some(adds) = bag.adds().checked_add(times) else {
+        return Err(AllocError);
+    };
+    if adds > SignedBag::MOST_ADDS {
+        return Err(AllocError);
     }
-    Ok(())
+    bag.add(bytes, times, gain)
 }

@@ -46,6 +46,7 @@ commands-preserved g c =
           let this = (next pushed c.commands.count (c.commands.invariant.follows pushed f)).0 in
           let at = same_next _ _ _ _ pushed c.commands.count _ c.commands.invariant.limit c.commands.invariant.finished this in
           done_more _ _ _ _ _ _ _ _ _ c.commands.count _ _ at was (c.in_ok-answer_one-in-Ok-Command.ensures.ok was.1 was.3);
+      sure = c.answer_one.ensures.sure ∙ c.commands.invariant.sure;
       later = omega (arith, c.commands.invariant.later, c.answer_one.ensures.later);
       limit = c.in-Ok-Command.ensures.limit ∙ c.commands.invariant.limit;
       finished = c.in-Ok-Command.ensures.finished ∙ c.commands.invariant.finished;

@@ -19,6 +19,7 @@ invariant-commands g l = record {
       ≡ done ++ out_of now (l.count + 1) (drop l.count (known_script (limit_of l.fn.reader) (is_finished l.fn.reader) pushed)))
       × (history_of history (drop l.fn.count (known_script (limit_of l.fn.reader) (is_finished l.fn.reader) pushed))
       ≡ history_of now (drop l.count (known_script (limit_of l.fn.reader) (is_finished l.fn.reader) pushed)));
+  sure : g.O.Sink.sure l.output ≡ g.O.Sink.sure l.fn.output;
   later : g.O.Sink.faults l.fn.output ≤ g.O.Sink.faults l.output;
   limit : limit_of l.reader ≡ limit_of l.fn.reader;
   finished : is_finished l.reader ≡ is_finished l.fn.reader;

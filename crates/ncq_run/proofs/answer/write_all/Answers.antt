@@ -13,6 +13,7 @@ loop-rest-preserved g c =
     ∙ ap (λ (xs : List ℕ). (was.0 ++ take count rest) ++ xs) (sym c.rest_of-rest.ensures) in
     record {
       written = (was.0 ++ take count rest, split, Appends-trans _ _ _ _ _ was.2 c.in_ok-count.ensures.bytes);
+      sure = c.write.ensures.stays ∙ c.loop-rest.invariant.sure;
       later = omega (arith, c.loop-rest.invariant.later, c.write.ensures.cause.later);
       stands = λ full. let before = c.loop-rest.invariant.stands full in let here = c.write.ensures.cause.stands (omega (arith, before, full)) in omega (arith, before, here);
     }

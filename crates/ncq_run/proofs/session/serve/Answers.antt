@@ -12,6 +12,8 @@ pub turns-init : goal.turns-init
 turns-init g c = record {
   ready = record { some = ([], c.new.ensures.follows, refl); few = omega arith; within = omega arith; small = c.requires.most; room_is = search rules; is_open = c.new.ensures.open };
   so_far = at_start _ _ _ _ _ _ _ _ c.new.ensures.follows c.new-2.ensures.stands;
+  is_sure = refl;
+  sure = refl;
   most = refl;
   limit = c.new.ensures.limit;
 }
@@ -26,6 +28,8 @@ pub turns-preserved : goal.turns-preserved
 turns-preserved g c = record {
   ready = rw c.turn.ensures.limits.0 c.in_default-turn.ensures.ready;
   so_far = c.in_default-turn.ensures.goes_on _ c.turns.invariant.so_far;
+  is_sure = c.turn.ensures.stays.0 ∙ c.turns.invariant.is_sure;
+  sure = c.turn.ensures.stays.1 ∙ c.turns.invariant.sure;
   most = c.turn.ensures.limits.0 ∙ c.turns.invariant.most;
   limit = c.turn.ensures.limits.1 ∙ c.turns.invariant.limit;
 }

@@ -10,6 +10,8 @@ invariant-turns g l = record {
   so_far : SoFar l.session.reader l.session.engine.store l.session.engine.subscriptions.items l.session.count l.session.taken
       (told (g.I.Source.left l.fn.input) (g.O.Sink.held l.fn.output) (g.I.Source.given l.fn.input) (g.I.Source.faults l.fn.input) (g.O.Sink.faults l.fn.output))
       (told (g.I.Source.left l.input) (g.O.Sink.held l.output) (g.I.Source.given l.input) (g.I.Source.faults l.input) (g.O.Sink.faults l.output));
+  is_sure : g.I.Source.is_sure l.input ≡ g.I.Source.is_sure l.fn.input;
+  sure : g.O.Sink.sure l.output ≡ g.O.Sink.sure l.fn.output;
   most : l.session.most ≡ l.fn.most;
   limit : limit_of l.session.reader ≡ l.fn.limit;
 }

@@ -3,7 +3,6 @@ use Rattle.std.proofs.lemmas.Result.{on_ok_weaker}
 use Rattle.ncq_base.specs.Keys.{is_key}
 use Rattle.ncq_bag.specs.Bags.{difference}
 use Rattle.ncq_callback.specs.Texts.{print_text}
-use Rattle.ncq_source.specs.Stores.{kept}
 use Rattle.ncq_run.specs.Weights.{answer_in}
 use Rattle.ncq_run.proofs.Engines.{create_of_none, create_other_root, create_accepted, find_none, find_some, source_at}
 use Rattle.ncq_run.proofs.engine.Engine.create.Goals as goal
@@ -34,6 +33,6 @@ returns-clause-applies c =
     let d = source_at c.args.self.now.store c.args.query.source c.in-Some.source.0 at in
     let one : is_key c.root_of.result.now c.args.query.root ≡ true = search rules in
     let root = ap (λ (name : List ℕ). is_key name c.args.query.root) (sym (c.root_of.ensures d.0 d.1)) ∙ one in
-    let told = c.in_ok-tell_whole.ensures d.0 d.1 ∙ ap (λ (xs : List ℕ). xs ++ print_text c.args.query.name 0 (difference (answer_in c.args.query (kept d.0)) [])) c.in_ok-write_ok.ensures in
+    let told = c.in_ok-tell_whole.ensures d.0 d.1 ∙ ap (λ (xs : List ℕ). xs ++ print_text c.args.query.name 0 (difference (answer_in c.args.query d.0.elements) [])) c.in_ok-write_ok.ensures in
     create_accepted c.args.self.now.store c.args.self.now.subscriptions.items c.args.number c.args.out.now.items c.args.query c.in-Some.source.0 d.0 none at d.1 c.push.new.self.items _ root
     c.in_ok-push.ensures.items told

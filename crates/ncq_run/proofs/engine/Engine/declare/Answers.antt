@@ -10,7 +10,7 @@ use Rattle.ncq_run.proofs.engine.Engine.declare.Goals as goal
 pub returns-in-Ok-clause-applies : goal.returns-in-Ok-clause-applies
 returns-in-Ok-clause-applies c = on_ok_weaker c.write_ok.result
     (λ e. declare_accepted c.args.self.now.store c.args.self.now.subscriptions.items c.args.number c.args.out.now.items c.args.name c.args.root c.args.key c.declare.new.self _
-    (λ some. not_exists _ _ c.in-Ok.is (c.declare.ensures.exists.1 some)) c.in-Ok.ensures.ok.1 e)
+    (λ some. not_exists _ _ c.in-Ok.is (c.declare.ensures.exists.1 some)) c.in-Ok.ensures.ok.sources e)
     c.write_ok.ensures
 
 pub returns-in-Err-Exists-clause-applies : goal.returns-in-Err-Exists-clause-applies
