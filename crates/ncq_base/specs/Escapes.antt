@@ -1,5 +1,5 @@
 -- The escapes of texts, values and keys: a backslash before n, t, r or a backslash.
-use Rattle.std.specs.Prelude.{ℕ, Bool, true, false, ◌==◌, List, [], ◌∷◌, ◌++◌, if◌then◌else◌}
+use Rattle.std.specs.Prelude.{ℕ, Bool, true, false, not, ◌&&◌, ◌==◌, List, [], ◌∷◌, ◌++◌, if◌then◌else◌}
 use Rattle.std.specs.List.{flat_map}
 
 -- what a backslash and this byte stand for
@@ -29,6 +29,14 @@ escaped_byte b =
     (if b == 13 then 92 ∷ 114 ∷ [] else
     (if b == 92 then 92 ∷ 92 ∷ [] else
     b ∷ [])))
+
+-- a byte that is written as it stands
+abbrev pub is_plain : ℕ → Bool
+is_plain b = not (b == 10) && (not (b == 9) && (not (b == 13) && not (b == 92)))
+
+-- a byte that is read as it stands
+abbrev pub is_literal : ℕ → Bool
+is_literal b = not (b == 92)
 
 -- the text with its escapes
 abbrev pub escaped : List ℕ → List ℕ

@@ -1,14 +1,19 @@
 //! The escapes of texts, values and keys.
 ghost use Rattle.std.specs.Prelude.{◌≡◌, ◌++◌, ◌≤◌, List, ℕ, length, take, IfOk, OnOk, OnErr, vec_len};
-ghost use Rattle.ncq_base.specs.Escapes.{meant, unescaped, escaped, escaped_byte};
+ghost use Rattle.ncq_base.specs.Escapes.{meant, unescaped, escaped, escaped_byte, is_literal, is_plain};
+ghost use Rattle.std.specs.List.{list_all};
 
-use crate::bytes::Bytes;
+use crate::bytes::{Bytes, bytes_of};
 use std::alloc::{AllocError, Global};
 
 /// The bytes that a text stands for: `\n` is LF, `\t` tab, `\r` CR and `\\` a backslash; any other backslash stands for itself.
+#[tactic(auto, using(crate::proofs::EscapeLaws::literal_unescaped))]
 pub fn unescape(alloc: Global, text: &[u8]) -> Result<Bytes, AllocError>
     ensures { IfOk result (λ b. b ≡ unescaped text.now) }
 {
+    if are_literal(text) {
+        return bytes_of(alloc, text);
+    }
     let mut out = Vec::new(alloc);
     let mut behind = false;
     for byte in text {
@@ -25,6 +30,13 @@ pub fn unescape(alloc: Global, text: &[u8]) -> Result<Bytes, AllocError>
         out.push(b'\\')?;
     }
     Ok(Bytes::from_vec(out))
+}
+
+/// Whether no byte of the text is a backslash.
+fn are_literal(text: &[u8]) -> bool
+    ensures { result ≡ list_all is_literal text.now }
+{
+    text.iter().all(|b| *b != b'\\')
 }
 
 /// Appends the text, with LF, tab, CR and backslash escaped. After want of memory `out` is as before.
@@ -57,11 +69,28 @@ fn push_meant(byte: u8, out: &mut Vec<u8>) -> Result<(), AllocError>
     Ok(())
 }
 
+/// Whether each byte of the text is written as it stands.
+fn are_plain(text: &[u8]) -> bool
+    ensures { result ≡ list_all is_plain text.now }
+{
+    text.iter().all(|b| is_plain(*b))
+}
+
+fn is_plain(byte: u8) -> bool
+    ensures { result ≡ is_plain byte }
+{
+    byte != b'\n' && byte != b'\t' && byte != b'\r' && byte != b'\\'
+}
+
 /// Appends the text with its escapes; what was there stays in front.
+#[tactic(auto, using(crate::proofs::EscapeLaws::plain_escaped))]
 fn push_escaped_all(text: &[u8], out: &mut Vec<u8>) -> Result<(), AllocError>
     ensures ok { OnOk result (out.new.items ≡ out.old.items ++ escaped text.now) }
     ensures front { take (length out.old.items) out.new.items ≡ out.old.items }
 {
+    if are_plain(text) {
+        return out.extend_from_slice(text);
+    }
     for byte in text {
         push_escaped(*byte, out)?;
     }
