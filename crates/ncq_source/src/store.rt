@@ -194,7 +194,8 @@ impl Store {
     pub fn element(&self, id: SourceId, at: usize) -> &Element
         requires id { IsDeclared self.now id }
         requires at { At self.now id (λ s. at < length s.shown) }
-        ensures place { At self.now id (λ s. slice_get (map (λ p. p.1) s.shown) at ≡ Some result.now) }
+        ensures place { At self.now id (λ s.
+            slice_get (map (λ p. p.1) s.shown) at ≡ Some result.now) }
         ensures proper { IsProperStore self.now → IsProper result.now }
     {
         let elements = &self.source(id).elements;
@@ -248,7 +249,8 @@ impl Store {
         requires room { HasRoom self.old change }
         requires more { self.old.changes < 2 ^ 64 - 1 }
         ensures done { IsCommitted self.old change self.new }
-        ensures proper { PutsProper change.entries → IsProperStore self.old → IsProperStore self.new }
+        ensures proper { PutsProper change.entries
+            → IsProperStore self.old → IsProperStore self.new }
     {
         self.changes += 1;
         let number = self.changes;

@@ -1,8 +1,8 @@
 -- Reading patterns from the front of a token list. The code reads by these; the grammar is apart from them.
-use Rattle.std.specs.Prelude.{◌≡◌, ◌++◌, ℕ, zero, suc, Bool, true, false, ◌&&◌, not, nat_eq, if◌then◌else◌, List, [], ◌∷◌, length, map, Option, Some, None, Result, Ok, Err, codes}
+use Rattle.std.specs.Prelude.{◌≡◌, ◌++◌, ℕ, zero, suc, Bool, true, false, ◌&&◌, not, if◌then◌else◌, List, [], ◌∷◌, length, map, Option, Some, None, Result, Ok, Err, codes}
 use Rattle.std.specs.List.{list_any}
-use Rattle.std.specs.Char.{to_ascii_lowercase}
-use lib.Pointwise.{pointwise}
+use Rattle.std.specs.Option.{option_and_then}
+use Rattle.std.specs.Str.{bytes_eq, str_eq_ignore_ascii_case}
 use Rattle.ncq_base.specs.declared.atom.Op.TheVariants.{Eq}
 use Rattle.ncq_token.specs.declared.token.Token.{Token}
 use Rattle.ncq_token.specs.declared.token.Token.TheVariants.{TagStart, TagEnd, TagClose, EmptyClose, Name, Variable, Quoted, Word, Cmp}
@@ -22,10 +22,10 @@ use Rattle.ncq_xmlql.specs.declared.mismatch.Mismatch.TheVariants.{OutOfMemory, 
 abbrev pub Read : Type 0 → Type 0
 Read A = Option (A × List Token)
 
+-- std's `and_then`, between its two sides
 infixl 10 ◌>>=◌
 abbrev pub ◌>>=◌ : {A B : Type 0} → Option A → (A → Option B) → Option B
-None >>= f = None
-(Some x) >>= f = f x
+o >>= f = option_and_then f o
 
 -- What a call answered, seen by view, is what is read, unless memory ran out.
 abbrev pub Fails : {Y : Type 0} → Mismatch → Option Y → Type 0
@@ -38,11 +38,11 @@ Gives view (Err e) read = Fails e read
 
 -- two names of the same bytes
 abbrev pub is_same : List ℕ → List ℕ → Bool
-is_same = pointwise nat_eq
+is_same = bytes_eq
 
 -- a word, in any case of letters
 abbrev pub is_keyword : List ℕ → List ℕ → Bool
-is_keyword keyword word = is_same (map to_ascii_lowercase word) (map to_ascii_lowercase keyword)
+is_keyword keyword word = str_eq_ignore_ascii_case word keyword
 
 -- the value of an attribute, behind its name
 abbrev pub value_at : List Token → Read Operand
