@@ -9,13 +9,14 @@ use indexmap::IndexMap;
 use ncq_base::{Bytes, Shared};
 use ncq_tree::Element;
 use std::alloc::{AllocError, Global};
+use std::hash::RandomState;
 use std::marker::Model;
 
 /// The elements of a source, and over them the keys that items changed.
 #[derive(Drop)]
 pub(crate) struct Ahead<'a> {
     elements: &'a Elements,
-    changed: IndexMap<Bytes, Option<Shared<Element>>>,
+    changed: IndexMap<Bytes, Option<Shared<Element>>, RandomState>,
 }
 
 impl<'a> Model for Ahead<'a> {
@@ -35,7 +36,7 @@ impl<'a> Ahead<'a> {
     {
         Ahead {
             elements,
-            changed: IndexMap::new(alloc),
+            changed: IndexMap::with_hasher(alloc, elements.seed()),
         }
     }
 

@@ -13,12 +13,13 @@ use indexmap::IndexMap;
 use ncq_base::{Bytes, Shared};
 use ncq_tree::Element;
 use std::alloc::{AllocError, Global};
+use std::hash::RandomState;
 use std::marker::Model;
 
 /// Elements by their keys, in an order of its own, with room for some more.
 #[derive(Drop)]
 pub(crate) struct Elements {
-    elements: IndexMap<Bytes, Shared<Element>>,
+    elements: IndexMap<Bytes, Shared<Element>, RandomState>,
 }
 
 impl Model for Elements {
@@ -34,12 +35,17 @@ impl Model for Elements {
 
 impl Elements {
     /// No elements.
-    pub(crate) fn new(alloc: Global) -> Elements
+    pub(crate) fn new(alloc: Global, seed: RandomState) -> Elements
         ensures { result.pairs ≡ [] }
     {
         Elements {
-            elements: IndexMap::new(alloc),
+            elements: IndexMap::with_hasher(alloc, seed),
         }
+    }
+
+    /// The seed of the map.
+    pub(crate) fn seed(&self) -> RandomState {
+        *self.elements.hasher()
     }
 
     /// How many elements there are, each under a key of its own.

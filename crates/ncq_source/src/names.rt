@@ -5,12 +5,13 @@ ghost use Rattle.ncq_base.specs.Keys.{is_key};
 
 use indexmap::IndexSet;
 use std::alloc::{AllocError, Global};
+use std::hash::RandomState;
 use std::marker::Model;
 
 /// Names, each once, that are found by their bytes.
 #[derive(Drop)]
 pub(crate) struct Names {
-    names: IndexSet<Vec<u8>>,
+    names: IndexSet<Vec<u8>, RandomState>,
 }
 
 impl Model for Names {
@@ -23,11 +24,11 @@ impl Model for Names {
 
 impl Names {
     /// No names.
-    pub(crate) fn new(alloc: Global) -> Names
+    pub(crate) fn new(alloc: Global, seed: RandomState) -> Names
         ensures { result ≡ [] }
     {
         Names {
-            names: IndexSet::new(alloc),
+            names: IndexSet::with_hasher(alloc, seed),
         }
     }
 

@@ -21,6 +21,7 @@ use ncq_base::Bytes;
 use ncq_pyx::Items;
 use ncq_tree::Element;
 use std::alloc::{AllocError, Global};
+use std::hash::RandomState;
 use std::marker::Model;
 use thiserror::Error;
 
@@ -32,6 +33,7 @@ pub struct Store {
     names: Names,
     sources: Vec<Declared>,
     changes: u64,
+    seed: RandomState,
 }
 
 impl Model for Store {
@@ -70,15 +72,17 @@ impl From<AllocError> for DeclareError {
 }
 
 impl Store {
-    /// A store without sources and without changes.
-    pub fn new(alloc: Global) -> Store
+    /// A store without sources and without changes. Its maps place keys by the seed, so that nobody who does not know it
+    /// can choose names and keys that fall together.
+    pub fn new(alloc: Global, seed: RandomState) -> Store
         ensures empty { result ≡ record { sources = []; changes = 0 } }
         ensures proper { IsProperStore result }
     {
         Store {
-            names: Names::new(alloc),
+            names: Names::new(alloc, seed),
             sources: Vec::new(alloc),
             changes: 0,
+            seed,
         }
     }
 
@@ -128,7 +132,7 @@ impl Store {
             name,
             root,
             key,
-            elements: Elements::new(alloc),
+            elements: Elements::new(alloc, self.seed),
             last: 0,
         };
         self.sources.push(declared).unwrap();

@@ -3,6 +3,7 @@ use ncq_base::{Bytes, Lines, Shared, bytes_of, is_line};
 use ncq_pyx::{Item, Items, read_block, write_element};
 use ncq_tree::{Attribute, Attributes, Element, Forest, Node, string_value};
 use std::alloc::{AllocError, Global};
+use std::hash::RandomState;
 use std::process::Abort;
 use std::test::Fail;
 
@@ -55,8 +56,8 @@ fn declare(
 
 /// A store with the sources `quotes` and `companies`, whose key is the child `Symbol`, and `c`, whose key is the
 /// attribute `id`.
-fn sources(alloc: Global) -> Result<Store, AllocError> {
-    let mut store = Store::new(alloc);
+fn sources(alloc: Global, seed: RandomState) -> Result<Store, AllocError> {
+    let mut store = Store::new(alloc, seed);
     let _new = declare(
         alloc,
         &mut store,
@@ -208,9 +209,10 @@ const IN_TURN: &[&[(&str, &str, &str, &str)]] = &[
 fn expect_deltas(
     rt: &impl Abort,
     alloc: Global,
+    seed: RandomState,
     deltas: &[(&str, &str, &str, &str)],
 ) -> Result<(), AllocError> {
-    let mut store = sources(alloc)?;
+    let mut store = sources(alloc, seed)?;
     for (name, text, answer, elements) in deltas {
         let got = deliver(alloc, &mut store, name, text)?;
         assert_eq!(rt; got.as_str(), *answer, "at {text}");
@@ -225,8 +227,9 @@ fn expect_deltas(
 
 #[test]
 fn deltas_are_answered_in_turn(rt: HostRuntime) -> Result<(), Fail> {
+    let seed = RandomState::new(&rt)?;
     for deltas in IN_TURN {
-        expect_deltas(&rt, rt.alloc(), deltas)?;
+        expect_deltas(&rt, rt.alloc(), seed, deltas)?;
     }
     Ok(())
 }
@@ -251,7 +254,7 @@ fn expect_source(rt: &impl Abort, store: &Store, name: &str, root: &str, last: u
 #[test]
 fn sources_have_a_name_a_root_and_a_last_change(rt: HostRuntime) -> Result<(), Fail> {
     let alloc = rt.alloc();
-    let mut store = sources(alloc)?;
+    let mut store = sources(alloc, RandomState::new(&rt)?)?;
     assert!(rt; !declare(alloc, &mut store, "quotes", "Q", attribute(alloc, "id")?)?);
     assert_eq!(rt; store.count(), 3);
     for name in ["quotes", "companies", "companies"] {
@@ -284,7 +287,7 @@ fn expect_one(
 #[test]
 fn an_element_is_shown_as_it_was_put(rt: HostRuntime) -> Result<(), Fail> {
     let alloc = rt.alloc();
-    let mut store = sources(alloc)?;
+    let mut store = sources(alloc, RandomState::new(&rt)?)?;
     let answer = deliver(alloc, &mut store, "c", "(C/Aid 7/-a/- b/?x/-\\n/)C")?;
     assert_eq!(rt; answer.as_str(), "ok 1");
     expect_one(&rt, alloc, &store, "c", "(C\nAid 7\n-a b\n)C\n")?;
@@ -331,7 +334,11 @@ fn expect_entries(
 fn an_entry_sees_the_items_before_it(rt: HostRuntime) -> Result<(), Fail> {
     let alloc = rt.alloc();
     let (text, wanted) = SEEN;
-    let change = sources(alloc)?.prepare(alloc, b"quotes", items_of(alloc, text)?);
+    let change = sources(alloc, RandomState::new(&rt)?)?.prepare(
+        alloc,
+        b"quotes",
+        items_of(alloc, text)?,
+    );
     assert!(rt; change.is_ok());
     if let Ok(change) = change {
         assert_eq!(rt; change.source(), SourceId(0));
@@ -382,10 +389,11 @@ fn bytes_in(key: Option<&Bytes>) -> &[u8] {
 fn expect_keys(
     rt: &impl Abort,
     alloc: Global,
+    seed: RandomState,
     name: &str,
     cases: &[(&str, &str)],
 ) -> Result<(), AllocError> {
-    let store = sources(alloc)?;
+    let store = sources(alloc, seed)?;
     assert!(rt; store.find(name.as_bytes()).is_some());
     if let Some(id) = store.find(name.as_bytes()) {
         for (text, want) in cases {
@@ -398,8 +406,9 @@ fn expect_keys(
 
 #[test]
 fn a_key_is_one_value_that_is_not_empty(rt: HostRuntime) -> Result<(), Fail> {
-    expect_keys(&rt, rt.alloc(), "quotes", BY_CHILD)?;
-    expect_keys(&rt, rt.alloc(), "c", BY_ATTRIBUTE)?;
+    let seed = RandomState::new(&rt)?;
+    expect_keys(&rt, rt.alloc(), seed, "quotes", BY_CHILD)?;
+    expect_keys(&rt, rt.alloc(), seed, "c", BY_ATTRIBUTE)?;
     Ok(())
 }
 
