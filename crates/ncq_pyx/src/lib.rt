@@ -21,4 +21,4 @@ pub use laws::{
 };
 pub use reader::{Items, MAX_NESTING, read_block};
 pub use turns::Item;
-pub use writing::write_forest;
+pub use writing::{write_attributes, write_forest, write_name, write_text};

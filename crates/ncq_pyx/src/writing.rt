@@ -54,7 +54,7 @@ fn write_node(node: &Node, out: &mut Vec<u8>) -> Result<(), AllocError>
 }
 
 /// Appends the line of a text; what was there stays in front.
-fn write_text(text: &[u8], out: &mut Vec<u8>) -> Result<(), AllocError>
+pub fn write_text(text: &[u8], out: &mut Vec<u8>) -> Result<(), AllocError>
     ensures ok { OnOk result (out.new.items ≡ out.old.items ++ ended (45 ∷ escaped text.now)) }
     ensures front { take (length out.old.items) out.new.items ≡ out.old.items }
 {
@@ -65,7 +65,7 @@ fn write_text(text: &[u8], out: &mut Vec<u8>) -> Result<(), AllocError>
 }
 
 /// Appends an opening or a closing line; what was there stays in front.
-fn write_name(mark: u8, name: &[u8], out: &mut Vec<u8>) -> Result<(), AllocError>
+pub fn write_name(mark: u8, name: &[u8], out: &mut Vec<u8>) -> Result<(), AllocError>
     ensures ok { OnOk result (out.new.items ≡ out.old.items ++ ended (mark ∷ name.now)) }
     ensures front { take (length out.old.items) out.new.items ≡ out.old.items }
 {
@@ -77,7 +77,7 @@ fn write_name(mark: u8, name: &[u8], out: &mut Vec<u8>) -> Result<(), AllocError
 
 /// Appends a line for each attribute; what was there stays in front.
 #[tactic(auto, using(crate::proofs::LineLaws::lines_are))]
-fn write_attributes(attributes: &[Attribute], out: &mut Vec<u8>) -> Result<(), AllocError>
+pub fn write_attributes(attributes: &[Attribute], out: &mut Vec<u8>) -> Result<(), AllocError>
     ensures ok { OnOk result (out.new.items ≡ out.old.items ++ bytes_of_lines (map attribute_line attributes.now)) }
     ensures front { take (length out.old.items) out.new.items ≡ out.old.items }
 {

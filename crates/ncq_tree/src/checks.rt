@@ -65,7 +65,7 @@ fn are_apart(nodes: &[Node]) -> bool
 }
 
 /// Whether each name stands before the next.
-fn are_rising(attributes: &[Attribute]) -> bool
+pub fn are_rising(attributes: &[Attribute]) -> bool
     ensures { result ≡ are_rising attributes.now }
 {
     let mut last: Option<&Bytes> = None;

@@ -14,9 +14,9 @@ mod ordering;
 mod tests;
 mod text;
 
-pub use checks::is_normal;
+pub use checks::{are_rising, is_normal};
 pub use copy::copy_forest;
 pub use model::{Attribute, Attributes, Element, Forest, Node};
-pub use normalize::{normal, normal_element, normal_is_made, normal_stays};
+pub use normalize::{normal, normal_element, normal_is_made, normal_stays, sort_attributes, trim};
 pub use ordering::{is_same, order, order_is_total};
 pub use text::string_value;

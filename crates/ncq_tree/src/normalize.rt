@@ -70,13 +70,20 @@ pub fn normal_element(alloc: Global, element: &Element) -> Result<Element, Alloc
     })
 }
 
-/// The attributes sorted by name; those of one name keep their order.
+/// A copy of the attributes, sorted by name.
 fn sorted(alloc: Global, attributes: &Attributes) -> Result<Attributes, AllocError>
     ensures { IfOk result (λ s. s ≡ sorted attributes.now) }
 {
-    let mut copies = attributes.copy(alloc)?.into_vec();
-    copies.sort_by(|a, b| a.name.cmp(&b.name))?;
-    Ok(Attributes::from_vec(copies))
+    sort_attributes(attributes.copy(alloc)?)
+}
+
+/// The attributes sorted by name; those of one name keep their order.
+pub fn sort_attributes(attributes: Attributes) -> Result<Attributes, AllocError>
+    ensures { IfOk result (λ s. s ≡ sorted attributes) }
+{
+    let mut list = attributes.into_vec();
+    list.sort_by(|a, b| a.name.cmp(&b.name))?;
+    Ok(Attributes::from_vec(list))
 }
 
 /// Appends the text without the white space at its ends, if anything is left.
@@ -91,7 +98,7 @@ fn push_text(alloc: Global, text: &[u8], out: &mut Forest) -> Result<(), AllocEr
 }
 
 /// The text without the white space at its ends.
-fn trim(text: &[u8]) -> &[u8]
+pub fn trim(text: &[u8]) -> &[u8]
     ensures { result.now ≡ trimmed text.now }
 {
     let front = &text[spaces_in_front(text)..];
