@@ -2,7 +2,7 @@
 ghost use Rattle.std.specs.Prelude.{◌≡◌, ◌++◌, ◌≤◌, List, ℕ, length, take, IfOk, OnOk, OnErr, vec_len};
 ghost use Rattle.ncq_base.specs.Escapes.{meant, unescaped, escaped, escaped_byte};
 
-use crate::bytes::{Bytes, bytes_of};
+use crate::bytes::Bytes;
 use std::alloc::{AllocError, Global};
 
 /// The bytes that a text stands for: `\n` is LF, `\t` tab, `\r` CR and `\\` a backslash; any other backslash stands for itself.
@@ -24,7 +24,7 @@ pub fn unescape(alloc: Global, text: &[u8]) -> Result<Bytes, AllocError>
     if behind {
         out.push(b'\\')?;
     }
-    bytes_of(alloc, out.as_slice())
+    Ok(Bytes::from_vec(out))
 }
 
 /// Appends the text, with LF, tab, CR and backslash escaped. After want of memory `out` is as before.

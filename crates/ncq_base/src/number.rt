@@ -1,11 +1,11 @@
 //! Texts that are numbers: an optional sign, 1 to 15 digits, and optionally a point and 1 to 6 digits.
-ghost use Rattle.std.specs.Prelude.{◌≡◌, ◌≤◌, ◌<◌, ◌^◌, length, IfOk, IfSome, IsTrue};
+ghost use Rattle.std.specs.Prelude.{◌≡◌, ◌≤◌, ◌<◌, ◌^◌, length, IfOk, IfSome, IsTrue, ◌↔◌};
 ghost use Rattle.std.specs.List.{list_all, prefix_len};
 ghost use Rattle.ncq_base.specs.Atoms.{fraction_of, unsigned_of, number_of, atom_of};
 ghost use Rattle.ncq_base.specs.Numbers.{is_digit};
 
 use crate::atom::Atom;
-use crate::bytes::bytes_of;
+use crate::bytes::{Bytes, bytes_of};
 use crate::digits::{are_digits, digits_value};
 use std::alloc::{AllocError, Global};
 
@@ -16,6 +16,27 @@ pub fn atom_of(alloc: Global, text: &[u8]) -> Result<Atom, AllocError>
     match number_of(text) {
         Some(n) => Ok(Atom::Num(n)),
         None => Ok(Atom::Text(bytes_of(alloc, text)?)),
+    }
+}
+
+/// The atom of a text that is not needed any more, which takes no memory.
+pub fn into_atom(text: Bytes) -> Atom
+    ensures { result ≡ atom_of text }
+{
+    match number_of(text.as_slice()) {
+        Some(n) => Atom::Num(n),
+        None => Atom::Text(text),
+    }
+}
+
+/// Whether the atom is that of the text. It takes no memory.
+pub fn is_atom_of(atom: &Atom, text: &[u8]) -> bool
+    ensures { IsTrue result ↔ (atom.now ≡ atom_of text.now) }
+{
+    match (atom, number_of(text)) {
+        (Atom::Num(m), Some(n)) => *m == n,
+        (Atom::Text(own), None) => own.as_slice() == text,
+        _ => false,
     }
 }
 
