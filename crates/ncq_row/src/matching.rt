@@ -1,26 +1,30 @@
 //! The rows of a shape in an element.
 //!
-//! What the parts of a shape give is found first, each part's alone, and joined only where each part has something. So a
-//! part that is found nowhere costs no more than one look at the children for each part.
-ghost use Rattle.std.specs.Prelude.{◌≡◌, ◌++◌, [], ◌∷◌, ◌+◌, ◌≤◌, length, map, IfOk, OnOk, OnErr};
+//! Where a shape has more than one part, a look ahead tells first whether each of them is found. So
+//! no rows are joined where a part is found nowhere.
+ghost use Rattle.std.specs.Prelude.{◌≡◌, ◌++◌, [], ◌∷◌, ◌+◌, ◌≤◌, length, map};
+ghost use Rattle.std.specs.Prelude.{IfOk, OnOk, OnErr};
 ghost use Rattle.std.specs.List.{flat_map};
-ghost use Rattle.std.specs.Option.{option_copied};
-ghost use Rattle.ncq_row.specs.Embeddings.{paired, one_of_each, attribute_rows, suffix_rows, content_rows, rows_at, rows_among, rows_of, reached_at};
 ghost use Rattle.ncq_tree.specs.declared.model.Node.TheVariants.{Element as element_node};
-ghost use Rattle.ncq_row.specs.Found.{option_rows, text_rows};
+ghost use Rattle.ncq_row.specs.Embeddings.{paired, one_of_each, reached_at};
+ghost use Rattle.ncq_row.specs.Embeddings.{attribute_rows, suffix_rows, content_rows};
+ghost use Rattle.ncq_row.specs.Embeddings.{rows_at, rows_among, rows_of};
+ghost use Rattle.ncq_row.specs.Found.{option_rows};
 
-use crate::product::{Found, extended, one_of_each, only, preceded};
+use crate::attributes::attribute_values;
+use crate::lookahead::are_found;
+use crate::product::{append_found, extended, only, paired, preceded};
 use crate::row::{Row, Rows};
 use crate::shape::{Shape, ShapeContent, ShapeSuffix};
-use crate::slots::Slots;
 use crate::value::Value;
-use ncq_base::{Bytes, Copied, Steps};
-use ncq_tree::{Attribute, Element, Forest, Node, copy_forest};
+use ncq_base::{Copied, Steps};
+use ncq_tree::{Element, Forest, Node, copy_forest};
 use std::alloc::{AllocError, Global};
 use std::sync::ledger::Ledger;
 
-/// Appends one row for each embedding of the shape in the element, with the values at the places of the shape in
-/// reading order: attributes, then parts or the value, then suffix. The choice of the first part varies slowest.
+/// Appends one row for each embedding of the shape in the element, with the values at the places of
+/// the shape in reading order: attributes, then parts or the value, then suffix. The choice of the
+/// first part varies slowest.
 pub fn match_shape<L: Ledger>(
     alloc: Global,
     shape: &Shape,
@@ -34,35 +38,28 @@ pub fn match_shape<L: Ledger>(
     ensures cost { steps.new ≤ steps.old + length (rows_of shape.now element.now) }
 {
     let found = found_in(alloc, shape, element)?;
-    append_rows(alloc, found, rows, steps)
+    let made = found.len();
+    append_found(rows, found)?;
+    count(made, steps);
+    Ok(())
 }
 
-/// Makes a row of each.
-fn append_rows<L: Ledger>(
-    alloc: Global,
-    found: Found,
-    rows: &mut Rows,
-    steps: &mut Steps<L>,
-) -> Result<(), AllocError>
-    ensures ok { OnOk result (rows.new ≡ rows.old ++ found) }
-    ensures err { OnErr result (rows.new ≡ rows.old) }
-    ensures counted { OnOk result (steps.new ≡ steps.old + length found) }
-    ensures cost { steps.new ≤ steps.old + length found }
+/// A step for each of so many rows.
+fn count<L: Ledger>(made: usize, steps: &mut Steps<L>)
+    ensures { steps.new ≡ steps.old + made }
 {
-    let mut made = Vec::new(alloc);
-    for slots in found.into_vec() {
-        made.push(Row::counted(slots, steps))?;
+    for _ in 0..made {
+        steps.tick();
     }
-    rows.append(Rows::from_vec(made))
 }
 
 /// What the shape gives in the element.
 #[tactic(auto, using(crate::proofs::CallerLemmas::rows_are))]
-fn found_in(alloc: Global, shape: &Shape, element: &Element) -> Result<Found, AllocError>
-    ensures { IfOk result (λ found. found ≡ rows_of shape.now element.now) }
+fn found_in(alloc: Global, shape: &Shape, element: &Element) -> Result<Rows, AllocError>
+    ensures { IfOk result (λ rows. rows ≡ rows_of shape.now element.now) }
 {
     if element.name != shape.tag {
-        return Ok(Found::new(alloc));
+        return Ok(Rows::new(alloc));
     }
     found_at(alloc, shape, element)
 }
@@ -70,8 +67,8 @@ fn found_in(alloc: Global, shape: &Shape, element: &Element) -> Result<Found, Al
 /// What the shape gives at this element, whatever the element's name is.
 #[cycle(matching)]
 #[tactic(auto, using(crate::proofs::CallerLemmas::rows_are))]
-fn found_at(alloc: Global, shape: &Shape, element: &Element) -> Result<Found, AllocError>
-    ensures { IfOk result (λ found. found ≡ rows_at shape.now element.now) }
+fn found_at(alloc: Global, shape: &Shape, element: &Element) -> Result<Rows, AllocError>
+    ensures { IfOk result (λ rows. rows ≡ rows_at shape.now element.now) }
 {
     let Some(front) = attribute_values(
         alloc,
@@ -79,7 +76,7 @@ fn found_at(alloc: Global, shape: &Shape, element: &Element) -> Result<Found, Al
         element.attributes.as_slice(),
     )?
     else {
-        return Ok(Found::new(alloc));
+        return Ok(Rows::new(alloc));
     };
     let content = found_in_content(alloc, &shape.content, element)?;
     surrounded(alloc, front, content, shape.suffix, element)
@@ -88,12 +85,13 @@ fn found_at(alloc: Global, shape: &Shape, element: &Element) -> Result<Found, Al
 /// The rows between the values of the attributes and that of the suffix.
 fn surrounded(
     alloc: Global,
-    front: Slots,
-    content: Found,
+    front: Row,
+    content: Rows,
     suffix: ShapeSuffix,
     element: &Element,
-) -> Result<Found, AllocError>
-    ensures { IfOk result (λ found. found ≡ paired (front ∷ []) (paired content (suffix_rows suffix element.now))) }
+) -> Result<Rows, AllocError>
+    ensures { IfOk result (λ rows.
+        rows ≡ paired (front ∷ []) (paired content (suffix_rows suffix element.now))) }
 {
     if content.len() == 0 {
         return Ok(content);
@@ -110,8 +108,8 @@ fn found_in_content(
     alloc: Global,
     content: &ShapeContent,
     element: &Element,
-) -> Result<Found, AllocError>
-    ensures { IfOk result (λ found. found ≡ content_rows content.now element.now) }
+) -> Result<Rows, AllocError>
+    ensures { IfOk result (λ rows. rows ≡ content_rows content.now element.now) }
 {
     match content {
         ShapeContent::Parts(parts) => found_in_parts(
@@ -119,55 +117,48 @@ fn found_in_content(
             parts.as_slice(),
             element.children.as_slice(),
         ),
-        ShapeContent::Value => {
-            let mut slots = Slots::new(alloc);
-            slots.push(alloc, Value::Nodes(copy_forest(alloc, &element.children)?))?;
-            only(alloc, slots)
-        }
+        ShapeContent::Value => only(alloc, children_of(alloc, element)?),
     }
 }
 
 /// What the parts give among the nodes.
 #[cycle(matching)]
-fn found_in_parts(alloc: Global, parts: &[Shape], nodes: &[Node]) -> Result<Found, AllocError>
-    ensures { IfOk result (λ found. found ≡ one_of_each (map (λ part. rows_among part nodes.now) parts.now)) }
+fn found_in_parts(alloc: Global, parts: &[Shape], nodes: &[Node]) -> Result<Rows, AllocError>
+    ensures { IfOk result (λ rows.
+        rows ≡ one_of_each (map (λ part. rows_among part nodes.now) parts.now)) }
 {
-    if parts.len() == 1 {
-        return found_among(alloc, &parts[0], nodes);
+    if parts.is_empty() {
+        return only(alloc, Row::new(alloc));
     }
-    let mut each = Vec::new(alloc);
-    for part in parts {
-        let found = found_among(alloc, part, nodes)?;
-        if found.len() == 0 {
-            return Ok(found);
-        }
-        each.push(found)?;
+    if parts.len() > 1 && !are_found(parts, nodes) {
+        return Ok(Rows::new(alloc));
     }
-    one_of_each(alloc, each)
+    let mut rows = found_among(alloc, &parts[0], nodes)?;
+    for i in 1..parts.len() {
+        let found = found_among(alloc, &parts[i], nodes)?;
+        rows = paired(alloc, rows, found)?;
+    }
+    Ok(rows)
 }
 
 /// What the shape gives at those of the nodes that it reaches.
 #[cycle(matching)]
-fn found_among(alloc: Global, shape: &Shape, nodes: &[Node]) -> Result<Found, AllocError>
-    ensures { IfOk result (λ found. found ≡ rows_among shape.now nodes.now) }
+fn found_among(alloc: Global, shape: &Shape, nodes: &[Node]) -> Result<Rows, AllocError>
+    ensures { IfOk result (λ rows. rows ≡ rows_among shape.now nodes.now) }
 {
-    let mut all = Vec::new(alloc);
+    let mut all = Rows::new(alloc);
     for node in nodes {
         add_found(alloc, shape, node, &mut all)?;
     }
-    Ok(Found::from_vec(all))
+    Ok(all)
 }
 
 /// Appends what the shape gives at the node, where it is an element that the shape reaches.
 #[cycle(matching)]
 #[tactic(auto, using(crate::proofs::CallerLemmas::nodes_are))]
-fn add_found(
-    alloc: Global,
-    shape: &Shape,
-    node: &Node,
-    all: &mut Vec<Slots>,
-) -> Result<(), AllocError>
-    ensures { OnOk result (all.new.items ≡ all.old.items ++ flat_map (rows_at shape.now) (reached_at shape.now.tag node.now)) }
+fn add_found(alloc: Global, shape: &Shape, node: &Node, all: &mut Rows) -> Result<(), AllocError>
+    ensures { OnOk result (all.new
+        ≡ all.old ++ flat_map (rows_at shape.now) (reached_at shape.now.tag node.now)) }
 {
     match node {
         Node::Text(_) => Ok(()),
@@ -175,62 +166,43 @@ fn add_found(
             if element.name != shape.tag {
                 return Ok(());
             }
-            let mut found = found_at(alloc, shape, element)?.into_vec();
-            all.append(&mut found)
+            append_found(all, found_at(alloc, shape, element)?)
         }
     }
-}
-
-/// The values of the attributes of these names, where all are there.
-fn attribute_values(
-    alloc: Global,
-    names: &[Bytes],
-    attributes: &[Attribute],
-) -> Result<Option<Slots>, AllocError>
-    ensures { IfOk result (λ found. option_rows found ≡ one_of_each (map (attribute_rows attributes.now) names.now)) }
-{
-    let mut slots = Slots::new(alloc);
-    for name in names {
-        let Some(value) = attribute_value(attributes, name) else {
-            return Ok(None);
-        };
-        slots.push(alloc, Value::Text(value.copy(alloc)?))?;
-    }
-    Ok(Some(slots))
-}
-
-/// The value of the attribute of this name.
-fn attribute_value<'a>(attributes: &'a [Attribute], name: &Bytes) -> Option<&'a Bytes>
-    ensures { text_rows (option_copied result) ≡ attribute_rows attributes.now name.now }
-{
-    for attribute in attributes {
-        if attribute.name == *name {
-            return Some(&attribute.value);
-        }
-    }
-    None
 }
 
 /// The value that the suffix takes.
-fn suffix_values(alloc: Global, suffix: ShapeSuffix, element: &Element) -> Result<Slots, AllocError>
-    ensures { IfOk result (λ slots. slots ∷ [] ≡ suffix_rows suffix element.now) }
+fn suffix_values(alloc: Global, suffix: ShapeSuffix, element: &Element) -> Result<Row, AllocError>
+    ensures { IfOk result (λ row. row ∷ [] ≡ suffix_rows suffix element.now) }
 {
-    let mut slots = Slots::new(alloc);
     match suffix {
-        ShapeSuffix::Plain => {}
-        ShapeSuffix::Element => slots.push(alloc, Value::Nodes(alone(alloc, element)?))?,
-        ShapeSuffix::Content => {
-            slots.push(alloc, Value::Nodes(copy_forest(alloc, &element.children)?))?
-        }
+        ShapeSuffix::Plain => Ok(Row::new(alloc)),
+        ShapeSuffix::Element => whole(alloc, element),
+        ShapeSuffix::Content => children_of(alloc, element),
     }
-    Ok(slots)
 }
 
 /// The element alone.
-fn alone(alloc: Global, element: &Element) -> Result<Forest, AllocError>
-    ensures { IfOk result (λ forest. forest ≡ element_node element.now ∷ []) }
+fn whole(alloc: Global, element: &Element) -> Result<Row, AllocError>
+    ensures { IfOk result (λ row. row ≡ Value.Nodes (element_node element.now ∷ []) ∷ []) }
 {
-    let mut forest = Forest::new(alloc);
+    let mut forest = Forest::with_capacity(alloc, 1)?;
     forest.push(Node::Element(element.copy(alloc)?))?;
-    Ok(forest)
+    of_nodes(alloc, forest)
+}
+
+/// The children of the element.
+fn children_of(alloc: Global, element: &Element) -> Result<Row, AllocError>
+    ensures { IfOk result (λ row. row ≡ Value.Nodes element.now.children ∷ []) }
+{
+    of_nodes(alloc, copy_forest(alloc, &element.children)?)
+}
+
+/// The one value.
+fn of_nodes(alloc: Global, forest: Forest) -> Result<Row, AllocError>
+    ensures { IfOk result (λ row. row ≡ Value.Nodes forest ∷ []) }
+{
+    let mut row = Row::new(alloc);
+    row.push(alloc, Value::Nodes(forest))?;
+    Ok(row)
 }
