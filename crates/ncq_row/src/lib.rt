@@ -14,6 +14,8 @@ mod product;
 mod row;
 mod shape;
 mod slot;
+#[cfg(test)]
+mod tests;
 mod value;
 
 pub use key::{RowKey, SlotAtom};

@@ -16,7 +16,7 @@ pub fn width(shape: &Shape) -> usize
 /// The places of a shape. Each count stops at the greatest `usize`.
 #[cycle(width)]
 #[tactic(auto, using(crate::proofs::ShapeLaws::width_is))]
-fn width_of(shape: &Shape) -> usize
+pub(crate) fn width_of(shape: &Shape) -> usize
     ensures { result ≡ min (width shape.now) (2 ^ 64 - 1) }
 {
     let content = width_of_content(&shape.content);
