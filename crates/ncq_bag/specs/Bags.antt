@@ -1,5 +1,5 @@
 -- Bags of byte strings, the counts that changes leave, and the difference of two bags.
-use Rattle.std.specs.Prelude.{◌≡◌, ℕ, zero, suc, ℤ, pos, negsuc, ◌+ℤ◌, ◌-ℤ◌, Bool, true, false, if◌then◌else◌, List, [], ◌∷◌, ◌++◌, map}
+use Rattle.std.specs.Prelude.{◌≡◌, ℕ, zero, suc, ℤ, pos, negsuc, neg_ℤ, ◌+ℤ◌, ◌-ℤ◌, Bool, true, false, if◌then◌else◌, List, [], ◌∷◌, ◌++◌, map}
 use Rattle.std.specs.Option.{unwrap_or}
 use Rattle.std.specs.List.{flat_map}
 use Rattle.std.specs.FinMap.{get, insert, empty, entries}
@@ -11,13 +11,15 @@ use Rattle.ncq_bag.specs.declared.bag.Difference.{Difference}
 abbrev pub count_of : ByBytes ℤ → List ℕ → ℤ
 count_of counts key = unwrap_or (get counts key) (pos 0)
 
-abbrev pub step : Bool → ℤ
-step gain = if gain then pos 1 else negsuc 0
+-- so many more, or so many less
+abbrev pub signed : Bool → ℕ → ℤ
+signed gain n = if gain then pos n else neg_ℤ (pos n)
 
--- one more of the key, or one less
-abbrev pub added : ByBytes ℤ → List ℕ → Bool → ByBytes ℤ
-added counts key gain = insert counts key (count_of counts key +ℤ step gain)
+-- so many more of the key, or so many less
+abbrev pub added : ByBytes ℤ → List ℕ → ℕ → Bool → ByBytes ℤ
+added counts key times gain = insert counts key (count_of counts key +ℤ signed gain times)
 
+-- no byte string was added
 abbrev pub no_counts : Counted
 no_counts = record { counts = empty; adds = 0 }
 

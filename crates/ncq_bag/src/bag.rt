@@ -1,9 +1,9 @@
 ghost use Rattle.std.specs.Prelude.{◌≡◌, ◌+◌, ◌<◌, ◌^◌, IfOk, OnOk, OnErr, ◌++◌, ◌≤◌, nat_abs, ◌+ℤ◌};
-ghost use Rattle.ncq_bag.specs.Bags.{added, differences, difference_of, no_counts, step};
+ghost use Rattle.ncq_bag.specs.Bags.{added, differences, difference_of, no_counts, signed};
 
-use indexmap::IndexMap;
 use ncq_base::{Bytes, Sequence};
 use std::alloc::{AllocError, Global};
+use std::collections::BTreeMap;
 use std::marker::Model;
 
 /// A byte string that stands more often in one of two bags.
@@ -16,10 +16,11 @@ pub struct Difference {
 
 pub type Differences = Sequence<Difference>;
 
-/// Counts of byte strings.
+/// Counts of byte strings. They are kept in order, so that nobody who picks the byte strings can
+/// make them collide.
 #[derive(Drop)]
 pub struct SignedBag {
-    counts: IndexMap<Bytes, i128>,
+    counts: BTreeMap<Bytes, i128>,
     adds: u64,
 }
 
@@ -43,7 +44,7 @@ impl SignedBag {
         ensures { result ≡ no_counts }
     {
         SignedBag {
-            counts: IndexMap::new(alloc),
+            counts: BTreeMap::new(alloc),
             adds: 0,
         }
     }
@@ -54,40 +55,42 @@ impl SignedBag {
         self.adds
     }
 
-    /// One more of the key, or one less.
-    pub fn add(&mut self, key: Bytes, gain: bool) -> Result<(), AllocError>
-        requires { self.old.adds < 2 ^ 63 }
-        ensures counts { OnOk result (self.new.counts ≡ added self.old.counts key gain) }
-        ensures adds { OnOk result (self.new.adds ≡ self.old.adds + 1) }
+    /// So many more of the key, or so many less. After want of memory the bag is as before.
+    pub fn add(&mut self, key: Bytes, times: u64, gain: bool) -> Result<(), AllocError>
+        requires { self.old.adds + times ≤ 2 ^ 63 }
+        ensures counts { OnOk result (self.new.counts ≡ added self.old.counts key times gain) }
+        ensures adds { OnOk result (self.new.adds ≡ self.old.adds + times) }
         ensures err { OnErr result (self.new ≡ self.old) }
     {
         let count = self.counts.get(&key).copied().unwrap_or(0);
-        self.counts.insert(key, stepped(count, gain))?;
-        self.adds += 1;
+        self.counts.insert(key, stepped(count, times, gain))?;
+        self.adds += times;
         Ok(())
     }
 
-    /// The keys whose count is not 0, rising.
+    /// The keys whose count is not 0, rising by bytes, each with the size and the sign of its count.
     pub fn difference(self, alloc: Global) -> Result<Differences, AllocError>
         ensures { IfOk result (λ d. d ≡ differences self.counts) }
     {
-        let mut counts = self.counts;
-        counts.sort_keys()?;
         let mut out = Differences::new(alloc);
-        for (bytes, count) in counts {
+        for (bytes, count) in self.counts {
             push_difference(&mut out, bytes, count)?;
         }
         Ok(out)
     }
 }
 
-fn stepped(count: i128, gain: bool) -> i128
-    requires { nat_abs count < 2 ^ 63 }
-    ensures value { result ≡ count +ℤ step gain }
-    ensures within { nat_abs result ≤ nat_abs count + 1 }
+fn stepped(count: i128, times: u64, gain: bool) -> i128
+    requires { nat_abs count + times ≤ 2 ^ 63 }
+    ensures value { result ≡ count +ℤ signed gain times }
+    ensures within { nat_abs result ≤ nat_abs count + times }
     ensures small { nat_abs result ≤ 2 ^ 63 }
 {
-    if gain { count + 1 } else { count - 1 }
+    if gain {
+        count + times as i128
+    } else {
+        count - times as i128
+    }
 }
 
 fn push_difference(out: &mut Differences, bytes: Bytes, count: i128) -> Result<(), AllocError>

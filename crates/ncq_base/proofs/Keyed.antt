@@ -1,17 +1,17 @@
 -- Pairs as finite maps.
-use Rattle.std.proofs.Common.{◌≡◌, ℕ, ◌+◌, Bool, true, false, cond, ◌&&◌, List, [], ◌∷◌, length, get_or, Some, None, refl, sym, ap, ◌∙◌, subst, true≢false, arith, T, is_some}
-use Rattle.std.specs.Ordering.{nat_cmp, eq_by_cmp, ordering_reverse, is_lt, is_eq, is_gt as is_greater}
-use Rattle.std.specs.declared.cmp.Ordering.{Ordering}
+use Rattle.std.proofs.Common.{◌≡◌, ℕ, ◌+◌, Bool, true, false, cond, ◌&&◌, List, [], ◌∷◌, length, Some, None, refl, sym, ap, ◌∙◌, subst, true≢false, arith, T, is_some}
+use Rattle.std.specs.Ordering.{nat_cmp, eq_by_cmp, is_lt, is_eq}
 use Rattle.std.specs.declared.cmp.Ordering.TheVariants.{Less, Equal, Greater}
 use Rattle.std.specs.Cmp.{IsEquivalence, eq_by_cmp_equiv}
 use Rattle.std.specs.Cmp.Lexicographic.{slice_cmp, texts_ties, nat_list_cmp_total}
 use Rattle.std.specs.List.{IsDistinct, AllByRecursion}
-use Rattle.std.specs.List.Sorted.{IsSorted, IsStrictlySortedBy}
+use Rattle.std.specs.List.Sorted.{IsStrictlySortedBy}
 use Rattle.std.specs.Map.{lookup, keys_of}
 use Rattle.std.specs.FinMap.{get, insert, remove, find, entries, from_sorted, is_sorted, entries-from_sorted, get-from_sorted, get-from_entries, get-insert, get-remove, get-entries, len-entries, len-empty, entries-insert, same_map, slice_cmp-IsAntisymmetric, nat_cmp-IsAntisymmetric, IsAntisymmetric}
 use Rattle.std.specs.FinMap.Entries.{below_all, put, by_order}
 use Rattle.std.proofs.lemmas.Cmp.{nat_list_eq_equiv}
-use Rattle.std.proofs.lemmas.Map.Keys.{sorted_from_all_adjacent, apart_from_distinct, sorted_head, sorted_tail, IsDistinct-head, IsDistinct-tail}
+use Rattle.std.proofs.lemmas.Map.Text.{is_eq-slice_cmp}
+use Rattle.std.proofs.lemmas.Map.Keys.{sorted_head, sorted_tail, IsDistinct-head, IsDistinct-tail}
 use Rattle.ncq_base.specs.Keys.{is_key, map_of, times}
 
 pub bytes_apart : IsAntisymmetric (slice_cmp nat_cmp)
@@ -44,21 +44,6 @@ module _ {X : Type 0} (old new : List (List ℕ × X)) (k : List ℕ) where
 pub is_key_equiv : IsEquivalence is_key
 is_key_equiv = nat_list_eq_equiv
 
-less_of : (r s : Ordering) → r ≡ ordering_reverse s → is_lt s ≡ false → is_eq r ≡ false → r ≡ Less
-less_of Less s t n e = refl
-less_of Equal s t n e = absurd (true≢false e)
-less_of Greater Less t n e = absurd (true≢false n)
-less_of Greater Equal t n e = absurd (true≢false (ap is_greater t))
-less_of Greater Greater t n e = absurd (true≢false (ap is_greater t))
-
--- sorted keys that differ rise
-pub strictly : (ks : List (List ℕ)) → IsSorted (slice_cmp nat_cmp) ks → IsDistinct is_key ks → IsStrictlySortedBy (slice_cmp nat_cmp) ks
-strictly ks up apart = sorted_from_all_adjacent nat_list_cmp_total ks [] (λ k h.
-    let a = get_or ks k [] in
-    let b = get_or ks (k + 1) [] in
-    less_of (slice_cmp nat_cmp a b) (slice_cmp nat_cmp b a) (nat_list_cmp_total.antisymm a b) (up k [] (omega arith) h)
-    (sym (texts_ties a b) ∙ apart_from_distinct is_key ks k (k + 1) [] apart (omega arith) h))
-
 module _ {X : Type 0} where
   below : (k : List ℕ) (es : List (List ℕ × X)) → AllByRecursion (λ y. slice_cmp nat_cmp k y ≡ Less) (keys_of es) → below_all (slice_cmp nat_cmp) k es ≡ true
   below k [] h = refl
@@ -68,13 +53,24 @@ module _ {X : Type 0} where
   rising [] h = refl
   rising (e ∷ es) h = λ i. below e.0 es (sorted_head _ _ _ h) i && rising es (sorted_tail _ _ _ h) i
 
-  -- pairs with rising keys are the entries of the map of pairs in any order
-  pub entries_sorted : (old es : List (List ℕ × X)) → IsSorted (slice_cmp nat_cmp) (keys_of es) → IsDistinct is_key (keys_of es) → ((q : List ℕ) → lookup (is_key q) es ≡ lookup (is_key q) old) → entries (map_of old) ≡ es
-  entries_sorted old es up apart is =
-      let up_to : T (is_sorted (slice_cmp nat_cmp) es) = subst T (sym (rising es (strictly (keys_of es) up apart))) tt in
-      ap entries (same_map nat_list_cmp_total bytes_apart (map_of old) (from_sorted es) (λ q.
-      get_map_of old q ∙ sym (is q) ∙ sym (find_is q es) ∙ sym (get-from_sorted (slice_cmp nat_cmp) es q up_to)))
+  -- pairs with rising keys are the entries of their map
+  pub entries_rising : (es : List (List ℕ × X)) → IsStrictlySortedBy (slice_cmp nat_cmp) (keys_of es) → entries (map_of es) ≡ es
+  entries_rising es up =
+      let up_to : T (is_sorted (slice_cmp nat_cmp) es) = subst T (sym (rising es up)) tt in
+      ap entries (same_map nat_list_cmp_total bytes_apart (map_of es) (from_sorted es) (λ q.
+      get_map_of es q ∙ sym (find_is q es) ∙ sym (get-from_sorted (slice_cmp nat_cmp) es q up_to)))
       ∙ entries-from_sorted (slice_cmp nat_cmp) es up_to
+
+  -- a look-up by order finds what a look-up by equality finds
+  pub ordered_lookup : (q : List ℕ) (es : List (List ℕ × X)) → lookup (λ k. is_eq (slice_cmp nat_cmp q k)) es ≡ lookup (is_key q) es
+  ordered_lookup q [] = refl
+  ordered_lookup q (e ∷ es) = λ i. cond (is_eq-slice_cmp q e.0 i) (Some e.1) (ordered_lookup q es i)
+
+  -- what one insert changes, by equality in place of order
+  pub updated : (old new : List (List ℕ × X)) (k : List ℕ) (v : X)
+      → ((q : List ℕ) → lookup (λ p. is_eq (slice_cmp nat_cmp q p)) new ≡ cond (is_eq (slice_cmp nat_cmp k q)) (Some v) (lookup (λ p. is_eq (slice_cmp nat_cmp q p)) old))
+      → (q : List ℕ) → lookup (is_key q) new ≡ cond (is_key k q) (Some v) (lookup (is_key q) old)
+  updated old new k v h q = sym (ordered_lookup q new) ∙ h q ∙ (λ i. cond (is_eq-slice_cmp k q i) (Some v) (ordered_lookup q old i))
 
 module _ {X : Type 0} (test : List ℕ × X → Bool) where
   swapped : (a b : Bool) (n : ℕ) → cond a 1 0 + (cond b 1 0 + n) ≡ cond b 1 0 + (cond a 1 0 + n)

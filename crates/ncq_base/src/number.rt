@@ -1,7 +1,7 @@
 //! Texts that are numbers: an optional sign, 1 to 15 digits, and optionally a point and 1 to 6 digits.
-ghost use Rattle.std.specs.Prelude.{◌≡◌, ◌≤◌, ◌<◌, ◌^◌, length, IfOk, IfSome, IsTrue, ◌↔◌};
+ghost use Rattle.std.specs.Prelude.{◌≡◌, ◌≤◌, ◌<◌, ◌^◌, length, IfOk, IfSome, IsTrue};
 ghost use Rattle.std.specs.List.{list_all, prefix_len};
-ghost use Rattle.ncq_base.specs.Atoms.{fraction_of, unsigned_of, number_of, atom_of};
+ghost use Rattle.ncq_base.specs.Atoms.{fraction_of, unsigned_of, number_of, atom_of, same_atom};
 ghost use Rattle.ncq_base.specs.Numbers.{is_digit};
 
 use crate::atom::Atom;
@@ -31,7 +31,7 @@ pub fn into_atom(text: Bytes) -> Atom
 
 /// Whether the atom is that of the text. It takes no memory.
 pub fn is_atom_of(atom: &Atom, text: &[u8]) -> bool
-    ensures { IsTrue result ↔ (atom.now ≡ atom_of text.now) }
+    ensures { result ≡ same_atom (atom_of text.now) atom.now }
 {
     match (atom, number_of(text)) {
         (Atom::Num(m), Some(n)) => *m == n,

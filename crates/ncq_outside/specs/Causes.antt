@@ -1,5 +1,5 @@
 -- What a read and a write tell: the bytes that they move, and when their counts rise.
-use Rattle.std.specs.Prelude.{◌≡◌, ◌-◌, ◌<◌, ◌≤◌, ◌+◌, ◌^◌, ℕ, min, List, length, Result, IfOk, OnErr, MatchResult}
+use Rattle.std.specs.Prelude.{◌≡◌, ◌-◌, ◌<◌, ◌≤◌, ◌+◌, ◌^◌, ℕ, min, List, length, Result, IfOk, IfSome, OnErr, MatchResult, Option}
 
 -- a count with n more, which stands once it has reached 2^64 - 1
 abbrev pub raised : ℕ → ℕ → ℕ
@@ -35,3 +35,7 @@ Counts before now result = MatchResult result (λ n. RoseBy before n now) (λ _.
 -- a write took at least one byte, and no more than were offered
 abbrev pub TakesSome : {E : Type 0} → Result ℕ E → List ℕ → Type 0
 TakesSome result bytes = IfOk result (λ n. (0 < n) × (n ≤ length bytes))
+
+-- where the bytes held are told, there are this many or more
+abbrev pub IsFull : ℕ → Option (List ℕ) → Type 0
+IsFull sure held = IfSome held (λ bytes. sure ≤ length bytes)

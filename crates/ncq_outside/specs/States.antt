@@ -1,5 +1,10 @@
 -- What contracts see of each source and sink of this crate.
-use Rattle.std.specs.Prelude.{ℕ, List}
+use Rattle.std.specs.Prelude.{ℕ, Bool, true, false, List, [], ◌∷◌, if◌then◌else◌}
+
+-- no call was told to fail
+abbrev pub none_fails : List ℕ → Bool
+none_fails [] = true
+none_fails (call ∷ calls) = false
 
 -- a source in memory: the bytes left, the most that a call gives, the numbers of the failing calls, and three counts
 pub record SourceState : Type 0 where
@@ -17,6 +22,10 @@ pub record SinkState : Type 0 where
   pub failing : List ℕ
   pub calls : ℕ
   pub faults : ℕ
+
+-- how many bytes a sink in memory is sure to hold: its room, where no call was told to fail
+abbrev pub sure_room : SinkState → ℕ
+sure_room sink = if none_fails sink.failing then sink.room else 0
 
 -- a source that never fails: the bytes left, the most that a call gives, and how many were given
 pub record PlainState : Type 0 where

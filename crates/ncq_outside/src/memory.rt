@@ -1,8 +1,9 @@
 //! A source and a sink in memory. Each fails at the calls that it was told to fail at.
-ghost use Rattle.std.specs.Prelude.{◌<◌, ◌≤◌, ◌≡◌, ◌⊎◌, ◌-◌, ◌↔◌, [], Some, IsTrue, IsErr, IfOk, Contains, length, min};
+ghost use Rattle.std.specs.Prelude.{◌<◌, ◌≤◌, ◌≡◌, ◌⊎◌, ◌-◌, ◌↔◌, [], Some, true, IsTrue, IsOk, IsErr, IfOk, OnErr, Contains, length, min};
 ghost use Rattle.std.specs.Io.{ReadsAtMost};
 ghost use Rattle.std.specs.Io.KnownBytes.{ReadConsumes, WriteAppends};
-ghost use Rattle.ncq_outside.specs.Causes.{HasCause, Counts, CountsFault, TakesSome, one_more};
+ghost use Rattle.ncq_outside.specs.Causes.{HasCause, Counts, CountsFault, IsFull, TakesSome, one_more};
+ghost use Rattle.ncq_outside.specs.States.{none_fails, sure_room};
 
 use crate::piece::give;
 use crate::traits::{Failed, Sink, Source};
@@ -33,7 +34,7 @@ pub struct MemorySource {
 }
 
 impl Model for MemorySource {
-    ghost use Rattle.std.specs.Prelude.{◌<◌, ◌≤◌, drop, length};
+    ghost use Rattle.std.specs.Prelude.{◌<◌, ◌≤◌, ◌≡◌, [], drop, length};
     ghost use Rattle.ncq_outside.specs.States.{SourceState};
 
     ghost Value = { SourceState };
@@ -47,14 +48,21 @@ impl Model for MemorySource {
       given = s.given;
     } };
 
-    ghost invariant = { λ s. (s.at ≤ length s.bytes) × (0 < s.piece) };
+    ghost invariant = { λ s. (s.at ≤ length s.bytes) × (0 < s.piece) × (s.failing ≡ [] → s.faults ≡ 0) };
 }
 
 /// A source of these bytes, which gives at most `piece` of them, 1 or more, in a call.
 /// The calls whose numbers stand in `failing` fail, and no others.
 pub fn memory_source(bytes: Bytes, piece: usize, failing: Calls) -> MemorySource
     requires { 0 < piece }
-    ensures { result ≡ record { left = bytes; piece = piece; failing = failing; calls = 0; faults = 0; given = 0 } }
+    ensures { result ≡ record {
+      left = bytes;
+      piece = piece;
+      failing = failing;
+      calls = 0;
+      faults = 0;
+      given = 0;
+    } }
 {
     MemorySource {
         bytes,
@@ -67,6 +75,16 @@ pub fn memory_source(bytes: Bytes, piece: usize, failing: Calls) -> MemorySource
     }
 }
 
+impl MemorySource {
+    /// How many calls failed: none, where no call was told to fail.
+    pub fn faults(&self) -> u64
+        ensures count { result ≡ self.now.faults }
+        ensures sure { self.now.failing ≡ [] → self.now.faults ≡ 0 }
+    {
+        self.faults
+    }
+}
+
 impl Source for MemorySource {
     ghost left = { λ s. Some s.left };
 
@@ -74,12 +92,16 @@ impl Source for MemorySource {
 
     ghost faults = { λ s. s.faults };
 
+    ghost is_sure = { λ s. none_fails s.failing };
+
     fn read(&mut self, buf: &mut [u8]) -> Result<usize, Failed>
         requires { 0 < length buf.old }
         ensures bound { ReadsAtMost result buf.new }
         ensures bytes { ReadConsumes (Some self.old.left) (Some self.new.left) result buf.new }
         ensures given { Counts self.old.given self.new.given result }
         ensures cause { HasCause self.old.faults self.new.faults result }
+        ensures stays { none_fails self.new.failing ≡ none_fails self.old.failing }
+        ensures sure { none_fails self.old.failing ≡ true → IsOk result }
         ensures piece { IfOk result (λ n. n ≤ self.old.piece) }
         ensures fails { IsErr result ↔ Contains self.old.failing (one_more self.old.calls) }
         ensures faults { CountsFault self.old.faults self.new.faults result }
@@ -109,7 +131,7 @@ pub struct MemorySink {
 }
 
 impl Model for MemorySink {
-    ghost use Rattle.std.specs.Prelude.{◌≤◌, vec_len, vec_capacity};
+    ghost use Rattle.std.specs.Prelude.{◌≤◌, ◌<◌, ◌≡◌, [], vec_len, vec_capacity};
     ghost use Rattle.ncq_outside.specs.States.{SinkState};
 
     ghost Value = { SinkState };
@@ -122,14 +144,21 @@ impl Model for MemorySink {
       faults = s.faults;
     } };
 
-    ghost invariant = { λ s. (vec_len s.held ≤ s.room) × (s.room ≤ vec_capacity s.held) };
+    ghost invariant = { λ s. (vec_len s.held ≤ s.room) × (s.room ≤ vec_capacity s.held)
+        × (s.failing ≡ [] → 0 < s.faults → s.room ≤ vec_len s.held) };
 }
 
 /// An empty sink with room for `room` bytes; all its memory is taken here.
 /// The calls whose numbers stand in `failing` fail, and so do those that find no room left.
 /// `AllocError` comes where there is no memory for the room.
 pub fn memory_sink(alloc: Global, room: usize, failing: Calls) -> Result<MemorySink, AllocError>
-    ensures { IfOk result (λ s. s ≡ record { held = []; room = room; failing = failing; calls = 0; faults = 0 }) }
+    ensures { IfOk result (λ sink. sink ≡ record {
+      held = [];
+      room = room;
+      failing = failing;
+      calls = 0;
+      faults = 0;
+    }) }
 {
     Ok(MemorySink {
         held: Vec::with_capacity(alloc, room)?,
@@ -147,6 +176,14 @@ impl MemorySink {
     {
         self.held.as_slice()
     }
+
+    /// How many calls failed: some, where no call was told to fail, only once it holds as many bytes as it has room for.
+    pub fn faults(&self) -> u64
+        ensures count { result ≡ self.now.faults }
+        ensures full { self.now.failing ≡ [] → 0 < self.now.faults → self.now.room ≤ length self.now.held }
+    {
+        self.faults
+    }
 }
 
 impl Sink for MemorySink {
@@ -154,12 +191,17 @@ impl Sink for MemorySink {
 
     ghost faults = { λ s. s.faults };
 
+    ghost sure = { sure_room };
+
     fn write(&mut self, buf: &[u8]) -> Result<usize, Failed>
         requires { 0 < length buf.now }
         ensures bound { TakesSome result buf.now }
         ensures bytes { WriteAppends (Some self.old.held) (Some self.new.held) result buf.now }
         ensures cause { HasCause self.old.faults self.new.faults result }
-        ensures fails { IsErr result ↔ (Contains self.old.failing (one_more self.old.calls) ⊎ (self.old.room ≤ length self.old.held)) }
+        ensures stays { sure_room self.new ≡ sure_room self.old }
+        ensures full { OnErr result (IsFull (sure_room self.old) (Some self.old.held)) }
+        ensures fails { IsErr result
+            ↔ (Contains self.old.failing (one_more self.old.calls) ⊎ (self.old.room ≤ length self.old.held)) }
         ensures takes { IfOk result (λ n. n ≡ min (length buf.now) (self.old.room - length self.old.held)) }
         ensures faults { CountsFault self.old.faults self.new.faults result }
         ensures calls { self.new.calls ≡ one_more self.old.calls }

@@ -1,5 +1,5 @@
 //! A source and a sink that never fail.
-ghost use Rattle.std.specs.Prelude.{◌<◌, ◌≤◌, ◌≡◌, None, Some, IfOk, IsOk, length};
+ghost use Rattle.std.specs.Prelude.{◌<◌, ◌≤◌, ◌≡◌, None, Some, true, IfOk, IsOk, length};
 ghost use Rattle.std.specs.Io.{ReadsAtMost};
 ghost use Rattle.std.specs.Io.KnownBytes.{ReadConsumes, WriteAppends};
 ghost use Rattle.ncq_outside.specs.Causes.{HasCause, Counts, TakesSome};
@@ -49,6 +49,8 @@ impl Source for PlainSource {
 
     ghost faults = { λ _. 0 };
 
+    ghost is_sure = { λ _. true };
+
     fn read(&mut self, buf: &mut [u8]) -> Result<usize, Failed>
         requires { 0 < length buf.old }
         ensures bound { ReadsAtMost result buf.new }
@@ -82,6 +84,8 @@ impl Sink for PlainSink {
     ghost held = { λ _. None };
 
     ghost faults = { λ _. 0 };
+
+    ghost sure = { λ _. 0 };
 
     fn write(&mut self, buf: &[u8]) -> Result<usize, Failed>
         requires { 0 < length buf.now }

@@ -1,5 +1,5 @@
 //! A source over any reader and a sink over any writer of std.
-ghost use Rattle.std.specs.Prelude.{◌<◌, ◌≡◌, None, IfOk, length, take};
+ghost use Rattle.std.specs.Prelude.{◌<◌, ◌≡◌, None, false, IfOk, length, take};
 ghost use Rattle.std.specs.Io.{ReadsAtMost};
 ghost use Rattle.std.specs.Io.KnownBytes.{ReadConsumes, WriteAppends, Appends};
 ghost use Rattle.ncq_outside.specs.Causes.{HasCause, Counts, CountsFault, TakesSome};
@@ -43,6 +43,8 @@ impl<R: Read> Source for StdSource<R> {
     ghost given = { λ s. s.given };
 
     ghost faults = { λ s. s.faults };
+
+    ghost is_sure = { λ _. false };
 
     fn read(&mut self, buf: &mut [u8]) -> Result<usize, Failed>
         requires { 0 < length buf.old }
@@ -96,13 +98,16 @@ impl<W: Write> Sink for StdSink<W> {
 
     ghost faults = { λ s. s.faults };
 
+    ghost sure = { λ _. 0 };
+
     fn write(&mut self, buf: &[u8]) -> Result<usize, Failed>
         requires { 0 < length buf.now }
         ensures bound { TakesSome result buf.now }
         ensures bytes { WriteAppends None None result buf.now }
         ensures cause { HasCause self.old.faults self.new.faults result }
         ensures faults { CountsFault self.old.faults self.new.faults result }
-        ensures written { IfOk result (λ n. Appends (W.contents self.old.writer) (W.contents self.new.writer) (take n buf.now)) }
+        ensures written { IfOk result (λ n.
+            Appends (W.contents self.old.writer) (W.contents self.new.writer) (take n buf.now)) }
     {
         if let Ok(count) = self.inner.write(buf)
             && count > 0

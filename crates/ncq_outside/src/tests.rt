@@ -49,6 +49,7 @@ fn a_memory_source_gives_pieces_and_fails_where_told(rt: HostRuntime) -> Result<
         Some(""),
     ];
     expect_reads(&rt, &mut source, &wanted);
+    assert_eq!(rt; source.faults(), 2);
     let mut wide = memory_source(bytes_of(alloc, b"abcde")?, 9, calls(alloc, &[])?);
     expect_reads(&rt, &mut wide, &[Some("abc"), Some("de"), Some("")]);
     Ok(())
@@ -67,6 +68,7 @@ fn a_memory_sink_holds_what_has_room_and_fails_where_told(rt: HostRuntime) -> Re
     ];
     expect_writes(&rt, &mut sink, &wanted);
     assert_eq!(rt; sink.held(), b"abcde".as_slice());
+    assert_eq!(rt; sink.faults(), 2);
     let mut narrow = memory_sink(alloc, 0, calls(alloc, &[])?)?;
     expect_writes(&rt, &mut narrow, &[("a", None)]);
     Ok(())

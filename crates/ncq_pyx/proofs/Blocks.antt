@@ -1,9 +1,11 @@
 -- Laws of blocks.
-use Rattle.std.proofs.Common.{◌≡◌, inl, inr, ℕ, ◌+◌, ◌<◌, ◌≤◌, List, [], ◌∷◌, ◌++◌, Some, None, Result, Ok, Err, subst, length, take, get_or, vec_len, refl, ap, sym, ◌∙◌, append_assoc, append-nil, arith}
+use Rattle.std.proofs.Common.{◌≡◌, inl, inr, ℕ, ◌+◌, ◌<◌, ◌≤◌, List, [], ◌∷◌, ◌++◌, Some, None, Result, Ok, Err, subst, length, length-append, take, drop, get_or, vec_len, refl, ap, sym, ◌∙◌, append_assoc, append-nil, arith}
 use Rattle.std.specs.Option.{option_map}
-use Rattle.std.proofs.lemmas.List.{take_more, take_all, length-reverse}
+use Rattle.std.proofs.lemmas.List.{take_more, take_all, drop_more, length-drop, length-reverse}
+use Rattle.ncq_base.specs.Lines.{IsClean, lines_in}
+use Rattle.ncq_base.proofs.LineLaws.{lines_in-cut, lines_in-clean}
 use Rattle.ncq_pyx.specs.declared.reader.OpenElement.{OpenElement}
-use Rattle.ncq_pyx.specs.declared.turns.Item.{Item}
+use Rattle.ncq_pyx.specs.declared.item.Item.{Item}
 use Rattle.ncq_pyx.specs.declared.turns.Stop.{Stop}
 use Rattle.ncq_pyx.specs.declared.turns.Stop.TheVariants.{Fault, TooDeep, OutOfMemory}
 use Rattle.ncq_pyx.specs.declared.reader.Reader.{Reader}
@@ -92,23 +94,43 @@ stands_inside limit lines reader stands f =
       other = λ h. absurd (omega arith);
     }
 
--- as the loop has it
-pub refused_block : (limit : ℕ) (lines items : List (List ℕ)) (i number : ℕ) (line item : List ℕ) (reader : Reader) (why : Stop) (answer : PyxError) → items ≡ lines → number ≡ i → i < length items → item ≡ get_or items i item → line ≡ item
-    → Stands limit (take i lines) reader → Refuses limit reader line why → answer ≡ refusal_of (number + 1) why → Refusal limit lines answer
-refused_block limit lines items i number line item reader why answer same at lt is now stands refused told =
-    let within : i < length lines = subst (λ l. i < length l) same lt in
-    let found : line ≡ get_or lines i line = cc in
-    subst (λ a. Refusal limit lines a) (ap (λ n. refusal_of (n + 1) why) (sym at) ∙ sym told)
-    (refuses_block limit lines i line reader why within found stands refused)
+-- as the loop has it: so many lines were taken, and the text that is left begins with this one
+module _ (lines : List (List ℕ)) (i : ℕ) (text line behind : List ℕ) (left : lines_in text ≡ drop i lines) (clean : IsClean line) (cut : text ≡ line ++ 10 ∷ behind) where
+  here : drop i lines ≡ line ∷ lines_in behind
+  here = sym left ∙ ap lines_in cut ∙ lines_in-cut line behind clean
 
-pub ended_block : (limit : ℕ) (lines items : List (List ℕ)) (i number : ℕ) (reader : Reader) (result : Result (List Item) PyxError) → items ≡ lines → number ≡ i → i ≤ length items → length items ≤ i
-    → Stands limit (take i lines) reader → Ends reader number result → Reads limit lines result
-ended_block limit lines items i number reader (Ok out) same at le ge stands ends =
-    let past : length lines ≤ i = subst (λ l. length l ≤ i) same ge in
+  pub line_within : i < length lines
+  line_within = omega (arith, ap length here, length-drop i lines)
+
+  parts : get_or lines i line ∷ drop (i + 1) lines ≡ line ∷ lines_in behind
+  parts = sym (drop_more lines i line line_within) ∙ here
+
+  line_is : line ≡ get_or lines i line
+  line_is = let e = parts in cc
+
+  pub lines_left : lines_in behind ≡ drop (i + 1) lines
+  lines_left = let e = parts in cc
+
+  pub fewer : length behind < length text
+  fewer = omega (arith, ap length cut, length-append line (10 ∷ behind))
+
+  pub line_stands : (limit : ℕ) (old new : Reader) → Stands limit (take i lines) old → TakesLine limit old new line → Stands limit (take (i + 1) lines) new
+  line_stands limit old new stands takes = stands_more limit lines i line old new line_within line_is stands takes
+
+  pub line_refused : (limit : ℕ) (reader : Reader) (why : Stop) → Stands limit (take i lines) reader → Refuses limit reader line why → Refusal limit lines (refusal_of (i + 1) why)
+  line_refused limit reader why stands refuses = refuses_block limit lines i line reader why line_within line_is stands refuses
+
+-- no line is left
+pub ended_block : (limit : ℕ) (lines : List (List ℕ)) (i : ℕ) (text : List ℕ) (reader : Reader) (result : Result (List Item) PyxError)
+    → lines_in text ≡ drop i lines → IsClean text → i ≤ length lines
+    → Stands limit (take i lines) reader → Ends reader i result → Reads limit lines result
+ended_block limit lines i text reader (Ok out) left clean le stands ends =
+    let none : drop i lines ≡ [] = sym left ∙ lines_in-clean text clean in
+    let past : length lines ≤ i = omega (arith, ap length none, length-drop i lines) in
     stands_end limit lines reader (subst (λ l. Stands limit l reader) (take_all i lines past) stands) ends.1 ∙ ap Some (sym ends.0)
-ended_block limit lines items i number reader (Err why) same at le ge stands ends =
-    let past : length lines ≤ i = subst (λ l. length l ≤ i) same ge in
-    let here : i ≤ length lines = subst (λ l. i ≤ length l) same le in
-    let count : length lines + 1 ≡ number + 1 = omega arith in
+ended_block limit lines i text reader (Err why) left clean le stands ends =
+    let none : drop i lines ≡ [] = sym left ∙ lines_in-clean text clean in
+    let past : length lines ≤ i = omega (arith, ap length none, length-drop i lines) in
+    let count : length lines + 1 ≡ i + 1 = omega arith in
     subst (λ a. Refusal limit lines a) (ap (λ n. BadLine n) count ∙ sym ends.0)
     (stands_inside limit lines reader (subst (λ l. Stands limit l reader) (take_all i lines past) stands) ends.1)

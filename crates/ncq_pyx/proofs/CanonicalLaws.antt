@@ -11,7 +11,7 @@ use Rattle.ncq_tree.specs.declared.model.Node.TheVariants.{Text as text_node, El
 use Rattle.ncq_tree.specs.declared.model.Element.{Element}
 use Rattle.ncq_tree.specs.Nodes.{by_nodes_element, by_nodes_text}
 use Rattle.ncq_pyx.specs.declared.turns.Turn.TheVariants.{Begin, Give, Say}
-use Rattle.ncq_pyx.specs.declared.turns.Item.{Item}
+use Rattle.ncq_pyx.specs.declared.item.Item.{Item}
 use Rattle.ncq_base.specs.Escapes.{unescaped, unescaped_behind, escaped, escaped_byte}
 use Rattle.ncq_base.specs.Names.{is_pyx_name, is_pyx_name_byte}
 use Rattle.ncq_tree.specs.Normal.{has_name}

@@ -1,7 +1,7 @@
 -- At most one answer is right.
 use Rattle.std.proofs.Common.{◌≡◌, inl, inr, ℕ, ◌+◌, ◌<◌, ◌≤◌, List, ◌++◌, Some, Result, Ok, Err, length, take, drop, ap, sym, ◌∙◌, subst, append_assoc, arith}
 use Rattle.std.proofs.lemmas.List.{take-append-drop, take-take}
-use Rattle.ncq_pyx.specs.declared.turns.Item.{Item}
+use Rattle.ncq_pyx.specs.declared.item.Item.{Item}
 use Rattle.ncq_pyx.specs.declared.error.PyxError.{PyxError}
 use Rattle.ncq_pyx.specs.declared.error.PyxError.TheVariants.{BadLine, TooDeep, OutOfMemory}
 use Rattle.ncq_pyx.specs.Spells.{CanGoOn, IsBlock, IsFault, IsBadLine, IsTooDeep, EndsAt, Reads, Gives, IsAnswer, spelled}

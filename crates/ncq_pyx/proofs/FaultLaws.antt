@@ -3,7 +3,7 @@ use Rattle.std.proofs.Common.{◌≡◌, inl, inr, ℕ, ◌+◌, ◌≤◌, true
 use Rattle.std.specs.Option.{option_map}
 use Rattle.std.proofs.Math.Seq.{take-append_seam}
 use Rattle.ncq_pyx.specs.declared.turns.Turn.{Turn}
-use Rattle.ncq_pyx.specs.declared.turns.Item.{Item}
+use Rattle.ncq_pyx.specs.declared.item.Item.{Item}
 use Rattle.ncq_pyx.specs.declared.error.PyxError.{PyxError}
 use Rattle.ncq_pyx.specs.declared.error.PyxError.TheVariants.{BadLine, TooDeep, OutOfMemory}
 use Rattle.ncq_pyx.specs.Spells.{Place, Rest, outside, nothing, turn, fits, moved, told, spell, spell_end, spelled, CanGoOn, IsFault, IsBadLine, IsTooDeep, Refusal, Reads, IsAnswer}

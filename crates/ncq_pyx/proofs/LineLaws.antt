@@ -39,14 +39,15 @@ text_written node text slice out new is same written =
     written ∙ ap (λ v. out ++ ended (45 ∷ escaped v)) same
     ∙ ap (λ v. out ++ v) (sym (append-nil (ended (45 ∷ escaped text))) ∙ ap bytes_of_lines (sym (lines_text text)) ∙ ap (λ n. bytes_of_lines (node_lines n)) (sym is))
 
-pub element_written : (node : Node) (e : Element) (n1 n2 : List ℕ) (attributes : List Attribute) (out out1 out2 out3 new : List ℕ) → node ≡ element_node e → n1 ≡ e.name → n2 ≡ e.name → attributes ≡ e.attributes
+pub element_written : (e : Element) (n1 n2 : List ℕ) (attributes : List Attribute) (out out1 out2 out3 new : List ℕ)
+    → n1 ≡ e.name → n2 ≡ e.name → attributes ≡ e.attributes
     → out1 ≡ out ++ ended (40 ∷ n1) → out2 ≡ out1 ++ bytes_of_lines (map attribute_line attributes) → out3 ≡ out2 ++ pyx e.children → new ≡ out3 ++ ended (41 ∷ n2)
-    → new ≡ out ++ bytes_of_lines (node_lines node)
-element_written node e n1 n2 attributes out out1 out2 out3 new is a b c w1 w2 w3 w4 =
+    → new ≡ out ++ bytes_of_lines (node_lines (element_node e))
+element_written e n1 n2 attributes out out1 out2 out3 new a b c w1 w2 w3 w4 =
     let f1 : out1 ≡ out ++ ended (40 ∷ e.name) = w1 ∙ ap (λ n. out ++ ended (40 ∷ n)) a in
     let f2 : out2 ≡ out1 ++ bytes_of_lines (map attribute_line e.attributes) = w2 ∙ ap (λ n. out1 ++ bytes_of_lines (map attribute_line n)) c in
     let f4 : new ≡ out3 ++ ended (41 ∷ e.name) = w4 ∙ ap (λ n. out3 ++ ended (41 ∷ n)) b in
     f4
     ∙ ap (λ v. v ++ ended (41 ∷ e.name)) (w3 ∙ ap (λ v. v ++ pyx e.children) (f2 ∙ ap (λ v. v ++ bytes_of_lines (map attribute_line e.attributes)) f1))
     ∙ regroup out (ended (40 ∷ e.name)) (bytes_of_lines (map attribute_line e.attributes)) (pyx e.children) (ended (41 ∷ e.name))
-    ∙ ap (λ v. out ++ v) (sym (element_bytes e) ∙ ap (λ n. bytes_of_lines (node_lines n)) (sym is))
+    ∙ ap (λ v. out ++ v) (sym (element_bytes e))

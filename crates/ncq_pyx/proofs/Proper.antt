@@ -16,7 +16,7 @@ use Rattle.ncq_tree.specs.Normal.{node_is_normal, is_normal, are_apart, are_risi
 use Rattle.ncq_tree.proofs.NormalLaws.{seconds, element_normal}
 use Rattle.ncq_tree.proofs.NormalAgain.{all_below, stands_below, step_below, next_below, whole_normal_stays}
 use Rattle.ncq_tree.proofs.Inductions.{nodes_induction}
-use Rattle.ncq_pyx.specs.declared.turns.Item.TheVariants.{Put}
+use Rattle.ncq_pyx.specs.declared.item.Item.TheVariants.{Put}
 use Rattle.ncq_base.specs.Names.{is_pyx_name}
 use Rattle.ncq_tree.specs.Normal.{has_name}
 use Rattle.ncq_pyx.specs.LineKinds.{same}

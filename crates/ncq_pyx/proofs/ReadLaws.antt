@@ -18,7 +18,7 @@ use Rattle.ncq_tree.proofs.NormalMade.{whole_made, element_distinct, normal_made
 use Rattle.ncq_tree.proofs.Inductions.{nodes_induction}
 use Rattle.ncq_pyx.specs.declared.turns.Turn.{Turn}
 use Rattle.ncq_pyx.specs.declared.turns.Turn.TheVariants.{Nothing, Begin, Give, Say, Finish, Erase}
-use Rattle.ncq_pyx.specs.declared.turns.Item.{Item}
+use Rattle.ncq_pyx.specs.declared.item.Item.{Item}
 use Rattle.ncq_pyx.specs.declared.error.PyxError.{PyxError}
 use Rattle.ncq_pyx.specs.LineKinds.{turn_at, begin_of, give_of, say_of, finish_of, erase_of, is_skipped, name_part, value_part, same}
 use Rattle.ncq_pyx.specs.Spells.{Place, Rest, Content, outside, turn, fits, one_more, moved, with_attribute, with_node, first_content, other_contents, element_of, put, begun, told, spell_end, spell_turn, spell, Spells, Reads}

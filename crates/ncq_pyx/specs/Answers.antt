@@ -1,4 +1,4 @@
--- What a function answers, against a definition.
+-- What a function answers, against a definition. Only the crate's private clauses cite it.
 use Rattle.std.specs.Prelude.{◌≡◌, Option, Some, None, Result, Ok, Err}
 use Rattle.ncq_pyx.specs.declared.turns.Turn.{Turn}
 use Rattle.ncq_pyx.specs.declared.turns.Stop.{Stop}

@@ -4,8 +4,8 @@ use Rattle.std.specs.List.{flat_map, list_all}
 use Rattle.ncq_tree.specs.declared.model.Attribute.{Attribute}
 use Rattle.ncq_tree.specs.declared.model.Node.{Node}
 use Rattle.ncq_tree.specs.declared.model.Node.TheVariants.{Element as element_node}
-use Rattle.ncq_pyx.specs.declared.turns.Item.{Item}
-use Rattle.ncq_pyx.specs.declared.turns.Item.TheVariants.{Put, Remove}
+use Rattle.ncq_pyx.specs.declared.item.Item.{Item}
+use Rattle.ncq_pyx.specs.declared.item.Item.TheVariants.{Put, Remove}
 use Rattle.ncq_tree.specs.Nodes.{by_nodes}
 use Rattle.ncq_base.specs.Escapes.{escaped}
 use Rattle.ncq_base.specs.Names.{is_pyx_name}

@@ -1,10 +1,14 @@
 -- What the lines of a block say, as a function: the items that they spell, or the first fault.
 use Rattle.std.specs.Prelude.{ℕ, ◌+◌, List, [], ◌∷◌, length, Option, Some, None, Result, Ok, Err, if◌then◌else◌}
 use Rattle.ncq_pyx.specs.declared.turns.Turn.{Turn}
-use Rattle.ncq_pyx.specs.declared.turns.Item.{Item}
+use Rattle.ncq_pyx.specs.declared.item.Item.{Item}
 use Rattle.ncq_pyx.specs.declared.error.PyxError.{PyxError}
 use Rattle.ncq_pyx.specs.declared.error.PyxError.TheVariants.{BadLine, TooDeep}
 use Rattle.ncq_pyx.specs.Spells.{Place, Rest, outside, nothing, turn, fits, moved, told}
+
+-- at most so many elements are open in one another
+abbrev pub max_nesting : ℕ
+max_nesting = 64
 
 -- what is to come from a line on, unless there is a fault behind it
 abbrev pub with_told : Turn → Place → Result Rest PyxError → Result Rest PyxError
@@ -27,6 +31,7 @@ abbrev pub read_from : ℕ → ℕ → List (List ℕ) → Place → Result Rest
 read_from limit number [] place = read_end number place.open_names
 read_from limit number (line ∷ lines) place = read_turn limit number (λ p. read_from limit (number + 1) lines p) place (turn place line)
 
+-- the items of what is to come
 abbrev pub items_of : Result Rest PyxError → Result (List Item) PyxError
 items_of (Ok rest) = Ok rest.items
 items_of (Err why) = Err why

@@ -1,4 +1,4 @@
--- What a reader holds, against what the lines spell.
+-- What a reader holds, against what the lines spell. Only the crate's private clauses cite it.
 use Rattle.std.specs.Prelude.{◌≡◌, ◌≤◌, ◌<◌, ◌+◌, ℕ, Bool, true, false, List, [], ◌∷◌, ◌++◌, map, reverse, Option, Some, None, Result, Ok, Err, vec_len}
 use Rattle.std.specs.Option.{option_map}
 use Rattle.ncq_tree.specs.declared.model.Attribute.{Attribute}
@@ -6,7 +6,7 @@ use Rattle.ncq_tree.specs.declared.model.Element.{Element}
 use Rattle.ncq_pyx.specs.declared.reader.OpenElement.{OpenElement}
 use Rattle.ncq_pyx.specs.declared.turns.Turn.{Turn}
 use Rattle.ncq_pyx.specs.declared.turns.Turn.TheVariants.{Nothing, Begin, Give, Say, Finish, Erase}
-use Rattle.ncq_pyx.specs.declared.turns.Item.{Item}
+use Rattle.ncq_pyx.specs.declared.item.Item.{Item}
 use Rattle.ncq_pyx.specs.declared.turns.Stop.{Stop}
 use Rattle.ncq_pyx.specs.declared.turns.Stop.TheVariants.{Fault, TooDeep, OutOfMemory}
 use Rattle.ncq_pyx.specs.declared.reader.Reader.{Reader}

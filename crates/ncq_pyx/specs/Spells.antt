@@ -8,8 +8,8 @@ use Rattle.ncq_tree.specs.declared.model.Node.{Node}
 use Rattle.ncq_tree.specs.declared.model.Node.TheVariants.{Text, Element as element_node}
 use Rattle.ncq_pyx.specs.declared.turns.Turn.{Turn}
 use Rattle.ncq_pyx.specs.declared.turns.Turn.TheVariants.{Nothing, Begin, Give, Say, Finish, Erase}
-use Rattle.ncq_pyx.specs.declared.turns.Item.{Item}
-use Rattle.ncq_pyx.specs.declared.turns.Item.TheVariants.{Put, Remove}
+use Rattle.ncq_pyx.specs.declared.item.Item.{Item}
+use Rattle.ncq_pyx.specs.declared.item.Item.TheVariants.{Put, Remove}
 use Rattle.ncq_pyx.specs.declared.error.PyxError.{PyxError}
 use Rattle.ncq_pyx.specs.declared.error.PyxError.TheVariants.{BadLine, TooDeep, OutOfMemory}
 use Rattle.ncq_pyx.specs.LineKinds.{turn_at}

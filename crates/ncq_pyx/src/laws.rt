@@ -1,14 +1,16 @@
 //! Laws of what lines spell and of what is written. The functions do nothing: each is its contract.
-ghost use Rattle.std.specs.Prelude.{◌≡◌, ◌∷◌, [], ◌≤◌, List, ℕ, true};
+ghost use Rattle.std.specs.Prelude.{◌≡◌, ◌∷◌, [], ◌≤◌, List, ℕ, Result, true};
 ghost use Rattle.std.specs.List.{list_all};
 ghost use Rattle.ncq_tree.specs.declared.model.Node.{Node};
 ghost use Rattle.ncq_tree.specs.declared.model.Node.TheVariants.{Element as element_node};
 ghost use Rattle.ncq_tree.specs.declared.model.Element.{Element};
-ghost use Rattle.ncq_pyx.specs.declared.turns.Item.{Item};
-ghost use Rattle.ncq_pyx.specs.Spells.{Spells, put};
+ghost use Rattle.ncq_pyx.specs.declared.item.Item.{Item};
+ghost use Rattle.ncq_pyx.specs.Spells.{Spells, put, Reads, IsAnswer, Gives};
+ghost use Rattle.ncq_pyx.specs.Faults.{block_of};
+ghost use Rattle.ncq_pyx.specs.declared.error.PyxError.{PyxError};
 ghost use Rattle.ncq_pyx.specs.Canonical.{node_lines, canonical, pyx, is_good, is_named, is_proper, item_is_proper, depth};
 ghost use Rattle.ncq_tree.specs.Normal.{node_is_normal};
-ghost use Rattle.ncq_pyx.specs.declared.turns.Item.TheVariants.{Put};
+ghost use Rattle.ncq_pyx.specs.declared.item.Item.TheVariants.{Put};
 ghost use Rattle.ncq_base.specs.Escapes.{escaped, unescaped};
 
 /// What is escaped stands for itself.
@@ -42,4 +44,11 @@ pub fn proper_is_read()
 /// Each element that lines put is proper: it is normal, and all its names are PYX names.
 pub fn spelled_is_proper()
     ensures { (limit : ℕ) (lines : List (List ℕ)) (items : List Item) → Spells limit lines items → list_all item_is_proper items ≡ true }
+{}
+
+/// What `block_of` says of lines is right: the items that they spell, or their first fault. No other answer is, but that
+/// memory ran out.
+pub fn blocks_are_exact()
+    ensures right { (limit : ℕ) (lines : List (List ℕ)) → Reads limit lines (block_of limit lines) }
+    ensures only { (limit : ℕ) (lines : List (List ℕ)) (answer : Result (List Item) PyxError) → Reads limit lines answer → Gives answer (block_of limit lines) }
 {}

@@ -6,6 +6,7 @@
 #![tactic(auto)]
 
 mod error;
+mod item;
 mod laws;
 mod reader;
 mod tag;
@@ -15,10 +16,10 @@ mod turns;
 mod writing;
 
 pub use error::PyxError;
+pub use item::{Item, Items};
 pub use laws::{
-    escapes_are_undone, proper_is_read, spelled_is_proper, spelled_once, written_is_read,
+    blocks_are_exact, escapes_are_undone, proper_is_read, spelled_is_proper, spelled_once, written_is_read,
     written_once,
 };
-pub use reader::{Items, MAX_NESTING, read_block};
-pub use turns::Item;
-pub use writing::{write_attributes, write_forest, write_name, write_text};
+pub use reader::{MAX_NESTING, read_block};
+pub use writing::{write_attributes, write_element, write_forest, write_name, write_text};

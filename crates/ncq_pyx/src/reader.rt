@@ -3,22 +3,20 @@ ghost use Rattle.std.specs.Prelude.{◌≡◌, ◌≤◌, ◌<◌, ◌+◌, ◌^
 ghost use Rattle.std.specs.Option.{option_copied};
 ghost use Rattle.std.specs.List.{list_all};
 ghost use Rattle.ncq_pyx.specs.Canonical.{item_is_proper};
-ghost use Rattle.ncq_pyx.specs.Faults.{block_of};
+ghost use Rattle.ncq_pyx.specs.Faults.{block_of, max_nesting};
 ghost use Rattle.ncq_pyx.specs.Spells.{innermost, fits, Reads, IsAnswer, Gives};
 ghost use Rattle.std.specs.Prelude.{List, Result, true};
-ghost use Rattle.ncq_pyx.specs.declared.turns.Item.{Item};
+ghost use Rattle.ncq_pyx.specs.declared.item.Item.{Item};
 ghost use Rattle.ncq_pyx.specs.declared.error.PyxError.{PyxError};
 ghost use Rattle.ncq_pyx.specs.Reading.{frames_of, names_of, given_of, ErasesOutside, Takes, Places, Answers, Ends, refusal_of};
 
 use crate::error::PyxError;
+use crate::item::{Item, Items};
 use crate::tag::TagAttributes;
-use crate::turns::{Item, Stop, Turn, turn_of};
-use ncq_base::{Bytes, Lines, Sequence};
+use crate::turns::{Stop, Turn, turn_of};
+use ncq_base::{Bytes, Lines, first_line};
 use ncq_tree::{Attribute, Element, Forest, Node, normal_element};
 use std::alloc::{AllocError, Global};
-
-/// What a block asks for, in order.
-pub type Items = Sequence<Item>;
 
 /// An element that is open: its name, and what was read of it so far.
 #[derive(Drop)]
@@ -101,7 +99,7 @@ impl Reader {
                 self.stack.push(outer)?;
             }
             None => {
-                let element = normal_element(self.alloc, &element)?;
+                let element = normal_element(self.alloc, element)?;
                 self.items.push(Item::Put(element))?;
             }
         }
@@ -192,10 +190,11 @@ pub const MAX_NESTING: usize = 64;
 /// lines end inside an element it is their number plus 1. `TooDeep` comes in its place where that line is good but for
 /// opening an element inside 64 others. `OutOfMemory` is want of memory.
 pub fn read_block(alloc: Global, lines: &Lines) -> Result<Items, PyxError>
-    ensures reads { Reads MAX_NESTING lines.now result }
-    ensures exactly { (answer : Result (List Item) PyxError) → Reads MAX_NESTING lines.now answer → IsAnswer answer → Gives result answer }
+    ensures reads { Reads max_nesting lines.now result }
+    ensures exactly { (answer : Result (List Item) PyxError) →
+        Reads max_nesting lines.now answer → IsAnswer answer → Gives result answer }
     ensures proper { IfOk result (λ items. list_all item_is_proper items ≡ true) }
-    ensures block { Gives result (block_of MAX_NESTING lines.now) }
+    ensures block { Gives result (block_of max_nesting lines.now) }
 {
     read_nested(alloc, lines, MAX_NESTING)
 }
@@ -203,7 +202,10 @@ pub fn read_block(alloc: Global, lines: &Lines) -> Result<Items, PyxError>
 /// The items that the lines spell, with at most so many elements open in one another.
 pub(crate) fn read_nested(alloc: Global, lines: &Lines, limit: usize) -> Result<Items, PyxError>
     ensures reads { Reads limit lines.now result }
-    ensures exactly { (answer : Result (List Item) PyxError) → Reads limit lines.now answer → IsAnswer answer → Gives result answer }
+    ensures exactly { (answer : Result (List Item) PyxError) →
+        Reads limit lines.now answer → IsAnswer answer → Gives result answer }
+    ensures proper { IfOk result (λ items. list_all item_is_proper items ≡ true) }
+    ensures block { Gives result (block_of limit lines.now) }
 {
     read_lines(alloc, lines, limit)
 }
@@ -214,18 +216,20 @@ fn read_lines(alloc: Global, lines: &Lines, limit: usize) -> Result<Items, PyxEr
 {
     let mut reader = Reader::new(alloc);
     let mut number = 0;
-    for line in lines.as_slice() {
+    let mut rest = lines.text();
+    while let Some((line, behind)) = first_line(rest) {
         number += 1;
-        if let Err(why) = reader.step(line.as_slice(), limit) {
+        if let Err(why) = reader.step(line, limit) {
             return Err(refusal(why, number));
         }
+        rest = behind;
     }
     finish(reader, number)
 }
 
 /// The items, where no element is open behind the lines.
 fn finish(reader: Reader, count: u64) -> Result<Items, PyxError>
-    requires { count < 2 ^ 62 }
+    requires { count < 2 ^ 63 }
     ensures { Ends reader count result }
 {
     let Reader { stack, items, .. } = reader;

@@ -1,5 +1,5 @@
-use crate::{Item, Items, MAX_NESTING, PyxError, read_block, write_forest};
-use ncq_base::{Lines, bytes_of};
+use crate::{Item, Items, MAX_NESTING, PyxError, read_block, write_element, write_forest};
+use ncq_base::{Lines, bytes_of, is_line};
 use ncq_tree::{Attribute, Attributes, Element, Forest, Node};
 use std::alloc::{AllocError, Global};
 use std::process::Abort;
@@ -9,20 +9,23 @@ use std::test::Fail;
 fn lines_of(alloc: Global, text: &[u8]) -> Result<Lines, AllocError> {
     let mut lines = Lines::new(alloc);
     for line in text.split(|b| *b == b'/') {
-        lines.push(bytes_of(alloc, line)?)?;
+        push_line(&mut lines, line)?;
     }
     Ok(lines)
 }
 
+fn push_line(lines: &mut Lines, line: &[u8]) -> Result<(), AllocError> {
+    if !is_line(line) {
+        return Err(AllocError);
+    }
+    lines.push(line)
+}
+
 /// The canonical lines of each element, and `!` and the key of each removal.
-fn write_items(alloc: Global, items: Items, out: &mut Vec<u8>) -> Result<(), AllocError> {
+fn write_items(items: Items, out: &mut Vec<u8>) -> Result<(), AllocError> {
     for item in items.into_vec() {
         match item {
-            Item::Put(element) => {
-                let mut forest = Forest::new(alloc);
-                forest.push(Node::Element(element))?;
-                write_forest(&forest, out)?;
-            }
+            Item::Put(element) => write_element(&element, out)?,
             Item::Remove(key) => {
                 out.push(b'!')?;
                 out.extend_from_slice(key.as_slice())?;
@@ -38,7 +41,7 @@ fn answer(alloc: Global, lines: &Lines) -> Result<String, AllocError> {
     match read_block(alloc, lines) {
         Ok(items) => {
             let mut out = Vec::new(alloc);
-            write_items(alloc, items, &mut out)?;
+            write_items(items, &mut out)?;
             let mut shown = String::new(alloc);
             for byte in &out {
                 let shown_byte = if *byte == b'\n' { b'/' } else { *byte };
@@ -320,11 +323,11 @@ fn bytes_that_are_no_text_are_kept(rt: HostRuntime) -> Result<(), Fail> {
 fn nested(alloc: Global, opened: usize, line: &str, closed: usize) -> Result<Lines, AllocError> {
     let mut lines = Lines::new(alloc);
     for _ in 0..opened {
-        lines.push(bytes_of(alloc, b"(e")?)?;
+        push_line(&mut lines, b"(e")?;
     }
-    lines.push(bytes_of(alloc, line.as_bytes())?)?;
+    push_line(&mut lines, line.as_bytes())?;
     for _ in 0..closed {
-        lines.push(bytes_of(alloc, b")e")?)?;
+        push_line(&mut lines, b")e")?;
     }
     Ok(lines)
 }

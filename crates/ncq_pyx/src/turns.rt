@@ -8,15 +8,8 @@ ghost use Rattle.ncq_pyx.specs.Answers.{Turns};
 
 use crate::tag::TagAttributes;
 use ncq_base::{Bytes, bytes_of, is_pyx_name, is_space, unescape};
-use ncq_tree::{Attribute, Element};
+use ncq_tree::Attribute;
 use std::alloc::{AllocError, Global};
-
-/// What a block asks for: to put an element, which is in normal form, or to remove the element of a key.
-#[derive(Drop)]
-pub enum Item {
-    Put(Element),
-    Remove(Bytes),
-}
 
 /// What a line does: nothing, open an element of this name, give the innermost an attribute, add a text to it,
 /// close it, or ask for a removal by this key.

@@ -1,10 +1,11 @@
 //! Writing the canonical lines of a forest.
 ghost use Rattle.std.specs.Prelude.{◌≡◌, ◌++◌, ◌∷◌, [], OnOk, OnErr, length, take, map};
 ghost use Rattle.ncq_base.specs.Escapes.{escaped};
+ghost use Rattle.ncq_tree.specs.declared.model.Node.TheVariants.{Element as element_node};
 ghost use Rattle.ncq_pyx.specs.Canonical.{ended, attribute_line, bytes_of_lines, node_lines, pyx};
 
 use ncq_base::write_escaped;
-use ncq_tree::{Attribute, Forest, Node};
+use ncq_tree::{Attribute, Element, Forest, Node};
 use std::alloc::AllocError;
 
 /// Appends the canonical lines of the forest, each ended by LF: for a text `-` and the escaped text; for an element
@@ -16,6 +17,21 @@ pub fn write_forest(forest: &Forest, out: &mut Vec<u8>) -> Result<(), AllocError
 {
     let before = out.len();
     let written = write_nodes(forest, out);
+    if written.is_err() {
+        out.truncate(before);
+    }
+    written
+}
+
+/// Appends the canonical lines of the element, each ended by LF.
+/// The only error is want of memory, and then `out` is as before.
+pub fn write_element(element: &Element, out: &mut Vec<u8>) -> Result<(), AllocError>
+    ensures ok { OnOk result
+        (out.new.items ≡ out.old.items ++ bytes_of_lines (node_lines (element_node element.now))) }
+    ensures err { OnErr result (out.new.items ≡ out.old.items) }
+{
+    let before = out.len();
+    let written = write_lines(element, out);
     if written.is_err() {
         out.truncate(before);
     }
@@ -44,13 +60,22 @@ fn write_node(node: &Node, out: &mut Vec<u8>) -> Result<(), AllocError>
 {
     match node {
         Node::Text(text) => write_text(text.as_slice(), out),
-        Node::Element(element) => {
-            write_name(b'(', element.name.as_slice(), out)?;
-            write_attributes(element.attributes.as_slice(), out)?;
-            write_nodes(&element.children, out)?;
-            write_name(b')', element.name.as_slice(), out)
-        }
+        Node::Element(element) => write_lines(element, out),
     }
+}
+
+/// Appends the lines of the element; what was there stays in front.
+#[cycle(writing)]
+#[tactic(auto, using(crate::proofs::LineLaws::lines_are))]
+fn write_lines(element: &Element, out: &mut Vec<u8>) -> Result<(), AllocError>
+    ensures ok { OnOk result
+        (out.new.items ≡ out.old.items ++ bytes_of_lines (node_lines (element_node element.now))) }
+    ensures front { take (length out.old.items) out.new.items ≡ out.old.items }
+{
+    write_name(b'(', element.name.as_slice(), out)?;
+    write_attributes(element.attributes.as_slice(), out)?;
+    write_nodes(&element.children, out)?;
+    write_name(b')', element.name.as_slice(), out)
 }
 
 /// Appends the line of a text; what was there stays in front.

@@ -14,7 +14,7 @@ use Rattle.ncq_base.proofs.Totals.{is_equal}
 use Rattle.ncq_bag.specs.Bags.{difference}
 use Rattle.ncq_callback.specs.Texts.{print_text}
 use Rattle.ncq_tree.specs.declared.model.Element.{Element}
-use Rattle.ncq_pyx.specs.declared.turns.Item.{Item}
+use Rattle.ncq_pyx.specs.declared.item.Item.{Item}
 use Rattle.ncq_source.specs.Changes.{store_after}
 use Rattle.ncq_source.specs.declared.key.Key.{Key}
 use Rattle.ncq_run.specs.declared.command.ChildQuery.{ChildQuery}

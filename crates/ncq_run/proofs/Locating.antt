@@ -6,7 +6,7 @@ use Rattle.std.proofs.lemmas.Bool.Decides.{nat_tests}
 use Rattle.std.proofs.lemmas.List.Quantifiers.{position-Some}
 use Rattle.std.specs.FinMap.{empty}
 use Rattle.ncq_base.specs.Keys.{is_key, map_of}
-use Rattle.ncq_pyx.specs.declared.turns.Item.{Item}
+use Rattle.ncq_pyx.specs.declared.item.Item.{Item}
 use Rattle.std.proofs.lemmas.Option.{slice_get-get_or}
 use Rattle.ncq_source.specs.Changes.{store_after, after}
 use Rattle.ncq_source.specs.Stores.{kept, without_room, Follows}

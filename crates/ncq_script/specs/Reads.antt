@@ -5,7 +5,7 @@ use Rattle.ncq_base.specs.Names.{is_pyx_name}
 use Rattle.ncq_base.specs.Numbers.{read_u64}
 use Rattle.ncq_base.specs.declared.limit.Limit.TheVariants.{Line, Nesting}
 use Rattle.ncq_pyx.specs.Faults.{block_of}
-use Rattle.ncq_pyx.specs.declared.turns.Item.{Item}
+use Rattle.ncq_pyx.specs.declared.item.Item.{Item}
 use Rattle.ncq_pyx.specs.declared.error.PyxError.{PyxError}
 use Rattle.ncq_pyx.specs.declared.error.PyxError.TheVariants.{BadLine, TooDeep, OutOfMemory}
 use Rattle.ncq_source.specs.declared.key.Key.{Key}

@@ -9,16 +9,17 @@ use Rattle.std.specs.Option.{option_map}
 use Rattle.ncq_base.specs.Keys.{map_of}
 use Rattle.ncq_base.proofs.Keyed.{get_map_of}
 use Rattle.ncq_tree.specs.declared.model.Element.{Element}
-use Rattle.ncq_source.specs.Changes.{after, taken}
+use Rattle.ncq_source.specs.Changes.{after, taken, store_after}
 use Rattle.ncq_source.specs.Held.{Kept, with_at}
-use Rattle.ncq_source.specs.Promises.{CommitApplies, OthersStay, PartsAddUp, DeclareStaysProper, RoomStaysProper, CommitStaysProper}
-use Rattle.ncq_source.specs.Proper.{IsProper, HoldsProper, PutsProper}
-use Rattle.ncq_source.specs.Stores.{kept, without_room}
+use Rattle.ncq_pyx.specs.declared.item.Item.{Item}
+use Rattle.ncq_source.specs.ChangeStates.{ChangeState}
+use Rattle.ncq_source.specs.Prepared.{IsPrepared}
+use Rattle.ncq_source.specs.Proper.{IsProper, IsProperStore, HoldsProper, PutsProper}
+use Rattle.ncq_source.specs.Stores.{Source, declared, without_room}
+use Rattle.ncq_source.specs.StoreStates.{StoreState, Declares, IsAlike, IsCommitted}
 use Rattle.ncq_source.specs.declared.change.Entry.{Entry}
-use Rattle.ncq_source.specs.declared.key.Key.{Key}
 use Rattle.ncq_source.proofs.Over.{get_with_at}
-use Rattle.ncq_source.proofs.Places.{same_Some, at_set_or}
-use Rattle.ncq_source.proofs.Shown.{same_at, from_map}
+use Rattle.ncq_source.proofs.Places.{same_Some, at_set_or, same_at, from_map}
 
 module _ {A : Type 0} where
   -- a place within a list has an item
@@ -49,24 +50,28 @@ module _ {A : Type 0} where
   by_push P (x ∷ xs) zero y t one old h = old h
   by_push P (x ∷ xs) (suc j) y t one old h = by_push P xs j y t one old h
 
-abbrev Parts : Type 0
-Parts = List ℕ × List ℕ × Key × List (List ℕ × Element) × ℕ
-
-pub commit_applies : CommitApplies
+-- a change that was prepared, given room and committed leaves its source with the elements after the items
+pub commit_applies : (store ready done : StoreState) (change : ChangeState) (items : List Item) (s t : Source)
+    → slice_get store.sources change.source.0 ≡ Some s → IsPrepared s items change.entries
+    → map without_room ready.sources ≡ map without_room store.sources → IsCommitted ready change done
+    → slice_get done.sources change.source.0 ≡ Some t → t.elements ≡ store_after s.key s.elements items
 commit_applies store ready done change items s t here made same committed last =
     let at = change.source.0 in
     let r = same_at without_room ready.sources store.sources at s same here in
     let c = committed.sources r.0 r.1 in
     let is : t ≡ c.0 = at_set_or ready.sources at c.0 t (slice_get_within ready.sources at r.0 r.1) (subst (λ xs. slice_get xs at ≡ Some t) c.1 last) in
-    ap kept is ∙ c.2.elements ∙ ap (λ (parts : Parts). after (map_of parts.3) change.entries) r.2 ∙ made.fold
+    ap (λ (x : Source). x.elements) is ∙ c.2.elements ∙ ap (λ (x : Source). after x.elements change.entries) r.2 ∙ made.fold
 
-pub others_stay : OthersStay
+-- a commit leaves every other source as it was
+pub others_stay : (ready done : StoreState) (change : ChangeState) → change.source.0 < length ready.sources → IsCommitted ready change done
+    → (other : ℕ) → other ≢ change.source.0 → slice_get done.sources other ≡ slice_get ready.sources other
 others_stay ready done change within committed other apart =
     let r = some_at ready.sources change.source.0 within in
     let c = committed.sources r.0 r.1 in
     ap (λ xs. slice_get xs other) c.1 ∙ set_other ready.sources change.source.0 other c.0 apart
 
-pub parts_add_up : PartsAddUp
+-- items taken at once and in two parts lead to the same elements
+pub parts_add_up : (rule : _) (kept : Kept) (first second : List Item) → store_after rule kept (first ++ second) ≡ store_after rule (store_after rule kept first) second
 parts_add_up rule kept [] second = refl
 parts_add_up rule kept (item ∷ first) second = parts_add_up rule (taken rule kept item) first second
 
@@ -81,26 +86,37 @@ after_proper : (kept : Kept) (entries : List Entry) → HoldsProper kept → Put
 after_proper kept [] proper puts = proper
 after_proper kept (entry ∷ entries) proper puts = after_proper (with_at kept entry.key entry.after) entries (with_proper kept entry.key entry.after proper puts.0) puts.1
 
-abbrev are_proper : Parts → Type 0
-are_proper parts = HoldsProper (map_of parts.3)
+abbrev are_proper : Source → Type 0
+are_proper source = HoldsProper source.elements
 
 none_proper : HoldsProper (map_of [])
 none_proper key = subst (λ o. IfSome o IsProper) (sym (get_map_of [] key)) tt
 
-pub declare_stays_proper : DeclareStaysProper
-declare_stays_proper old new name root key more proper at t here =
-    by_push are_proper (map without_room old.sources) at (name, root, key, [], 0) (without_room t) none_proper
-    (λ before. let s = from_map without_room old.sources at (without_room t) before in subst are_proper s.2 (proper at s.0 s.1))
-    (subst (λ all. slice_get all at ≡ Some (without_room t)) more (slice_get-map without_room new.sources at ∙ ap (option_map without_room) here))
+-- a store without sources is proper
+pub empty_is_proper : (store : StoreState) → store.sources ≡ [] → IsProperStore store
+empty_is_proper store none at s here = absurd (no_item (subst (λ xs. slice_get xs at ≡ Some s) none here))
+  where
+    no_item : slice_get [] at ≡ Some s → ⊥
+    no_item h = cc
 
-pub room_stays_proper : RoomStaysProper
-room_stays_proper store ready same proper at r here =
-    let s = same_at without_room store.sources ready.sources at r (sym same) here in
+-- a new source has no elements, so it leaves the elements proper
+pub declare_stays_proper : (old new : StoreState) (name root : List ℕ) (key : _) → Declares old new name root key → IsProperStore old → IsProperStore new
+declare_stays_proper old new name root key more proper at t here =
+    by_push are_proper (map without_room old.sources) at (declared name root key) (without_room t) none_proper
+    (λ before. let s = from_map without_room old.sources at (without_room t) before in subst are_proper s.2 (proper at s.0 s.1))
+    (subst (λ all. slice_get all at ≡ Some (without_room t)) more.sources (slice_get-map without_room new.sources at ∙ ap (option_map without_room) here))
+
+-- room does not matter to whether the elements are proper
+pub room_stays_proper : (store ready : StoreState) → IsAlike store ready → IsProperStore store → IsProperStore ready
+room_stays_proper store ready alike proper at r here =
+    let s = same_at without_room store.sources ready.sources at r (sym alike.sources) here in
     subst are_proper s.2 (proper at s.0 s.1)
 
-pub commit_stays_proper : CommitStaysProper
+-- a commit of proper elements leaves the elements proper
+pub commit_stays_proper : (ready done : StoreState) (change : ChangeState) → change.source.0 < length ready.sources → IsCommitted ready change done
+    → PutsProper change.entries → IsProperStore ready → IsProperStore done
 commit_stays_proper ready done change within committed puts proper at t here =
     let r = some_at ready.sources change.source.0 within in
     let c = committed.sources r.0 r.1 in
-    let one : HoldsProper (kept c.0) = subst HoldsProper (sym c.2.elements) (after_proper (kept r.0) change.entries (proper change.source.0 r.0 r.1) puts) in
-    by_set (λ d. HoldsProper (kept d)) ready.sources change.source.0 at c.0 t one (proper at t) (subst (λ xs. slice_get xs at ≡ Some t) c.1 here)
+    let one : HoldsProper c.0.elements = subst HoldsProper (sym c.2.elements) (after_proper r.0.elements change.entries (proper change.source.0 r.0 r.1) puts) in
+    by_set are_proper ready.sources change.source.0 at c.0 t one (proper at t) (subst (λ xs. slice_get xs at ≡ Some t) c.1 here)

@@ -2,8 +2,8 @@
 use Rattle.std.proofs.Common.{◌≡◌, ℕ, ◌+◌, Bool, true, false, List, [], ◌∷◌, Option, Some, None, refl, sym, ap, ◌∙◌, subst, true≢false}
 use Rattle.ncq_tree.specs.declared.model.Element.{Element}
 use Rattle.ncq_source.specs.declared.change.Entry.{Entry}
-use Rattle.ncq_pyx.specs.declared.turns.Item.{Item}
-use Rattle.ncq_pyx.specs.declared.turns.Item.TheVariants.{Put, Remove}
+use Rattle.ncq_pyx.specs.declared.item.Item.{Item}
+use Rattle.ncq_pyx.specs.declared.item.Item.TheVariants.{Put, Remove}
 use Rattle.ncq_source.specs.declared.key.Key.{Key}
 use Rattle.ncq_source.specs.Held.{Kept, with_at}
 use Rattle.ncq_source.specs.Keys.{key_of}

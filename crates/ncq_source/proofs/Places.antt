@@ -1,10 +1,12 @@
 -- One source among others.
-use Rattle.std.proofs.Common.{◌≡◌, ℕ, suc, ◌<◌, Bool, List, [], ◌∷◌, ◌++◌, map, length, set, get_or, slice_get, position, Some, None, cond, ◌||◌, ◌+◌, not, nat_lt, refl, sym, ap, ◌∙◌}
+use Rattle.std.proofs.Common.{◌≡◌, ℕ, zero, suc, Option, is_some, true≢false, ◌<◌, Bool, List, [], ◌∷◌, ◌++◌, map, length, set, get_or, slice_get, position, Some, None, cond, ◌||◌, ◌+◌, not, nat_lt, refl, sym, ap, ◌∙◌, subst}
 use Rattle.std.specs.Option.{unwrap_or}
 use Rattle.std.proofs.Math.Seq.{map-set_same}
 use Rattle.std.proofs.lemmas.Option.{unwrap_or-slice_get, slice_get_within}
 use Rattle.std.proofs.lemmas.List.{get_or-set_same}
 use Rattle.std.specs.List.{list_any, position_or_len}
+use Rattle.std.specs.Option.{option_map}
+use Rattle.std.proofs.lemmas.Option.{slice_get-map, slice_get-get_or}
 
 pub same_Some : {A : Type 0} (x y : A) → Some x ≡ Some y → x ≡ y
 same_Some x y e = ap (λ o. unwrap_or o x) e
@@ -55,3 +57,49 @@ at_set_or xs i y s within q = ap (λ o. unwrap_or o y) (sym q) ∙ unwrap_or-sli
 -- the item that is found is the one that stands there
 pub item_at : {A : Type 0} (xs : List A) (i : ℕ) (x s : A) → x ≡ get_or xs i x → slice_get xs i ≡ Some s → x ≡ s
 item_at xs i x s at p = at ∙ sym (unwrap_or-slice_get xs i x) ∙ ap (λ o. unwrap_or o x) p
+
+module _ {A B : Type 0} (f : A → B) where
+  mapped : (o : Option A) (y : B) → option_map f o ≡ Some y → (x : A) × (o ≡ Some x) × (f x ≡ y)
+  mapped None y h = absurd (true≢false (sym (ap is_some h)))
+  mapped (Some x) y h = (x, refl, same_Some (f x) y h)
+
+  -- what stands behind an item of a mapped list
+  pub from_map : (xs : List A) (i : ℕ) (y : B) → slice_get (map f xs) i ≡ Some y → (x : A) × (slice_get xs i ≡ Some x) × (f x ≡ y)
+  from_map xs i y h = mapped (slice_get xs i) y (sym (slice_get-map f xs i) ∙ h)
+
+  -- lists that f cannot tell apart have items that f cannot tell apart
+  pub same_at : (xs ys : List A) (i : ℕ) (y : A) → map f xs ≡ map f ys → slice_get ys i ≡ Some y → (x : A) × (slice_get xs i ≡ Some x) × (f x ≡ f y)
+  same_at xs ys i y same here = from_map xs i (f y) (ap (λ l. slice_get l i) same ∙ slice_get-map f ys i ∙ ap (option_map f) here)
+
+  -- the item at a place is seen at that place
+  pub seen_at : (xs : List A) (i : ℕ) (x : A) (y : B) → x ≡ get_or xs i x → slice_get (map f xs) i ≡ Some y → y ≡ f x
+  seen_at xs i x y at here = let p = from_map xs i y here in sym p.2 ∙ ap f (sym (item_at xs i x p.0 at p.1))
+
+  length_of : (xs : List A) → length xs ≡ length (map f xs)
+  length_of [] = refl
+  length_of (x ∷ xs) = ap suc (length_of xs)
+
+  -- what is seen at the place of an item
+  pub seen_is : (xs : List A) (i : ℕ) (x : A) → i < length (map f xs) → x ≡ get_or xs i x → slice_get (map f xs) i ≡ Some (f x)
+  seen_is xs i x within at =
+      slice_get-map f xs i ∙ ap (option_map f) (slice_get-get_or xs i x (subst (λ n. i < n) (sym (length_of xs)) within)) ∙ ap (λ y. Some (f y)) (sym at)
+
+  -- an item that was set is seen where it was set
+  pub seen_set : (xs : List A) (i : ℕ) (y : A) (s : B) → i < length (map f xs) → slice_get (map f (set xs i y)) i ≡ Some s → s ≡ f y
+  seen_set xs i y s within here =
+      let p = from_map (set xs i y) i s here in
+      sym p.2 ∙ ap f (at_set_or xs i y p.0 (subst (λ n. i < n) (sym (length_of xs)) within) p.1)
+
+  pub map_set_is : (xs : List A) (i : ℕ) (y : A) → map f (set xs i y) ≡ set (map f xs) i (f y)
+  map_set_is [] i y = refl
+  map_set_is (x ∷ xs) zero y = refl
+  map_set_is (x ∷ xs) (suc i) y = ap (λ ys. f x ∷ ys) (map_set_is xs i y)
+
+  module _ {C : Type 0} (g : B → C) where
+    map_map : (xs : List A) → map g (map f xs) ≡ map (λ x. g (f x)) xs
+    map_map [] = refl
+    map_map (x ∷ xs) = ap (λ ys. g (f x) ∷ ys) (map_map xs)
+
+    -- an item is replaced by one that g cannot tell from it
+    pub seen_same : (xs : List A) (i : ℕ) (x y : A) → x ≡ get_or xs i x → g (f y) ≡ g (f x) → map g (map f (set xs i y)) ≡ map g (map f xs)
+    seen_same xs i x y at same = map_map (set xs i y) ∙ map_set_or (λ x. g (f x)) xs i x y at same ∙ sym (map_map xs)

@@ -1,25 +1,23 @@
 -- What holds of the entries of a prepared change.
-use Rattle.std.proofs.Common.{◌≡◌, ℕ, suc, ◌+◌, true, List, [], ◌∷◌, length, get_or, slice_get, Option, Some, None, refl, sym, ap, ◌∙◌, subst}
+use Rattle.std.proofs.Common.{◌≡◌, ℕ, suc, ◌+◌, true, List, [], ◌∷◌, length, Option, Some, None, refl, sym, ap, ◌∙◌, subst}
 use Rattle.std.specs.Prelude.{IfSome}
 use Rattle.std.specs.List.{list_all}
 use Rattle.std.specs.FinMap.{get}
 use Rattle.ncq_base.proofs.Tests.{both_true}
 use Rattle.ncq_tree.specs.declared.model.Element.{Element}
 use Rattle.ncq_pyx.specs.Canonical.{item_is_proper}
-use Rattle.ncq_pyx.specs.declared.turns.Item.{Item}
-use Rattle.ncq_pyx.specs.declared.turns.Item.TheVariants.{Put, Remove}
+use Rattle.ncq_pyx.specs.declared.item.Item.{Item}
+use Rattle.ncq_pyx.specs.declared.item.Item.TheVariants.{Put, Remove}
 use Rattle.ncq_source.specs.Changes.{Trial, prepared, entry_of, put_entry, gone_entry, behind, next}
 use Rattle.ncq_source.specs.Changes.Trial.{Good, NoKey, NotThere}
 use Rattle.ncq_source.specs.Held.{Kept, with_at}
 use Rattle.ncq_source.specs.Keys.{key_of}
 use Rattle.ncq_source.specs.Prepared.{IsPrepared}
 use Rattle.ncq_source.specs.Proper.{IsProper, PutsProper}
-use Rattle.ncq_source.specs.Stores.{kept as kept_of}
+use Rattle.ncq_source.specs.Stores.{Source}
 use Rattle.ncq_source.specs.declared.change.Entry.{Entry}
-use Rattle.ncq_source.specs.declared.declared.Declared.{Declared}
 use Rattle.ncq_source.specs.declared.key.Key.{Key}
 use Rattle.ncq_source.proofs.Folds.{no, value_or, rest_of, fold_of_entries}
-use Rattle.ncq_source.proofs.Places.{item_at}
 
 module _ (rule : Key) (P : List Item → List Entry → Type 0) (none : P [] [])
     (more : (p : ℕ) (kept : Kept) (item : Item) (e : Entry) (items : List Item) (es : List Entry) → entry_of rule p kept item ≡ Good e → P items es → P (item ∷ items) (e ∷ es)) where
@@ -64,14 +62,11 @@ puts_proper rule = by_items rule (λ items es. list_all item_is_proper items ≡
     (proper_entry rule p kept item e good both.0, rest both.1))
 
 -- the entries of a trial that is good are a prepared change
-pub is_prepared : (s : Declared) (items : List Item) (es : List Entry) → prepared s.key 1 (kept_of s) items ≡ Good es → IsPrepared s items es
+pub is_prepared : (s : Source) (items : List Item) (es : List Entry) → prepared s.key 1 s.elements items ≡ Good es → IsPrepared s items es
 is_prepared s items es h =
-    let fold = fold_of_entries s.key 1 (kept_of s) items es h in
-    record { count = count_of_entries s.key 1 (kept_of s) items es h; chains = fold.1; fold = fold.0 }
+    let fold = fold_of_entries s.key 1 s.elements items es h in
+    record { count = count_of_entries s.key 1 s.elements items es h; chains = fold.1; fold = fold.0 }
 
--- what was prepared from the source at a place, told by that source
-pub prepared_at : (all : List Declared) (at : ℕ) (x s : Declared) (given items : List Item) (es : List Entry) → x ≡ get_or all at x → slice_get all at ≡ Some s → given ≡ items
-    → prepared x.key 1 (kept_of x) given ≡ Good es → prepared s.key 1 (kept_of s) items ≡ Good es
-prepared_at all at x s given items es is here same h =
-    let there = item_at all at x s is here in
-    sym (λ i. prepared (there i).key 1 (kept_of (there i)) (same i)) ∙ h
+-- what was prepared from a source, told by what is seen of it
+pub prepared_from : (s seen : Source) (given items : List Item) (es : List Entry) → s ≡ seen → given ≡ items → prepared seen.key 1 seen.elements given ≡ Good es → prepared s.key 1 s.elements items ≡ Good es
+prepared_from s seen given items es is same h = (λ i. prepared (is i).key 1 (is i).elements (sym same i)) ∙ h

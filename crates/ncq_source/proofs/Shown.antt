@@ -1,35 +1,38 @@
 -- The elements and the names that a store shows.
 use Rattle.std.proofs.Common.{◌≡◌, ℕ, suc, ◌+◌, Bool, true, false, cond, not, ◌||◌, nat_lt, List, [], ◌∷◌, map, length, slice_get, position, Option, Some, None, refl, sym, ap, ◌∙◌, subst, is_some, true≢false, arith}
-use Rattle.std.specs.Prelude.{IfSome}
-use Rattle.std.specs.Option.{option_map}
-use Rattle.std.specs.List.{list_any, position_or_len}
-use Rattle.std.specs.FinMap.{get}
+use Rattle.std.specs.Prelude.{IfSome, ◌↔◌}
+use Rattle.std.specs.List.{list_any, position_or_len, IsDistinct, Contains}
+use Rattle.std.specs.Map.{keys_of}
+use Rattle.std.specs.FinMap.{get, entries}
 use Rattle.std.specs.Cmp.Lexicographic.{texts_ties}
 use Rattle.std.proofs.lemmas.Bool.Decides.{nat_tests}
-use Rattle.std.proofs.lemmas.Option.{slice_get-map}
 use Rattle.std.proofs.lemmas.Map.Entries.{lookup_from_place}
 use Rattle.std.proofs.lemmas.Map.Views.{Contains-from_lookup, lookup-from_Contains, list_any-from_Contains, Contains-from_any}
-use Rattle.ncq_base.specs.Keys.{is_key}
+use Rattle.ncq_base.specs.Keys.{is_key, times}
 use Rattle.ncq_base.proofs.Keyed.{get_map_of, count_map_of, is_key_equiv, bytes_apart}
 use Rattle.ncq_base.proofs.Totals.{is_equal}
-use Rattle.ncq_source.specs.Promises.{ShowsTheMap, FindsNames, ShowsProper}
-use Rattle.ncq_source.specs.Proper.{IsProper}
-use Rattle.ncq_source.specs.Stores.{kept}
-use Rattle.ncq_source.specs.StoreStates.{names, found}
-use Rattle.ncq_source.proofs.Places.{same_Some}
+use Rattle.ncq_tree.specs.declared.model.Element.{Element}
+use Rattle.ncq_source.specs.Proper.{IsProper, HoldsProper}
+use Rattle.ncq_source.specs.Held.{map_of}
+use Rattle.ncq_source.specs.Stores.{Source, ShowsEach}
+use Rattle.ncq_source.specs.StoreStates.{StoreState, names, found}
+use Rattle.ncq_source.proofs.Places.{from_map}
 
 -- keys that are one are equal
 one_key : (x y : List ℕ) → is_key x y ≡ true → x ≡ y
 one_key x y h = bytes_apart x y (is_equal _ (sym (texts_ties x y) ∙ h))
 
-pub shows_the_map : ShowsTheMap
-shows_the_map s apart = (
-  λ key element. (
-    λ held. Contains-from_lookup one_key key element s.elements.pairs (sym (get_map_of s.elements.pairs key) ∙ held),
-    λ shown. get_map_of s.elements.pairs key ∙ lookup-from_Contains is_key_equiv key element s.elements.pairs apart shown,
-  ),
-  λ test. count_map_of test s.elements.pairs apart,
-)
+-- a key holds an element exactly where the two are shown
+pub shows_pairs : (source : Source) → ShowsEach source → (key : List ℕ) (element : Element) → get source.elements key ≡ Some element ↔ Contains source.shown (key, element)
+shows_pairs source shows key element =
+    let held = ap (λ m. get m key) shows.elements ∙ get_map_of source.shown key in (
+      λ there. Contains-from_lookup one_key key element source.shown (sym held ∙ there),
+      λ shown. held ∙ lookup-from_Contains is_key_equiv key element source.shown shows.once shown,
+    )
+
+-- a test passes as often among the elements as among those shown
+pub shows_counts : (source : Source) → ShowsEach source → (test : List ℕ × Element → Bool) → times test (entries source.elements) ≡ times test source.shown
+shows_counts source shows test = ap (λ m. times test (entries m)) shows.elements ∙ count_map_of test source.shown shows.once
 
 some_below : (n : ℕ) → nat_lt 0 (suc n) ≡ true
 some_below n = grind (arith, nat_tests)
@@ -60,7 +63,7 @@ none_of : {A : Type 0} (o : Option A) → (is_some o ≡ true → ⊥) → o ≡
 none_of None h = refl
 none_of (Some a) h = absurd (h refl)
 
-pub finds_names : FindsNames
+pub finds_names : (store : StoreState) (name : List ℕ) → found store name ≡ None ↔ (Contains (names store) name → ⊥)
 finds_names store name =
     let all = names store in
     let any = is_some_position (is_key name) all in (
@@ -68,21 +71,10 @@ finds_names store name =
       λ not_among. none_of (found store name) (λ some. not_among (Contains-from_any one_key name all (sym any ∙ some))),
     )
 
-module _ {A B : Type 0} (f : A → B) where
-  mapped : (o : Option A) (y : B) → option_map f o ≡ Some y → (x : A) × (o ≡ Some x) × (f x ≡ y)
-  mapped None y h = absurd (true≢false (sym (ap is_some h)))
-  mapped (Some x) y h = (x, refl, same_Some (f x) y h)
-
-  -- what stands behind an item of a mapped list
-  pub from_map : (xs : List A) (i : ℕ) (y : B) → slice_get (map f xs) i ≡ Some y → (x : A) × (slice_get xs i ≡ Some x) × (f x ≡ y)
-  from_map xs i y h = mapped (slice_get xs i) y (sym (slice_get-map f xs i) ∙ h)
-
-  -- lists that f cannot tell apart have items that f cannot tell apart
-  pub same_at : (xs ys : List A) (i : ℕ) (y : A) → map f xs ≡ map f ys → slice_get ys i ≡ Some y → (x : A) × (slice_get xs i ≡ Some x) × (f x ≡ f y)
-  same_at xs ys i y same here = from_map xs i (f y) (ap (λ l. slice_get l i) same ∙ slice_get-map f ys i ∙ ap (option_map f) here)
-
-pub shows_proper : ShowsProper
-shows_proper store source at s element proper here apart shown =
-    let p = from_map (λ p. p.1) s.elements.pairs at element shown in
-    let held : get (kept s) p.0.0 ≡ Some element = get_map_of s.elements.pairs p.0.0 ∙ lookup_from_place is_key_equiv s.elements.pairs at p.0.0 p.0.1 apart p.1 ∙ ap Some p.2 in
-    subst (λ o. IfSome o IsProper) held (proper source s here p.0.0)
+-- an element that is shown is proper where all are
+pub shows_proper : (pairs : List (List ℕ × Element)) (at : ℕ) (element : Element) → HoldsProper (map_of pairs) → IsDistinct is_key (keys_of pairs)
+    → slice_get (map (λ p. p.1) pairs) at ≡ Some element → IsProper element
+shows_proper pairs at element proper apart shown =
+    let p = from_map (λ p. p.1) pairs at element shown in
+    let held : get (map_of pairs) p.0.0 ≡ Some element = get_map_of pairs p.0.0 ∙ lookup_from_place is_key_equiv pairs at p.0.0 p.0.1 apart p.1 ∙ ap Some p.2 in
+    subst (λ o. IfSome o IsProper) held (proper p.0.0)

@@ -10,8 +10,8 @@ use Rattle.ncq_source.specs.Held.{Kept, with_at}
 use Rattle.ncq_source.specs.Keys.{key_of}
 use Rattle.ncq_source.specs.declared.key.Key.{Key}
 use Rattle.ncq_source.specs.declared.change.Entry.{Entry}
-use Rattle.ncq_pyx.specs.declared.turns.Item.{Item}
-use Rattle.ncq_pyx.specs.declared.turns.Item.TheVariants.{Put, Remove}
+use Rattle.ncq_pyx.specs.declared.item.Item.{Item}
+use Rattle.ncq_pyx.specs.declared.item.Item.TheVariants.{Put, Remove}
 
 -- an element put under its key
 abbrev pub put_at : Kept → Option (List ℕ) → Element → Kept

@@ -2,13 +2,12 @@
 use Rattle.std.specs.Prelude.{◌≡◌, ℕ, true, List, [], ◌∷◌, slice_get, Some, IfSome}
 use Rattle.std.specs.FinMap.{get}
 use Rattle.ncq_tree.specs.declared.model.Element.{Element}
-use Rattle.ncq_pyx.specs.declared.turns.Item.TheVariants.{Put}
+use Rattle.ncq_pyx.specs.declared.item.Item.TheVariants.{Put}
 use Rattle.ncq_pyx.specs.Canonical.{item_is_proper}
 use Rattle.ncq_source.specs.Held.{Kept}
-use Rattle.ncq_source.specs.Stores.{kept}
+use Rattle.ncq_source.specs.Stores.{Source}
 use Rattle.ncq_source.specs.StoreStates.{StoreState}
 use Rattle.ncq_source.specs.declared.change.Entry.{Entry}
-use Rattle.ncq_source.specs.declared.declared.Declared.{Declared}
 
 -- an element is proper: normal, and all its names are PYX names
 abbrev pub IsProper : Element → Type 0
@@ -25,4 +24,4 @@ PutsProper (entry ∷ entries) = IfSome entry.after IsProper × PutsProper entri
 
 -- each element of each source is proper
 abbrev pub IsProperStore : StoreState → Type 0
-IsProperStore store = (at : ℕ) (s : Declared) → slice_get store.sources at ≡ Some s → HoldsProper (kept s)
+IsProperStore store = (at : ℕ) (source : Source) → slice_get store.sources at ≡ Some source → HoldsProper source.elements

@@ -1,28 +1,27 @@
 -- A store, as callers see it.
-use Rattle.std.specs.Prelude.{◌≡◌, ℕ, ◌+◌, ◌<◌, ◌≤◌, List, map, length, slice_get, slice_set, Option, Some, refl, position, Ok, Err}
+use Rattle.std.specs.Prelude.{◌≡◌, ℕ, ◌+◌, ◌<◌, ◌≤◌, List, [], ◌∷◌, ◌++◌, map, length, slice_get, slice_set, Option, Some, refl, position, Ok, Err}
 use Rattle.std.specs.Coded.{Coded, code_by, coded×, coded_ℕ, coded_list}
-use Rattle.ncq_base.specs.Keys.{is_key}
-use Rattle.ncq_source.specs.declared.change.SourceId.{SourceId}
-use Rattle.ncq_source.specs.declared.declared.Declared.{Declared}
-use Rattle.ncq_source.specs.contracts.declared.Declared.{the_row as declared_row}
-use Rattle.ncq_source.specs.ChangeStates.{ChangeState}
-use Rattle.ncq_source.specs.Stores.{Follows}
-pub use Rattle.ncq_source.specs.Stores.{without_room}
-use Rattle.ncq_source.specs.Changes.{Trial}
-use Rattle.ncq_source.specs.Changes.Trial.{Good, NoKey, NotThere}
-use Rattle.ncq_source.specs.declared.change.Entry.{Entry}
 use Rattle.std.specs.declared.result.Result.{Result}
+use Rattle.ncq_base.specs.Keys.{is_key}
 use Rattle.ncq_source.specs.declared.change.ChangeError.{ChangeError}
 use Rattle.ncq_source.specs.declared.change.ChangeError.TheVariants.{BadKey, NoSuchKey, NoSource, OutOfMemory}
+use Rattle.ncq_source.specs.declared.change.Entry.{Entry}
+use Rattle.ncq_source.specs.declared.change.SourceId.{SourceId}
+use Rattle.ncq_source.specs.declared.key.Key.{Key}
+use Rattle.ncq_source.specs.Changes.{Trial}
+use Rattle.ncq_source.specs.Changes.Trial.{Good, NoKey, NotThere}
+use Rattle.ncq_source.specs.ChangeStates.{ChangeState}
+use Rattle.ncq_source.specs.Stores.{Source, source_code, Follows, declared, without_room}
 
 -- the declared sources in the order of declaration, and how many changes were committed
 pub record StoreState : Type 0 where
-  pub sources : List Declared
+  pub sources : List Source
   pub changes : ℕ
 
 -- how a store is written as a value
 abbrev pub store_code : Coded StoreState
-store_code = code_by (List Declared × ℕ) (coded× (coded_list declared_row.coded) coded_ℕ) (λ s. (s.sources, s.changes)) (λ p. record { sources = p.0; changes = p.1 }) (λ _. refl)
+store_code = code_by (List Source × ℕ) (coded× (coded_list source_code) coded_ℕ)
+    (λ s. (s.sources, s.changes)) (λ p. record { sources = p.0; changes = p.1 }) (λ _. refl)
 
 -- the names of the sources, in order
 abbrev pub names : StoreState → List (List ℕ)
@@ -36,15 +35,29 @@ found store name = position (is_key name) (names store)
 abbrev pub IsDeclared : StoreState → SourceId → Type 0
 IsDeclared store id = id.0 < length store.sources
 
+-- this holds of the source at this place
+abbrev pub At : StoreState → SourceId → (Source → Type 0) → Type 0
+At store id Holds = (source : Source) → slice_get store.sources id.0 ≡ Some source → Holds source
+
+-- a source came behind the others, which are as they were but for their room
+pub record Declares (old new : StoreState) (name root : List ℕ) (key : Key) : Type 0 where
+  pub changes : new.changes ≡ old.changes
+  pub sources : map without_room new.sources ≡ map without_room old.sources ++ declared name root key ∷ []
+
+-- nothing changed but the room of sources
+pub record IsAlike (old new : StoreState) : Type 0 where
+  pub changes : new.changes ≡ old.changes
+  pub sources : map without_room new.sources ≡ map without_room old.sources
+
 -- the source of the change has room for each of its entries
 abbrev pub HasRoom : StoreState → ChangeState → Type 0
-HasRoom store change = (s : Declared) → slice_get store.sources change.source.0 ≡ Some s → length change.entries ≤ s.elements.room
+HasRoom store change = At store change.source (λ source. length change.entries ≤ source.room)
 
 -- the source of the change follows its entries, and the others are as they were
 pub record IsCommitted (old : StoreState) (change : ChangeState) (new : StoreState) : Type 0 where
   pub changes : new.changes ≡ old.changes + 1
-  pub sources : (s : Declared) → slice_get old.sources change.source.0 ≡ Some s
-      → (t : Declared) × (new.sources ≡ slice_set old.sources change.source.0 t) × Follows s t change.entries new.changes
+  pub sources : At old change.source (λ s.
+      (t : Source) × (new.sources ≡ slice_set old.sources change.source.0 t) × Follows s t change.entries new.changes)
 
 -- what an answer tells of the trial of a change to the source at this place
 abbrev pub TellsChange : Result ChangeState ChangeError → ℕ → Trial (List Entry) → Type 0

@@ -1,6 +1,7 @@
 //! A declared source.
 ghost use Rattle.std.specs.Prelude.{◌≡◌, ◌≤◌, length, OnOk};
 ghost use Rattle.ncq_source.specs.Stores.{Follows, without_room};
+ghost use Rattle.ncq_source.specs.Views.{source_of};
 
 use crate::change::Entries;
 use crate::elements::Elements;
@@ -21,7 +22,7 @@ pub(crate) struct Declared {
 impl Declared {
     /// Room for this many more elements, and nothing else.
     pub(crate) fn reserve(&mut self, additional: usize) -> Result<(), AllocError>
-        ensures same { without_room self.new ≡ without_room self.old }
+        ensures same { without_room (source_of self.new) ≡ without_room (source_of self.old) }
         ensures room { OnOk result (additional ≤ self.new.elements.room) }
     {
         self.elements.reserve(additional)
@@ -30,7 +31,7 @@ impl Declared {
     /// The elements after the entries, and the number of the change.
     pub(crate) fn commit(&mut self, entries: Entries, number: u64)
         requires { length entries ≤ self.old.elements.room }
-        ensures { Follows self.old self.new entries number }
+        ensures { Follows (source_of self.old) (source_of self.new) entries number }
     {
         self.elements.apply(entries);
         self.last = number;

@@ -1,34 +1,50 @@
 //! Laws of changes, keys and stores: each function's contract is the law, and it does nothing.
-ghost use Rattle.std.specs.Prelude.{◌≡◌, ℕ, List};
+ghost use Rattle.std.specs.Prelude.{◌≡◌, ◌≢◌, ◌<◌, ◌↔◌, ◌++◌, ℕ, Bool, List, Some, None, length, map, slice_get};
+ghost use Rattle.std.specs.List.{Contains};
+ghost use Rattle.std.specs.FinMap.{get, entries};
+ghost use Rattle.ncq_base.specs.Keys.{times};
+ghost use Rattle.ncq_pyx.specs.declared.item.Item.{Item};
+ghost use Rattle.ncq_tree.specs.declared.model.Element.{Element};
 ghost use Rattle.ncq_source.specs.Changes.{prepared, after, store_after, Chains};
 ghost use Rattle.ncq_source.specs.Changes.Trial.{Good};
-ghost use Rattle.ncq_source.specs.Promises.{CommitApplies, OthersStay, PartsAddUp, ShowsTheMap, FindsNames, ShowsProper, DeclareStaysProper, RoomStaysProper, CommitStaysProper};
+ghost use Rattle.ncq_source.specs.ChangeStates.{ChangeState};
+ghost use Rattle.ncq_source.specs.Prepared.{IsPrepared};
+ghost use Rattle.ncq_source.specs.Stores.{Source, ShowsEach, without_room};
+ghost use Rattle.ncq_source.specs.StoreStates.{StoreState, IsCommitted, names, found};
 
 /// The entries of items lead to the elements after the items, and each says what its key held.
 pub fn entries_are_the_fold()
-    ensures { (rule : _) (position : _) (kept : _) (items : List _) (entries : List _) → prepared rule position kept items ≡ Good entries
-        → (after kept entries ≡ store_after rule kept items) × Chains kept entries }
+    ensures { (rule : _) (position : _) (kept : _) (items : List Item) (es : List _)
+        → prepared rule position kept items ≡ Good es
+        → (after kept es ≡ store_after rule kept items) × Chains kept es }
 {}
 
 /// A change that was prepared, given room and committed leaves its source with the elements after the items, and every
 /// other source as it was; items taken in two changes lead where they lead in one.
 pub fn changes_are_the_fold()
-    ensures applied { CommitApplies }
-    ensures others { OthersStay }
-    ensures parts { PartsAddUp }
+    ensures applied { (store ready done : StoreState) (change : ChangeState) (items : List Item)
+        (s t : Source) → slice_get store.sources change.source.0 ≡ Some s
+        → IsPrepared s items change.entries
+        → map without_room ready.sources ≡ map without_room store.sources
+        → IsCommitted ready change done → slice_get done.sources change.source.0 ≡ Some t
+        → t.elements ≡ store_after s.key s.elements items }
+    ensures others { (ready done : StoreState) (change : ChangeState)
+        → change.source.0 < length ready.sources → IsCommitted ready change done
+        → (other : ℕ) → other ≢ change.source.0
+        → slice_get done.sources other ≡ slice_get ready.sources other }
+    ensures parts { (rule : _) (kept : _) (first second : List Item)
+        → store_after rule kept (first ++ second)
+        ≡ store_after rule (store_after rule kept first) second }
 {}
 
-/// The elements that a source shows are those of its map, each key's once, and a name is found exactly where a source
-/// has it.
+/// The elements that a source shows are those of its map, each key's once: a key holds an element exactly where the two
+/// are shown, and every test passes as often among the one as among the other. A name is not found exactly where no
+/// source has it.
 pub fn stores_show_their_sources()
-    ensures elements { ShowsTheMap }
-    ensures names { FindsNames }
-{}
-
-/// Where only proper elements come in, only proper elements are shown.
-pub fn stores_stay_proper()
-    ensures shown { ShowsProper }
-    ensures declared { DeclareStaysProper }
-    ensures reserved { RoomStaysProper }
-    ensures committed { CommitStaysProper }
+    ensures pairs { (source : Source) → ShowsEach source → (key : List ℕ) (element : Element)
+        → get source.elements key ≡ Some element ↔ Contains source.shown (key, element) }
+    ensures counts { (source : Source) → ShowsEach source → (test : List ℕ × Element → Bool)
+        → times test (entries source.elements) ≡ times test source.shown }
+    ensures names { (store : StoreState) (name : List ℕ)
+        → found store name ≡ None ↔ (Contains (names store) name → ⊥) }
 {}

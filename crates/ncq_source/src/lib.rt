@@ -21,7 +21,5 @@ mod tests;
 
 pub use change::{Change, ChangeError, Entries, Entry, SourceId};
 pub use key::{Key, child_value, key_of};
-pub use laws::{
-    changes_are_the_fold, entries_are_the_fold, stores_show_their_sources, stores_stay_proper,
-};
+pub use laws::{changes_are_the_fold, entries_are_the_fold, stores_show_their_sources};
 pub use store::{DeclareError, Store};

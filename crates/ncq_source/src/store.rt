@@ -1,16 +1,15 @@
 //! The store: sources that are declared, looked at and changed.
-ghost use Rattle.std.specs.Prelude.{◌≡◌, ◌≢◌, ◌+◌, ◌-◌, ◌<◌, ◌≤◌, ◌^◌, ◌++◌, ◌∷◌, [], length, map, slice_get, slice_set, Some, None, Ok, Err, IfOk, OnOk, OnErr, IsSome, ◌↔◌, true};
+ghost use Rattle.std.specs.Prelude.{◌≡◌, ◌<◌, ◌-◌, ◌^◌, ◌↔◌, [], length, map, slice_get, Some, None, Err, IfOk, OnOk, OnErr, IsSome, true};
 ghost use Rattle.std.specs.Option.{option_map};
-ghost use Rattle.std.specs.List.{IsDistinct, list_all};
-ghost use Rattle.std.specs.Map.{keys_of};
-ghost use Rattle.ncq_base.specs.Keys.{is_key};
-ghost use Rattle.ncq_source.specs.Changes.{Tells, prepared};
-ghost use Rattle.ncq_source.specs.Stores.{kept, Follows};
-ghost use Rattle.ncq_source.specs.StoreStates.{StoreState, IsCommitted, IsDeclared, names, without_room, HasRoom, found, TellsChange};
+ghost use Rattle.std.specs.List.{list_all};
+ghost use Rattle.ncq_pyx.specs.Canonical.{item_is_proper};
+ghost use Rattle.ncq_source.specs.Changes.{prepared};
 ghost use Rattle.ncq_source.specs.Keys.{key_of};
 ghost use Rattle.ncq_source.specs.Prepared.{IsPrepared};
-ghost use Rattle.ncq_source.specs.Proper.{PutsProper};
-ghost use Rattle.ncq_pyx.specs.Canonical.{item_is_proper};
+ghost use Rattle.ncq_source.specs.Proper.{IsProper, IsProperStore, PutsProper};
+ghost use Rattle.ncq_source.specs.Stores.{ShowsEach};
+ghost use Rattle.ncq_source.specs.StoreStates.{At, Declares, HasRoom, IsAlike, IsCommitted, IsDeclared, TellsChange, found};
+ghost use Rattle.ncq_source.specs.Views.{source_of};
 
 use crate::change::{Change, ChangeError, SourceId};
 use crate::declared::Declared;
@@ -25,8 +24,9 @@ use std::alloc::{AllocError, Global};
 use std::marker::Model;
 use thiserror::Error;
 
-/// The declared sources in the order of declaration, each with its elements by key, and the number of changes that were
-/// committed to all of them together. Contracts see it as the two.
+/// The declared sources in the order of declaration, and the number of changes that were committed to all of them
+/// together. Contracts see it as the two, and each source as a record: its name, its root, its key, its elements by their
+/// keys, its last change, the order in which its elements are shown, and its room.
 #[derive(Drop)]
 pub struct Store {
     names: Names,
@@ -36,15 +36,16 @@ pub struct Store {
 
 impl Model for Store {
     ghost use Rattle.ncq_source.specs.StoreStates.{StoreState, store_code};
+    ghost use Rattle.ncq_source.specs.Views.{source_of};
     ghost use Rattle.std.specs.Prelude.{◌≡◌, map};
 
     ghost Value = { StoreState };
 
     ghost coded = { store_code };
 
-    ghost view = { λ s. record { sources = s.sources.items; changes = s.changes } };
+    ghost view = { λ s. record { sources = map source_of s.sources.items; changes = s.changes } };
 
-    ghost invariant = { λ s. s.names ≡ map (λ d. d.name) s.sources.items };
+    ghost invariant = { λ s. s.names ≡ map (λ d. d.name) (map source_of s.sources.items) };
 }
 
 /// Why a source was not declared. The store is then as it was.
@@ -71,7 +72,8 @@ impl From<AllocError> for DeclareError {
 impl Store {
     /// A store without sources and without changes.
     pub fn new(alloc: Global) -> Store
-        ensures { result ≡ record { sources = []; changes = 0 } }
+        ensures empty { result ≡ record { sources = []; changes = 0 } }
+        ensures proper { IsProperStore result }
     {
         Store {
             names: Names::new(alloc),
@@ -112,8 +114,9 @@ impl Store {
     ) -> Result<SourceId, DeclareError>
         ensures exists { result ≡ Err DeclareError.Exists ↔ IsSome (found self.old name) }
         ensures id { IfOk result (λ id. id.0 ≡ length self.old.sources) }
-        ensures ok { OnOk result ((self.new.changes ≡ self.old.changes) × (map without_room self.new.sources ≡ map without_room self.old.sources ++ (name, root, key, [], 0) ∷ [])) }
+        ensures ok { OnOk result (Declares self.old self.new name root key) }
         ensures err { OnErr result (self.new ≡ self.old) }
+        ensures proper { IsProperStore self.old → IsProperStore self.new }
     {
         if self.names.find(name.as_slice()).is_some() {
             return Err(DeclareError::Exists);
@@ -132,20 +135,27 @@ impl Store {
         Ok(SourceId(at))
     }
 
+    fn source(&self, id: SourceId) -> &Declared
+        requires { IsDeclared self.now id }
+        ensures { slice_get self.now.sources id.0 ≡ Some (source_of result.now) }
+    {
+        &self.sources[id.0]
+    }
+
     /// The name under which the source was declared.
     pub fn name_of(&self, id: SourceId) -> &Bytes
         requires { IsDeclared self.now id }
-        ensures { (s : _) → slice_get self.now.sources id.0 ≡ Some s → result.now ≡ s.name }
+        ensures { At self.now id (λ s. result.now ≡ s.name) }
     {
-        &self.sources[id.0].name
+        &self.source(id).name
     }
 
     /// The tag of the source's root, as it was declared.
     pub fn root_of(&self, id: SourceId) -> &Bytes
         requires { IsDeclared self.now id }
-        ensures { (s : _) → slice_get self.now.sources id.0 ≡ Some s → result.now ≡ s.root }
+        ensures { At self.now id (λ s. result.now ≡ s.root) }
     {
-        &self.sources[id.0].root
+        &self.source(id).root
     }
 
     /// The key of an element by the rule of the source: none exactly where it has not exactly one key value that is not empty.
@@ -157,35 +167,39 @@ impl Store {
         element: &Element,
     ) -> Result<Option<Bytes>, AllocError>
         requires { IsDeclared self.now id }
-        ensures { IfOk result (λ key. (s : _) → slice_get self.now.sources id.0 ≡ Some s → key ≡ key_of s.key element.now) }
+        ensures { IfOk result (λ key. At self.now id (λ s. key ≡ key_of s.key element.now)) }
     {
-        key_of(alloc, &self.sources[id.0].key, element)
+        key_of(alloc, &self.source(id).key, element)
     }
 
     /// The number that the last change of the source had among all changes, or 0 before its first.
     pub fn last_change(&self, id: SourceId) -> u64
         requires { IsDeclared self.now id }
-        ensures { (s : _) → slice_get self.now.sources id.0 ≡ Some s → result ≡ s.last }
+        ensures { At self.now id (λ s. result ≡ s.last) }
     {
-        self.sources[id.0].last
+        self.source(id).last
     }
 
     /// How many elements the source has, each under a key of its own.
     pub fn size(&self, id: SourceId) -> usize
         requires { IsDeclared self.now id }
-        ensures { (s : _) → slice_get self.now.sources id.0 ≡ Some s → (result ≡ length s.elements.pairs) × IsDistinct is_key (keys_of s.elements.pairs) }
+        ensures count { At self.now id (λ s. result ≡ length s.shown) }
+        ensures each { At self.now id ShowsEach }
     {
-        self.sources[id.0].elements.len()
+        self.source(id).elements.len()
     }
 
-    /// The element at a place below the size, in an order of the store's own: from 0 to the size less 1 each element is shown
-    /// once. A commit may change the order.
+    /// The element at a place below the size, in an order of the store's own: from 0 to the size less 1 each element is
+    /// shown once. A commit may change the order. Where all elements of the store are proper, it is proper.
     pub fn element(&self, id: SourceId, at: usize) -> &Element
         requires id { IsDeclared self.now id }
-        requires at { (s : _) → slice_get self.now.sources id.0 ≡ Some s → at < length s.elements.pairs }
-        ensures { (s : _) → slice_get self.now.sources id.0 ≡ Some s → slice_get (map (λ p. p.1) s.elements.pairs) at ≡ Some result.now }
+        requires at { At self.now id (λ s. at < length s.shown) }
+        ensures place { At self.now id (λ s. slice_get (map (λ p. p.1) s.shown) at ≡ Some result.now) }
+        ensures proper { IsProperStore self.now → IsProper result.now }
     {
-        self.sources[id.0].elements.at(at)
+        let elements = &self.source(id).elements;
+        prove!(at < elements.len());
+        elements.at(at)
     }
 
     /// What the items do to the source of this name, without doing it: one entry for each item, with what its key holds
@@ -195,16 +209,20 @@ impl Store {
     pub fn prepare(&self, alloc: Global, name: &[u8], items: &Items) -> Result<Change, ChangeError>
         ensures declared { IfOk result (λ change. IsDeclared self.now change.source) }
         ensures source { IfOk result (λ change. found self.now name.now ≡ Some change.source.0) }
-        ensures prepared { IfOk result (λ change. (s : _) → slice_get self.now.sources change.source.0 ≡ Some s → IsPrepared s items.now change.entries) }
-        ensures proper { list_all item_is_proper items.now ≡ true → IfOk result (λ change. PutsProper change.entries) }
+        ensures prepared { IfOk result (λ change.
+            At self.now change.source (λ s. IsPrepared s items.now change.entries)) }
+        ensures proper { list_all item_is_proper items.now ≡ true
+            → IfOk result (λ change. PutsProper change.entries) }
         ensures only { result ≡ Err ChangeError.NoSource → found self.now name.now ≡ None }
         ensures none { found self.now name.now ≡ None → result ≡ Err ChangeError.NoSource }
-        ensures some { (at : _) (s : _) → found self.now name.now ≡ Some at → slice_get self.now.sources at ≡ Some s → TellsChange result at (prepared s.key 1 (kept s) items.now) }
+        ensures some { (at : _) (s : _) → found self.now name.now ≡ Some at
+            → slice_get self.now.sources at ≡ Some s
+            → TellsChange result at (prepared s.key 1 s.elements items.now) }
     {
         let Some(source) = self.find(name) else {
             return Err(ChangeError::NoSource);
         };
-        let declared = &self.sources[source.0];
+        let declared = self.source(source);
         let entries = prepare(alloc, &declared.key, &declared.elements, items.as_slice())?;
         Ok(Change::new(source, entries))
     }
@@ -213,7 +231,8 @@ impl Store {
     /// number or other source changes; after an error there may be more room than before, or not.
     pub fn reserve(&mut self, change: &Change) -> Result<(), AllocError>
         requires { IsDeclared self.old change.now.source }
-        ensures same { (self.new.changes ≡ self.old.changes) × (map without_room self.new.sources ≡ map without_room self.old.sources) }
+        ensures same { IsAlike self.old self.new }
+        ensures proper { IsProperStore self.old → IsProperStore self.new }
         ensures room { OnOk result (HasRoom self.new change.now) }
     {
         let additional = change.entries().len();
@@ -227,7 +246,8 @@ impl Store {
         requires declared { IsDeclared self.old change.source }
         requires room { HasRoom self.old change }
         requires more { self.old.changes < 2 ^ 64 - 1 }
-        ensures { IsCommitted self.old change self.new }
+        ensures done { IsCommitted self.old change self.new }
+        ensures proper { PutsProper change.entries → IsProperStore self.old → IsProperStore self.new }
     {
         self.changes += 1;
         let number = self.changes;

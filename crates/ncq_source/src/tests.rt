@@ -1,5 +1,5 @@
 use crate::{ChangeError, DeclareError, Entry, Key, SourceId, Store, child_value, key_of};
-use ncq_base::{Bytes, Copied, Lines, Shared, bytes_of};
+use ncq_base::{Bytes, Copied, Lines, Shared, bytes_of, is_line};
 use ncq_pyx::{Item, Items, read_block, write_forest};
 use ncq_tree::{Attribute, Attributes, Element, Forest, Node, is_normal, string_value};
 use std::alloc::{AllocError, Global};
@@ -10,7 +10,10 @@ use std::test::Fail;
 fn items_of(alloc: Global, text: &str) -> Result<Items, AllocError> {
     let mut lines = Lines::new(alloc);
     for line in text.split('/') {
-        lines.push(bytes_of(alloc, line.as_bytes())?)?;
+        if !is_line(line.as_bytes()) {
+            return Err(AllocError);
+        }
+        lines.push(line.as_bytes())?;
     }
     match read_block(alloc, &lines) {
         Ok(items) => Ok(items),

@@ -1,8 +1,8 @@
 -- Laws of the texts of a forest.
-use Rattle.std.proofs.Common.{◌≡◌, ℕ, ◌+◌, ◌<◌, length, get_or, take, Bool, true, false, List, [], ◌∷◌, ◌++◌, refl, sym, ◌∙◌, ap, append_assoc}
+use Rattle.std.proofs.Common.{◌≡◌, ℕ, ◌+◌, ◌<◌, length, get_or, take, Bool, true, false, List, [], ◌∷◌, ◌++◌, refl, sym, ◌∙◌, ap, append_assoc, append-nil, arith}
 use Rattle.std.proofs.lemmas.List.Folds.{flat_map-map}
 use Rattle.std.proofs.lemmas.List.{take_more, flat_map_more}
-use Rattle.ncq_tree.specs.Texts.{Strings, texts, texts_of, following, has_text, spaced, of_text, of_element}
+use Rattle.ncq_tree.specs.Texts.{Strings, texts, texts_of, joined, string_value, following, has_text, spaced, of_text, of_element}
 use Rattle.ncq_tree.specs.Nodes.{by_nodes_element, by_nodes_text}
 use Rattle.ncq_tree.specs.declared.model.Node.{Node}
 use Rattle.ncq_tree.specs.declared.model.Node.TheVariants.{Element as element_node, Text as text_node}
@@ -34,6 +34,14 @@ pub texts-more : (xs : List Node) (i : ℕ) (node : Node) → i < length xs → 
 texts-more xs i node h e =
     ap texts (take_more xs i node h) ∙ ap (λ x. texts (take i xs ++ x ∷ [])) (sym e)
     ∙ sym (flat_map_more texts_of [] (take i xs) node)
+
+-- one text alone is the string value
+pub one_text : (nodes : List Node) (node : Node) (text : List ℕ) → length nodes ≡ 1 → node ≡ get_or nodes 0 node → node ≡ text_node text → text ≡ string_value nodes
+one_text [] node text e p q = absurd (omega arith)
+one_text (n ∷ []) node text e p q =
+    sym (append-nil text)
+    ∙ sym (ap (λ ts. joined (ts ++ [])) (ap texts_of (sym p ∙ q) ∙ texts_text text))
+one_text (n ∷ m ∷ more) node text e p q = absurd (omega arith)
 
 -- the texts of a node, by its variant
 pub ruleset texts_are = (texts_text, texts_element)

@@ -19,7 +19,7 @@ impl Copied for Attribute {
 pub fn copy_forest(alloc: Global, forest: &Forest) -> Result<Forest, AllocError>
     ensures { IfOk result (λ f. f ≡ forest.now) }
 {
-    let mut copy = Forest::new(alloc);
+    let mut copy = Forest::with_capacity(alloc, forest.len())?;
     for node in forest.as_slice() {
         copy.push(copy_node(alloc, node)?)?;
     }

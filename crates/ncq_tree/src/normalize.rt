@@ -7,77 +7,95 @@ ghost use Rattle.ncq_tree.specs.declared.model.Node.TheVariants.{Element as elem
 ghost use Rattle.std.specs.List.{list_all, prefix_len, suffix_len};
 
 use crate::model::{Attributes, Element, Forest, Node};
-use ncq_base::{Copied, bytes_of, is_space};
+use ncq_base::{Bytes, bytes_of, is_space};
 use std::alloc::{AllocError, Global};
 
-/// The normal form: at every depth the attributes sorted by name, adjacent texts merged with nothing between them,
-/// white space taken off the ends of each merged text, and empty texts dropped. Values of attributes stay.
-/// The only error is want of memory.
+/// The normal form: at every depth the attributes sorted by name, adjacent texts merged with nothing
+/// between them, white space taken off the ends of each merged text, and empty texts dropped. Values
+/// of attributes stay. What is normal already is moved. The only error is want of memory.
+#[cycle(normalize)]
 pub fn normal(alloc: Global, forest: Forest) -> Result<Forest, AllocError>
     ensures { IfOk result (λ f. f ≡ normal forest) }
 {
-    normal_forest(alloc, &forest)
-}
-
-/// The normal form of a forest that stays with the caller.
-#[cycle(normalize)]
-fn normal_forest(alloc: Global, forest: &Forest) -> Result<Forest, AllocError>
-    ensures { IfOk result (λ f. f ≡ normal forest.now) }
-{
-    let mut out = Forest::new(alloc);
-    let mut pending = Vec::new(alloc);
-    for node in forest.as_slice() {
-        take_node(alloc, node, &mut pending, &mut out)?;
+    let mut out = Forest::with_capacity(alloc, room_for(forest.as_slice()))?;
+    let mut pending = Bytes::new(alloc);
+    for node in forest.into_vec() {
+        pending = take_node(alloc, node, pending, &mut out)?;
     }
-    push_text(alloc, pending.as_slice(), &mut out)?;
+    push_text(alloc, pending, &mut out)?;
     Ok(out)
 }
 
-/// Keeps a text for later, and appends an element behind the texts that were kept.
+/// How many nodes the normal form has, but for texts beside elements.
+fn room_for(nodes: &[Node]) -> usize {
+    let elements = nodes
+        .iter()
+        .filter(|node| matches!(node, Node::Element(_)))
+        .count();
+    if elements == 0 && !nodes.is_empty() {
+        1
+    } else {
+        elements
+    }
+}
+
+/// Keeps a text behind those that were kept, or appends them and an element. What is kept then is
+/// the answer.
 #[cycle(normalize)]
 #[tactic(auto, using(crate::proofs::NormalLaws::normal_of_is))]
 fn take_node(
     alloc: Global,
-    node: &Node,
-    pending: &mut Vec<u8>,
+    node: Node,
+    pending: Bytes,
     out: &mut Forest,
-) -> Result<(), AllocError>
-    ensures { OnOk result ((rest : List _) → out.new ++ tidy_behind pending.new.items rest
-        ≡ out.old ++ tidy_behind pending.old.items (normal_of node.now ∷ rest)) }
+) -> Result<Bytes, AllocError>
+    ensures { IfOk result (λ kept. (rest : List _) → out.new ++ tidy_behind kept rest
+        ≡ out.old ++ tidy_behind pending (normal_of node ∷ rest)) }
 {
     match node {
-        Node::Text(text) => pending.extend_from_slice(text.as_slice()),
+        Node::Text(text) => merged(alloc, pending, text),
         Node::Element(element) => {
-            push_text(alloc, pending.as_slice(), out)?;
-            pending.clear();
-            out.push(Node::Element(normal_element(alloc, element)?))
+            push_text(alloc, pending, out)?;
+            out.push(Node::Element(normal_element(alloc, element)?))?;
+            Ok(Bytes::new(alloc))
         }
     }
+}
+
+/// The two texts with nothing between them. A text alone is moved.
+fn merged(alloc: Global, front: Bytes, back: Bytes) -> Result<Bytes, AllocError>
+    ensures { IfOk result (λ text. text ≡ front ++ back) }
+{
+    if front.as_slice().is_empty() {
+        return Ok(back);
+    }
+    let mut both = Vec::from_slice(alloc, front.as_slice())?;
+    both.extend_from_slice(back.as_slice())?;
+    Ok(Bytes::from_vec(both))
 }
 
 /// The element with its attributes sorted by name and its children in normal form.
 /// The only error is want of memory.
 #[cycle(normalize)]
 #[tactic(auto, using(crate::proofs::NormalLaws::normal_of_is))]
-pub fn normal_element(alloc: Global, element: &Element) -> Result<Element, AllocError>
-    ensures node { IfOk result (λ e. element_node e ≡ normal_of (element_node element.now)) }
-    ensures whole { IfOk result (λ e. e ≡ whole_normal element.now) }
+pub fn normal_element(alloc: Global, element: Element) -> Result<Element, AllocError>
+    ensures node { IfOk result (λ e. element_node e ≡ normal_of (element_node element)) }
+    ensures whole { IfOk result (λ e. e ≡ whole_normal element) }
 {
+    let Element {
+        name,
+        attributes,
+        children,
+    } = element;
     Ok(Element {
-        name: element.name.copy(alloc)?,
-        attributes: sorted(alloc, &element.attributes)?,
-        children: normal_forest(alloc, &element.children)?,
+        name,
+        attributes: sort_attributes(attributes)?,
+        children: normal(alloc, children)?,
     })
 }
 
-/// A copy of the attributes, sorted by name.
-fn sorted(alloc: Global, attributes: &Attributes) -> Result<Attributes, AllocError>
-    ensures { IfOk result (λ s. s ≡ sorted attributes.now) }
-{
-    sort_attributes(attributes.copy(alloc)?)
-}
-
-/// The attributes sorted by name; those of one name keep their order.
+/// The attributes sorted by name; those of one name keep their order. The only error is want of
+/// memory.
 pub fn sort_attributes(attributes: Attributes) -> Result<Attributes, AllocError>
     ensures { IfOk result (λ s. s ≡ sorted attributes) }
 {
@@ -86,15 +104,20 @@ pub fn sort_attributes(attributes: Attributes) -> Result<Attributes, AllocError>
     Ok(Attributes::from_vec(list))
 }
 
-/// Appends the text without the white space at its ends, if anything is left.
-fn push_text(alloc: Global, text: &[u8], out: &mut Forest) -> Result<(), AllocError>
-    ensures { OnOk result (out.new ≡ out.old ++ text_nodes (trimmed text.now)) }
+/// Appends the text without the white space at its ends, if anything is left. A text that is
+/// trimmed already is moved.
+fn push_text(alloc: Global, text: Bytes, out: &mut Forest) -> Result<(), AllocError>
+    ensures { OnOk result (out.new ≡ out.old ++ text_nodes (trimmed text)) }
 {
-    let text = trim(text);
-    if text.is_empty() {
+    let trimmed = trim(text.as_slice());
+    if trimmed.is_empty() {
         return Ok(());
     }
-    out.push(Node::Text(bytes_of(alloc, text)?))
+    if trimmed.len() == text.as_slice().len() {
+        return out.push(Node::Text(text));
+    }
+    let trimmed = bytes_of(alloc, trimmed)?;
+    out.push(Node::Text(trimmed))
 }
 
 /// The text without the white space at its ends.

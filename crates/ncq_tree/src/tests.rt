@@ -97,7 +97,7 @@ fn elements_part_texts(rt: HostRuntime) -> Result<(), Fail> {
 fn an_element_is_normalized_and_copied(rt: HostRuntime) -> Result<(), Fail> {
     let alloc = rt.alloc();
     let raw = company(alloc, "ba", "a| b|")?;
-    let made = forest_of(alloc, normal_element(alloc, &raw)?)?;
+    let made = forest_of(alloc, normal_element(alloc, raw)?)?;
     let want = forest_of(alloc, company(alloc, "ab", "a b|")?)?;
     assert!(rt; is_same(&made, &want));
     assert!(rt; is_same(&copy_forest(alloc, &made)?, &want));

@@ -3,17 +3,23 @@ ghost use Rattle.std.specs.Prelude.{◌≡◌, ◌++◌, [], ◌∷◌, IfOk};
 ghost use Rattle.ncq_tree.specs.Texts.{string_value, texts, texts_of, following, has_text};
 
 use crate::model::{Forest, Node};
-use ncq_base::{Bytes, bytes_of};
+use ncq_base::{Bytes, Copied};
 use std::alloc::{AllocError, Global};
 
 /// The texts of the forest in document order, joined by one space; an element without text adds none.
-/// The only error is want of memory.
+/// One text is its own string value. The only error is want of memory.
 pub fn string_value(alloc: Global, forest: &Forest) -> Result<Bytes, AllocError>
     ensures { IfOk result (λ b. b ≡ string_value forest.now) }
 {
+    let nodes = forest.as_slice();
+    if nodes.len() == 1 {
+        if let Node::Text(text) = &nodes[0] {
+            return text.copy(alloc);
+        }
+    }
     let mut out = Vec::new(alloc);
     let _behind = append_forest(forest, false, &mut out)?;
-    bytes_of(alloc, out.as_slice())
+    Ok(Bytes::from_vec(out))
 }
 
 /// Appends the texts of the forest, behind other texts or not, and tells whether any text stands there now.

@@ -6,7 +6,7 @@ ghost use Rattle.ncq_source.specs.StoreStates.{IsDeclared};
 use super::{expect_bytes, joined};
 use ncq_bag::{Difference, SignedBag};
 use ncq_base::{
-    Atom, Bytes, Copied, Lines, Op, Own, Sequence, Shared, atom_of, bytes_of, compare, holds,
+    Atom, Bytes, Copied, Op, Own, Sequence, Shared, atom_of, bytes_of, compare, holds,
     is_name, is_pyx_name, read_u64, same, total_order, unescape, write_decimal, write_escaped,
 };
 use ncq_callback::write_print;
@@ -18,8 +18,8 @@ use std::cmp::Ordering;
 use std::process::Abort;
 use std::test::Fail;
 
-fn lines_of(alloc: Global, texts: &[&str]) -> Result<Lines, AllocError> {
-    let mut lines = Lines::new(alloc);
+fn lines_of(alloc: Global, texts: &[&str]) -> Result<Sequence<Bytes>, AllocError> {
+    let mut lines = Sequence::new(alloc);
     for text in texts {
         lines.push(bytes_of(alloc, text.as_bytes())?)?;
     }
@@ -29,7 +29,7 @@ fn lines_of(alloc: Global, texts: &[&str]) -> Result<Lines, AllocError> {
 const LINES: &[&str] = &["a", "", "b\0"];
 
 /// The list has just these lines.
-fn expect_lines(rt: &impl Abort, kept: &Lines, want: &[&str]) -> Result<(), Fail> {
+fn expect_lines(rt: &impl Abort, kept: &Sequence<Bytes>, want: &[&str]) -> Result<(), Fail> {
     assert!(rt; kept.len() == want.len() && kept.as_slice().len() == want.len());
     assert!(rt; kept.get(want.len()).is_none());
     for (at, line) in want.iter().enumerate() {
