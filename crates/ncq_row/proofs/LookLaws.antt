@@ -1,13 +1,16 @@
 -- Whether there are rows, by the rows that they are joined from.
-use Rattle.std.proofs.Common.{◌≡◌, ℕ, ◌<◌, ◌+◌, Bool, true, false, List, [], ◌∷◌, ◌++◌, length, get_or, drop, map, refl, sym, ap, ◌∙◌, add-one}
+use Rattle.std.proofs.Common.{◌≡◌, ℕ, ◌<◌, ◌+◌, Bool, true, false, List, [], ◌∷◌, ◌++◌, length}
+use Rattle.std.proofs.Common.{get_or, drop, map, refl, sym, ap, ◌∙◌, add-one}
 use Rattle.std.specs.Prelude.{◌&&◌, ◌||◌}
 use Rattle.std.proofs.Math.Seq.{drop-cons}
 use Rattle.ncq_tree.specs.declared.model.Element.{Element}
 use Rattle.ncq_row.specs.declared.shape.Shape.{Shape}
 use Rattle.ncq_row.specs.declared.shape.ShapeSuffix.{ShapeSuffix}
-use Rattle.ncq_row.specs.declared.shape.ShapeSuffix.TheVariants.{Plain, Element as WholeElement, Content}
+use Rattle.ncq_row.specs.declared.shape.ShapeSuffix.TheVariants.{Plain, Element as WholeElement}
+use Rattle.ncq_row.specs.declared.shape.ShapeSuffix.TheVariants.{Content}
 use Rattle.ncq_row.specs.declared.value.Value.{Value}
-use Rattle.ncq_row.specs.Embeddings.{Rows, paired, one_of_each, attribute_rows, suffix_rows, content_rows, rows_at}
+use Rattle.ncq_row.specs.Embeddings.{Rows, paired, one_of_each, attribute_rows, suffix_rows}
+use Rattle.ncq_row.specs.Embeddings.{content_rows, rows_at}
 use Rattle.ncq_row.specs.Found.{has_rows}
 use Rattle.ncq_row.proofs.CallerLemmas.{rows_of_shape}
 
@@ -16,7 +19,8 @@ pub has_append : (xs ys : Rows) → has_rows (xs ++ ys) ≡ (has_rows xs || has_
 has_append [] ys = refl
 has_append (x ∷ xs) ys = refl
 
-has_behind : (row : List Value) (rows : Rows) → has_rows (map (λ right. row ++ right) rows) ≡ has_rows rows
+has_behind : (row : List Value) (rows : Rows) → has_rows (map (λ right. row ++ right) rows)
+    ≡ has_rows rows
 has_behind row [] = refl
 has_behind row (r ∷ rows) = refl
 
@@ -27,7 +31,8 @@ absorbed false true = refl
 absorbed false false = refl
 
 -- rows that are joined with rows
-pub has_paired : (lefts rights : Rows) → has_rows (paired lefts rights) ≡ (has_rows lefts && has_rows rights)
+pub has_paired : (lefts rights : Rows) → has_rows (paired lefts rights)
+    ≡ (has_rows lefts && has_rows rights)
 has_paired [] rights = refl
 has_paired (row ∷ lefts) rights =
     has_append (map (λ right. row ++ right) rights) (paired lefts rights)
@@ -46,7 +51,9 @@ and_true false = refl
 
 -- a shape has rows where its attributes and its content have
 pub shape_has_rows : (s : Shape) (e : Element)
-    → has_rows (rows_at s e) ≡ (has_rows (one_of_each (map (attribute_rows e.attributes) s.attributes)) && has_rows (content_rows s.content e))
+    → has_rows (rows_at s e)
+    ≡ (has_rows (one_of_each (map (attribute_rows e.attributes) s.attributes)) && has_rows
+    (content_rows s.content e))
 shape_has_rows s e =
     let front = one_of_each (map (attribute_rows e.attributes) s.attributes) in
     ap has_rows (rows_of_shape s e)
@@ -56,7 +63,8 @@ shape_has_rows s e =
     ∙ ap (λ (b : Bool). has_rows (content_rows s.content e) && b) (suffix_has_rows s.suffix e)
     ∙ and_true (has_rows (content_rows s.content e)))
 
-next_drop : {A : Type 0} (xs : List A) (i : ℕ) (x : A) → i < length xs → drop i xs ≡ get_or xs i x ∷ drop (i + 1) xs
+next_drop : {A : Type 0} (xs : List A) (i : ℕ) (x : A) → i < length xs → drop i xs
+    ≡ get_or xs i x ∷ drop (i + 1) xs
 next_drop xs i x h = rw (add-one, drop-cons xs i x h) refl
 
 -- where the first of what is left has rows, what is left behind it decides

@@ -9,5 +9,8 @@ loop-name-init c = rw (c.new-row.ensures) (unit_paired _)
 
 pub loop-name-preserved : goal.loop-name-preserved
 loop-name-preserved c =
-    let found : attribute_rows c.args.attributes.now c.name-item.result ≡ (Text c.in_ok-copy.field-0 ∷ []) ∷ [] = grind arith in
-    next_name (attribute_rows c.args.attributes.now) c.args.names.now c.loop-name.name-index _ c.loop-name.row _ _ _ (omega arith) c.name-item.is found c.in_ok-push.ensures c.loop-name.invariant
+    let found : attribute_rows c.args.attributes.now c.name-item.result
+    ≡ (Text c.in_ok-copy.field-0 ∷ []) ∷ [] = grind arith in
+    next_name (attribute_rows c.args.attributes.now) c.args.names.now c.loop-name.name-index _
+    c.loop-name.row _ _ _ (omega arith) c.name-item.is found c.in_ok-push.ensures
+    c.loop-name.invariant

@@ -11,4 +11,5 @@ invariant-are_found-loop-part l =
 
 abbrev pub invariant-is_found-loop-node : goal.invariant-is_found-loop-node
 invariant-is_found-loop-node l =
-    has_rows (rows_among l.shape (drop l.node-index l.nodes)) ≡ has_rows (rows_among l.shape l.nodes)
+    has_rows (rows_among l.shape (drop l.node-index l.nodes))
+    ≡ has_rows (rows_among l.shape l.nodes)
