@@ -52,7 +52,7 @@ element_named tag attributes content =
     ∙ para-roll-SlotTemplate Bool named_layer (ElementLayer tag attributes content)
     ∙ ap (λ (b : Bool). is_pyx_name tag && attributes_are_named attributes && b)
     (list_all-map (λ (t : SlotTemplate × Bool). t.1)
-        (λ (t : SlotTemplate). (t, template_is_named t)) content)
+    (λ (t : SlotTemplate). (t, template_is_named t)) content)
 
 -- names alone decide whether attributes are good
 same_names : (r s : Row) (given : List SlotAttribute) (name : List ℕ)
@@ -63,19 +63,19 @@ same_names r s (a ∷ given) name =
 
 good_by_names : (r s : Row) (given attributes : List SlotAttribute)
     → are_good (map (attribute_of r) given) (map (attribute_of r) attributes)
-        ≡ are_good (map (attribute_of s) given) (map (attribute_of s) attributes)
+    ≡ are_good (map (attribute_of s) given) (map (attribute_of s) attributes)
 good_by_names r s given [] = refl
 good_by_names r s given (a ∷ more) =
     ap (λ (b : Bool). is_pyx_name a.name && not b && are_good
-        (map (attribute_of r) given ++ attribute_of r a ∷ []) (map (attribute_of r) more))
-        (same_names r s given a.name)
+    (map (attribute_of r) given ++ attribute_of r a ∷ []) (map (attribute_of r) more))
+    (same_names r s given a.name)
     ∙ ap (λ (b : Bool). is_pyx_name a.name && not (has_name (map (attribute_of s) given) a.name) &&
-        b)
-      (ap (λ (v : List Attribute). are_good v (map (attribute_of r) more))
-          (sym (map-append (attribute_of r) given (a ∷ [])))
-      ∙ good_by_names r s (given ++ a ∷ []) more
-      ∙ ap (λ (v : List Attribute). are_good v (map (attribute_of s) more))
-          (map-append (attribute_of s) given (a ∷ [])))
+    b)
+    (ap (λ (v : List Attribute). are_good v (map (attribute_of r) more))
+    (sym (map-append (attribute_of r) given (a ∷ [])))
+    ∙ good_by_names r s (given ++ a ∷ []) more
+    ∙ ap (λ (v : List Attribute). are_good v (map (attribute_of s) more))
+    (map-append (attribute_of s) given (a ∷ [])))
 
 -- proper nodes are good
 good_nodes : (nodes : List Node) → list_all node_is_normal nodes ≡ true → list_all is_named nodes
@@ -118,11 +118,11 @@ module _ (row : Row) (proper : row_is_proper row ≡ true) where
   good_content [] h = refl
   good_content (t ∷ content) h =
       let u = both_true (template_is_named t.0)
-          (list_all template_is_named
-          (map (λ (e : (t : SlotTemplate) × IsMadeGood t). e.0) content)) h in
+      (list_all template_is_named
+      (map (λ (e : (t : SlotTemplate) × IsMadeGood t). e.0) content)) h in
       good_append (forest_of row t.0)
-          (flat_map (forest_of row) (map (λ (e : (t : SlotTemplate) × IsMadeGood t). e.0) content))
-          (t.1 u.0) (good_content content u.1)
+      (flat_map (forest_of row) (map (λ (e : (t : SlotTemplate) × IsMadeGood t). e.0) content))
+      (t.1 u.0) (good_content content u.1)
 
   good_made : (tag : List ℕ) (attributes : List SlotAttribute)
       (content : List ((t : SlotTemplate) × IsMadeGood t))
@@ -130,15 +130,19 @@ module _ (row : Row) (proper : row_is_proper row ≡ true) where
   good_made tag attributes content h =
       let below = map (λ (e : (t : SlotTemplate) × IsMadeGood t). e.0) content in
       let made : Element =
-          record { name = tag; attributes = map (attribute_of row) attributes; children =
-          flat_map (forest_of row) below } in
+      record {
+        name = tag;
+        attributes = map (attribute_of row) attributes;
+        children =
+            flat_map (forest_of row) below;
+      } in
       let t = both_true (is_pyx_name tag && attributes_are_named attributes)
-          (list_all template_is_named below) (sym (element_named tag attributes below) ∙ h) in
+      (list_all template_is_named below) (sym (element_named tag attributes below) ∙ h) in
       let u = both_true (is_pyx_name tag) (attributes_are_named attributes) t.0 in
       let good : is_good (element_node made) ≡ true =
       good_element made
       ∙ and_from _ _ (and_from _ _ u.0 (good_by_names row [] [] attributes ∙ u.1))
-          (good_content content t.1) in
+      (good_content content t.1) in
       ap (list_all is_good) (forest_of_element row tag attributes below) ∙ and_from _ _ good refl
 
   step : (x : SlotTemplate-F ((t : SlotTemplate) × IsMadeGood t))
@@ -152,9 +156,9 @@ module _ (row : Row) (proper : row_is_proper row ≡ true) where
       (λ h. ap (list_all is_good) (forest_of_text row text) ∙ and_from _ _ (good_text text) refl)
   step (ElementLayer tag attributes content) =
       subst IsMadeGood
-          (sym (rolls-Element tag attributes
-          (map (λ (e : (t : SlotTemplate) × IsMadeGood t). e.0) content)))
-          (good_made tag attributes content)
+      (sym (rolls-Element tag attributes
+      (map (λ (e : (t : SlotTemplate) × IsMadeGood t). e.0) content)))
+      (good_made tag attributes content)
 
   pub made_is_good : (template : SlotTemplate) → IsMadeGood template
   made_is_good =

@@ -10,9 +10,7 @@ ghost use Rattle.ncq_construct.specs.Proper.{row_is_proper, template_is_named};
 /// template's names are PYX names, no tag has two attributes of one name, and the row's values are
 /// proper.
 pub fn forests_are_proper()
-    ensures {
-        (template : SlotTemplate) (row : Row)
-            → template_is_named template ≡ true → row_is_proper row ≡ true
-            → is_proper (constructed template row) ≡ true
-    }
+    ensures { (template : SlotTemplate) (row : Row)
+        → template_is_named template ≡ true → row_is_proper row ≡ true
+        → is_proper (constructed template row) ≡ true }
 {}

@@ -1,13 +1,14 @@
 //! Answers worked out by hand, for one row and the templates that are filled from it.
 //!
-//! A template is a list of words: `<r` begins an element and `>` ends it, `-text` is a text, `$1` the
-//! value at slot 1, and `@name1` an attribute with the string value of slot 1.
+//! A template is a list of words: `<r` begins an element and `>` ends it, `-text` is a text, `$1`
+//! the value at slot 1, and `@name1` an attribute with the string value of slot 1.
 ghost use Rattle.std.specs.Prelude.{◌≡◌, ◌<◌};
 
 use crate::{answer_bytes, build, passes};
 use ncq_base::{Op, Steps, atom_of, bytes_of};
-use ncq_plan::{Side, SlotAttribute, SlotAttributes, SlotTemplate, SlotTemplates, SlotText};
-use ncq_plan::{Test, Tests};
+use ncq_plan::{
+    Side, SlotAttribute, SlotAttributes, SlotTemplate, SlotTemplates, SlotText, Test, Tests,
+};
 use ncq_pyx::write_forest;
 use ncq_row::{Names, Row, Rows, Shape, ShapeContent, ShapeSuffix, Shapes, match_shape};
 use ncq_tree::{Attribute, Attributes, Element, Forest, Node};
@@ -74,13 +75,7 @@ fn rows<L: Ledger>(alloc: Global, blank: Blank) -> Result<Rows, AllocError>
 {
     let mut steps = Steps::<L>::new(blank);
     let mut rows = Rows::new(alloc);
-    match_shape(
-        alloc,
-        &shape(alloc)?,
-        &quote(alloc)?,
-        &mut rows,
-        &mut steps,
-    )?;
+    match_shape(alloc, &shape(alloc)?, &quote(alloc)?, &mut rows, &mut steps)?;
     Ok(rows)
 }
 
@@ -123,9 +118,7 @@ fn begun(alloc: Global, mark: u8, rest: &[u8]) -> Result<SlotTemplate, AllocErro
             attributes: SlotAttributes::new(alloc),
             content: SlotTemplates::new(alloc),
         }),
-        b'$' => Ok(SlotTemplate::Slot(
-            rest.first().map_or(0, |b| b.saturating_sub(b'0') as usize),
-        )),
+        b'$' => Ok(SlotTemplate::Slot(rest.first().map_or(0, |b| b.saturating_sub(b'0') as usize))),
         _ => Ok(SlotTemplate::Text(bytes_of(alloc, rest)?)),
     }
 }
@@ -184,8 +177,11 @@ fn is_answered(alloc: Global, words: &[&str], row: &Row, want: &str) -> Result<b
     Ok(bytes.as_slice() == want.as_bytes() && lines.as_slice() == want.as_bytes())
 }
 
-const WHOLE: &str = "(Quote\nAid 7\n(Symbol\n-INTC\n)Symbol\n(Price\n-95.5\n)Price\n(Note\n)Note\n)Quote\n";
-const INSIDE: &str = "(r\n-a\n(Quote\nAid 7\n(Symbol\n-INTC\n)Symbol\n(Price\n-95.5\n)Price\n(Note\n)Note\n)Quote\n-b\n)r\n";
+const WHOLE: &str =
+    "(Quote\nAid 7\n(Symbol\n-INTC\n)Symbol\n(Price\n-95.5\n)Price\n(Note\n)Note\n)Quote\n";
+
+const INSIDE: &str = "(r\n-a\n(Quote\nAid 7\n(Symbol\n-INTC\n)Symbol\n(Price\n-95.5\n)Price\n\
+    (Note\n)Note\n)Quote\n-b\n)r\n";
 
 #[test]
 fn each_template_makes_these_bytes_of_the_row(rt: HostRuntime) -> Result<(), Fail> {
@@ -208,7 +204,10 @@ fn each_template_makes_these_bytes_of_the_row(rt: HostRuntime) -> Result<(), Fai
             "(r\nAsym INTC\n-Price of INTCis95.5\n)r\n",
         ),
         (["<r", ">"].as_slice(), "(r\n)r\n"),
-        (["<r", "- ", "$1", "-", "$3", "- ", ">"].as_slice(), "(r\n-INTC\n)r\n"),
+        (
+            ["<r", "- ", "$1", "-", "$3", "- ", ">"].as_slice(),
+            "(r\n-INTC\n)r\n",
+        ),
         (["<r", "- ", "$3", ">"].as_slice(), "(r\n)r\n"),
         // an element parts the texts
         (["<r", "-a ", "$4", "- b", ">"].as_slice(), INSIDE),
@@ -217,8 +216,14 @@ fn each_template_makes_these_bytes_of_the_row(rt: HostRuntime) -> Result<(), Fai
             "(r\n-a\n(s\n-INTC\n)s\n(t\n)t\n-b\n)r\n",
         ),
         // attributes are sorted; one that is bound to nodes has their string value
-        (["<r", "@b2", "@a0", ">"].as_slice(), "(r\nAa 7\nAb 95.5\n)r\n"),
-        (["<r", "@all4", "@none3", ">"].as_slice(), "(r\nAall INTC 95.5\nAnone \n)r\n"),
+        (
+            ["<r", "@b2", "@a0", ">"].as_slice(),
+            "(r\nAa 7\nAb 95.5\n)r\n",
+        ),
+        (
+            ["<r", "@all4", "@none3", ">"].as_slice(),
+            "(r\nAall INTC 95.5\nAnone \n)r\n",
+        ),
     ] {
         for row in rows.as_slice() {
             assert!(rt; is_answered(alloc, words, row, want)?, "{want}");
@@ -274,7 +279,11 @@ fn each_test_is_of_the_atoms(rt: HostRuntime) -> Result<(), Fail> {
             (Op::Eq, 1, 3, false),
         ] {
             let side = Side::Slot(right);
-            assert_eq!(rt; passes_one(alloc, row, op, left, side)?, want, "{left} {right}");
+            assert_eq!(rt;
+                passes_one(alloc, row, op, left, side)?,
+                want,
+                "{left} {right}"
+            );
         }
     }
     Ok(())
