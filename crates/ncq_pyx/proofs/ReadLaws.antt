@@ -11,10 +11,10 @@ use Rattle.ncq_tree.specs.declared.model.Attribute.{Attribute}
 use Rattle.ncq_tree.specs.declared.model.Node.{Node}
 use Rattle.ncq_tree.specs.declared.model.Node.TheVariants.{Element as element_node, Text as text_node, Text, Element'}
 use Rattle.ncq_tree.specs.declared.model.Element.{Element}
-use Rattle.ncq_tree.specs.Normal.{has_name, are_distinct, node_is_distinct, not_before, insert_by_name, sorted_onto, text_nodes, trimmed, tidy_behind, normal_of, whole_normal, text_is_distinct, element_is_distinct}
+use Rattle.ncq_tree.specs.Normal.{has_name, are_distinct, node_is_distinct, not_before, insert_by_name, sorted_onto, text_nodes, trimmed, tidy_behind, normal_of, whole_normal, normal, text_is_distinct, element_is_distinct}
 use Rattle.ncq_tree.specs.Nodes.{by_nodes_text}
 use Rattle.ncq_tree.proofs.NormalLaws.{normal_of_text, normal_of_element}
-use Rattle.ncq_tree.proofs.NormalMade.{whole_made, element_distinct}
+use Rattle.ncq_tree.proofs.NormalMade.{whole_made, element_distinct, normal_made}
 use Rattle.ncq_tree.proofs.Inductions.{nodes_induction}
 use Rattle.ncq_pyx.specs.declared.turns.Turn.{Turn}
 use Rattle.ncq_pyx.specs.declared.turns.Turn.TheVariants.{Nothing, Begin, Give, Say, Finish, Erase}
@@ -22,7 +22,7 @@ use Rattle.ncq_pyx.specs.declared.item.Item.{Item}
 use Rattle.ncq_pyx.specs.declared.error.PyxError.{PyxError}
 use Rattle.ncq_pyx.specs.LineKinds.{turn_at, begin_of, give_of, say_of, finish_of, erase_of, is_skipped, name_part, value_part, same}
 use Rattle.ncq_pyx.specs.Spells.{Place, Rest, Content, outside, turn, fits, one_more, moved, with_attribute, with_node, first_content, other_contents, element_of, put, begun, told, spell_end, spell_turn, spell, Spells, Reads}
-use Rattle.ncq_pyx.specs.Canonical.{are_good, is_good, is_named, has_good_name, text_is_named, element_is_named, item_is_proper}
+use Rattle.ncq_pyx.specs.Canonical.{are_good, is_good, is_named, has_good_name, text_is_named, element_is_named, is_proper, item_is_proper}
 use Rattle.ncq_pyx.proofs.CanonicalLaws.{good_element, good_text}
 use Rattle.ncq_pyx.proofs.Proper.{named_element}
 
@@ -170,6 +170,26 @@ good_put : (e : Element) → is_good (element_node e) ≡ true → item_is_prope
 good_put e h =
     let k = keeps (element_node e) in
     and_from _ _ (whole_made e (k.distinct h)) (sym (ap is_named (normal_of_element e)) ∙ k.named h)
+
+-- the normal form of good nodes is proper
+pub good_proper : (forest : List Node) → list_all is_good forest ≡ true → is_proper (normal forest) ≡ true
+good_proper forest h =
+    and_from _ _
+    (normal_made forest (each node_is_distinct (λ n. (keeps n).distinct) forest h))
+    (tidy_named (map normal_of forest) [] (all_made forest h))
+  where
+    each : (f : Node → Bool) → ((n : Node) → is_good n ≡ true → f n ≡ true) → (nodes : List Node)
+        → list_all is_good nodes ≡ true → list_all f nodes ≡ true
+    each f give [] k = refl
+    each f give (node ∷ nodes) k =
+        let t = both_true (is_good node) (list_all is_good nodes) k in
+        and_from _ _ (give node t.0) (each f give nodes t.1)
+    all_made : (nodes : List Node) → list_all is_good nodes ≡ true
+        → list_all is_named (map normal_of nodes) ≡ true
+    all_made [] k = refl
+    all_made (node ∷ nodes) k =
+        let t = both_true (is_good node) (list_all is_good nodes) k in
+        and_from _ _ ((keeps node).named t.0) (all_made nodes t.1)
 
 -- what is to come in an open element is good, behind the attributes that were given
 abbrev attributes_are_fine : Option (List Attribute) → List Attribute → Bool

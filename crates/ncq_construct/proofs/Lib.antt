@@ -1,0 +1,2 @@
+pub mod ProperLaws
+pub mod WrittenLaws

@@ -1,0 +1,180 @@
+-- The rows of a shape, by its parts. For the crates above too.
+use Rattle.std.proofs.Common.{◌≡◌, ℕ, ◌+◌, Bool, true, false, if◌then◌else◌, List, [], ◌∷◌, length}
+use Rattle.std.proofs.Common.{map, refl, sym, ap, ◌∙◌, add_assoc, arith, zero-add}
+use Rattle.std.specs.Prelude.{not, fold}
+use Rattle.std.specs.List.{flat_map, sum_by}
+use Rattle.std.proofs.lemmas.List.{append-nil}
+use Rattle.ncq_base.specs.Keys.{is_key}
+use Rattle.ncq_tree.specs.declared.model.Attribute.{Attribute}
+use Rattle.ncq_tree.specs.declared.model.Element.{Element}
+use Rattle.ncq_tree.specs.declared.model.Node.{Node}
+use Rattle.ncq_tree.specs.declared.model.Node.TheVariants.{Text as text_node}
+use Rattle.ncq_tree.specs.declared.model.Node.TheVariants.{Element as element_node}
+use Rattle.ncq_tree.specs.Nodes.{by_nodes_text, by_nodes_element}
+use Rattle.ncq_tree.proofs.NormalLaws.{firsts}
+use Rattle.ncq_row.specs.declared.shape.Shape.{Shape}
+use Rattle.ncq_row.specs.declared.shape.ShapeContent.{ShapeContent}
+use Rattle.ncq_row.specs.declared.shape.ShapeContent.TheVariants.{Parts, Value}
+use Rattle.ncq_row.specs.declared.shape.ShapeSuffix.{ShapeSuffix}
+use Rattle.ncq_row.specs.declared.shape.ShapeSuffix.TheVariants.{Plain, Element as WholeElement}
+use Rattle.ncq_row.specs.declared.shape.ShapeSuffix.TheVariants.{Content}
+use Rattle.ncq_row.specs.declared.value.Value.TheVariants.{Text}
+use Rattle.ncq_row.specs.Shapes.{by_shapes_is, by_contents_parts, by_contents_value}
+use Rattle.ncq_row.specs.Embeddings.{Rows, paired, one_of_each, no_elements, element_if_named}
+use Rattle.ncq_row.specs.Embeddings.{reached_at, reached, attribute_rows, suffix_rows, shape_rows}
+use Rattle.ncq_row.specs.Embeddings.{parts_rows, value_rows, rows_at, content_rows, rows_among}
+use Rattle.ncq_row.specs.Embeddings.{rows_of}
+use Rattle.ncq_row.specs.Widths.{width, content_width, suffix_width}
+use Rattle.ncq_row.proofs.Inductions.{shapes_induction}
+use Rattle.ncq_row.proofs.ShapeLaws.{width_of_shape, width_of_parts, width_of_value}
+use Rattle.ncq_row.proofs.WideRows.{AreWide, wide_renamed, wide_flat_map, wide_paired}
+
+-- a tag reaches no text
+pub reached_text : (tag text : List ℕ) → reached_at tag (text_node text) ≡ []
+reached_text tag text = by_nodes_text no_elements (element_if_named tag) text
+
+-- a tag reaches an element that has it as its name
+pub reached_element : (tag : List ℕ) (e : Element) → reached_at tag (element_node e)
+    ≡ (if is_key e.name tag then e ∷ [] else [])
+reached_element tag e =
+    by_nodes_element no_elements (element_if_named tag) e
+    ∙ ap (λ (nodes : List Node). if is_key e.name tag then
+    record { name = e.name; attributes = e.attributes; children = nodes } ∷ [] else [])
+    (firsts (reached_at tag) e.children)
+
+pub ruleset reached_is = (reached_text, reached_element)
+
+-- a shape has the values of its attributes, then those of its content, then that of its suffix
+pub rows_of_shape : (s : Shape) (e : Element) → rows_at s e
+    ≡ paired (one_of_each (map (attribute_rows e.attributes) s.attributes))
+    (paired (content_rows s.content e) (suffix_rows s.suffix e))
+rows_of_shape s e =
+    ap (λ (f : Element → Rows). f e) (by_shapes_is shape_rows parts_rows value_rows s)
+
+-- a value has the children
+pub rows_of_value : (e : Element) → content_rows Value e ≡ value_rows e
+rows_of_value e =
+    ap (λ (f : Element → Rows). f e) (by_contents_value shape_rows parts_rows value_rows)
+
+each_in : (nodes : List Node) (parts : List Shape)
+    → map (λ (p : Shape × (Element → Rows)). flat_map p.1 (reached p.0.tag nodes))
+    (map (λ (p : Shape). (p, rows_at p)) parts) ≡ map (λ (p : Shape). rows_among p nodes) parts
+each_in nodes [] = refl
+each_in nodes (p ∷ parts) = ap (λ (v : List Rows). rows_among p nodes ∷ v) (each_in nodes parts)
+
+-- parts have one row of each, found among the children
+pub rows_of_parts : (parts : List Shape) (e : Element) → content_rows (Parts parts) e
+    ≡ one_of_each (map (λ (p : Shape). rows_among p e.children) parts)
+rows_of_parts parts e =
+    ap (λ (f : Element → Rows). f e) (by_contents_parts shape_rows parts_rows value_rows parts)
+    ∙ ap one_of_each (each_in e.children parts)
+
+-- the rows of a shape at the elements that are reached at one node
+pub rows_of_node : (s : Shape) (e : Element)
+    → flat_map (rows_at s) (reached_at s.tag (element_node e))
+    ≡ (if is_key e.name s.tag then rows_at s e else [])
+rows_of_node s e = ap (flat_map (rows_at s)) (reached_element s.tag e)
+    ∙ by_name (is_key e.name s.tag)
+  where
+    by_name : (b : Bool) → flat_map (rows_at s) (if b then e ∷ [] else [])
+        ≡ (if b then rows_at s e else [])
+    by_name true = append-nil (rows_at s e)
+    by_name false = refl
+
+-- and at none of a text
+pub rows_of_text : (s : Shape) (text : List ℕ)
+    → flat_map (rows_at s) (reached_at s.tag (text_node text)) ≡ []
+rows_of_text s text = ap (flat_map (rows_at s)) (reached_text s.tag text)
+
+-- nor in an element of another name
+pub rows_of_other : (s : Shape) (e : Element) → not (is_key e.name s.tag) ≡ true
+    → flat_map (rows_at s) (reached_at s.tag (element_node e)) ≡ []
+rows_of_other s e h = rows_of_node s e ∙ by_name (is_key e.name s.tag) h
+  where
+    by_name : (b : Bool) → not b ≡ true → (if b then rows_at s e else []) ≡ []
+    by_name true h = cc
+    by_name false h = refl
+
+pub ruleset nodes_are = (rows_of_node, rows_of_text)
+
+-- a shape has rows in an element of its tag alone
+pub rows_of_element : (s : Shape) (e : Element) → rows_of s e
+    ≡ (if is_key e.name s.tag then rows_at s e else [])
+rows_of_element s e = ap (flat_map (rows_at s)) (append-nil (reached_at s.tag (element_node e)))
+    ∙ rows_of_node s e
+
+-- the rows of a shape and of a content, by its variant
+pub ruleset rows_are = (rows_of_shape, rows_of_value, rows_of_parts, rows_of_element)
+
+-- an attribute has one value, where it is there
+attribute_is_wide : (attributes : List Attribute) (name : List ℕ)
+    → AreWide 1 (attribute_rows attributes name)
+attribute_is_wide [] name = tt
+attribute_is_wide (a ∷ more) name =
+    elim (is_key a.name name) as
+    (λ b. AreWide 1 (if b then (Text a.value ∷ []) ∷ [] else attribute_rows more name)) [
+      | true ↦ (refl, tt)
+      | false ↦ attribute_is_wide more name
+    ]
+
+attributes_are_wide : (attributes : List Attribute) (names : List (List ℕ))
+    → AreWide (length names) (one_of_each (map (attribute_rows attributes) names))
+attributes_are_wide attributes [] = (refl, tt)
+attributes_are_wide attributes (name ∷ names) =
+    wide_renamed (omega arith) refl
+    (wide_paired 1 (length names) (attribute_rows attributes name)
+    (one_of_each (map (attribute_rows attributes) names)) (attribute_is_wide attributes name)
+    (attributes_are_wide attributes names))
+
+suffix_is_wide : (suffix : ShapeSuffix) (e : Element)
+    → AreWide (suffix_width suffix) (suffix_rows suffix e)
+suffix_is_wide Plain e = (refl, tt)
+suffix_is_wide WholeElement e = (refl, tt)
+suffix_is_wide Content e = (refl, tt)
+
+sum_from : {A : Type 0} (f : A → ℕ) (n : ℕ) (xs : List A) → fold (λ a x. a + f x) n xs
+    ≡ n + sum_by f xs
+sum_from f n [] = omega arith
+sum_from f n (x ∷ xs) = let more = sum_from f (n + f x) xs in let rest = sum_from f (0 + f x) xs in
+    omega arith
+
+sum_of_first : {A : Type 0} (f : A → ℕ) (x : A) (xs : List A) → f x + sum_by f xs
+    ≡ sum_by f (x ∷ xs)
+sum_of_first f x xs = sym (sum_from f (0 + f x) xs ∙ ap (λ n. n + sum_by f xs) (zero-add (f x)))
+
+abbrev WideAt : Shape → Type 0
+WideAt s = (e : Element) → AreWide (width s) (rows_at s e)
+
+abbrev WideContent : ShapeContent → Type 0
+WideContent c = (e : Element) → AreWide (content_width c) (content_rows c e)
+
+parts_are_wide : (nodes : List Node) (below : List ((s : Shape) × WideAt s))
+    → AreWide (sum_by width (map (λ e. e.0) below))
+    (one_of_each (map (λ (p : Shape). rows_among p nodes) (map (λ e. e.0) below)))
+parts_are_wide nodes [] = (refl, tt)
+parts_are_wide nodes (part ∷ below) =
+    wide_renamed (sum_of_first width part.0 (map (λ e. e.0) below)) refl
+    (wide_paired (width part.0) (sum_by width (map (λ e. e.0) below)) (rows_among part.0 nodes)
+    (one_of_each (map (λ (p : Shape). rows_among p nodes) (map (λ e. e.0) below)))
+    (wide_flat_map (width part.0) (rows_at part.0) part.1 (reached part.0.tag nodes))
+    (parts_are_wide nodes below))
+
+pub rows_at_have_width : (s : Shape) (e : Element) → AreWide (width s) (rows_at s e)
+rows_at_have_width = shapes_induction WideAt WideContent
+    (λ s content e. wide_renamed
+    (sym (add_assoc (length s.attributes) (content_width s.content) (suffix_width s.suffix))
+    ∙ sym (width_of_shape s)) (sym (rows_of_shape s e))
+    (wide_paired (length s.attributes) (content_width s.content + suffix_width s.suffix)
+    (one_of_each (map (attribute_rows e.attributes) s.attributes))
+    (paired (content_rows s.content e) (suffix_rows s.suffix e))
+    (attributes_are_wide e.attributes s.attributes)
+    (wide_paired (content_width s.content) (suffix_width s.suffix) (content_rows s.content e)
+    (suffix_rows s.suffix e) (content e) (suffix_is_wide s.suffix e))))
+    (λ below e. wide_renamed (sym (width_of_parts (map (λ p. p.0) below)))
+    (sym (rows_of_parts (map (λ p. p.0) below) e)) (parts_are_wide e.children below))
+    (λ e. wide_renamed (sym width_of_value) (sym (rows_of_value e)) (refl, tt))
+
+-- a row of a shape has a value for each of its places
+pub rows_have_width : (s : Shape) (e : Element) → AreWide (width s) (rows_of s e)
+rows_have_width s e =
+    wide_flat_map (width s) (rows_at s) (rows_at_have_width s) (reached s.tag (element_node e ∷ []))
