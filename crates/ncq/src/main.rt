@@ -12,9 +12,11 @@ use ncq_outside::{StdSink, StdSource};
 use ncq_run::{Status, exit_code, run};
 use std::alloc::{AllocError, Global};
 use std::env::Env;
+use std::hash::RandomState;
 use std::io::{ErrorKind, Read, Write};
 use std::marker::Brand;
 use std::process::ExitCode;
+use std::random::RandomSource;
 use std::sync::ledger::{Blank, Ledger};
 use std::{env, io};
 
@@ -40,6 +42,7 @@ fn words_of<R: Env + AllocGlobal>(rt: &R) -> Result<Vec<String>, AllocError> {
 /// It ends with `Usage` exactly where the words are not the one word `run`.
 fn session<R: Read, W: Write, L: Ledger>(
     alloc: Global,
+    seed: RandomState,
     words: &[&str],
     reader: R,
     writer: W,
@@ -56,11 +59,17 @@ where
     let mut steps = Steps::<L>::new(blank);
     let mut input = StdSource::new(reader);
     let mut output = StdSink::new(writer);
-    run(alloc, words, &mut input, &mut output, &mut steps)
+    run(alloc, seed, words, &mut input, &mut output, &mut steps)
 }
 
-/// What the words of the command line ask for, from standard input to standard output.
-fn answer<R: Env + Input + Print + AllocGlobal>(rt: &R) -> Result<Status, AllocError> {
+/// What the words of the command line ask for, from standard input to standard output. Where the system gives no random
+/// bytes for the seed, that is a read fault, and nothing else is read or written.
+fn answer<R: Env + Input + Print + RandomSource + AllocGlobal>(
+    rt: &R,
+) -> Result<Status, AllocError> {
+    let Ok(seed) = RandomState::new(rt) else {
+        return Ok(Status::ReadFault);
+    };
     let owned = words_of(rt)?;
     let mut words = Vec::new(rt.alloc());
     for word in &owned {
@@ -68,6 +77,7 @@ fn answer<R: Env + Input + Print + AllocGlobal>(rt: &R) -> Result<Status, AllocE
     }
     Ok(session::<_, _, Brand>(
         rt.alloc(),
+        seed,
         &words,
         rt.reader(),
         io::writer(rt),

@@ -6,8 +6,11 @@ use ncq_base::{Steps, bytes_of};
 use ncq_outside::{Calls, Sink, Source, memory_sink, memory_source};
 use ncq_run::{Status, run};
 use std::alloc::{AllocError, Global};
+use std::hash::RandomState;
+use std::io;
 use std::marker::Brand;
 use std::process::Abort;
+use std::random::RandomSource;
 use std::sync::ledger::{Blank, Ledger};
 use std::test::Fail;
 
@@ -75,6 +78,15 @@ fn in_pieces(piece: usize) -> Outside<'static> {
     }
 }
 
+/// A source of random bytes that are always the same.
+struct OneSeed;
+
+impl RandomSource for OneSeed {
+    fn fill_bytes(&self, _bytes: &mut [u8]) -> io::Result<()> {
+        Ok(())
+    }
+}
+
 /// How a session ended, and what it wrote.
 #[derive(Drop)]
 struct Outcome {
@@ -112,7 +124,10 @@ where
     requires some { 0 < L.parts }
 {
     let mut steps = Steps::<L>::new(blank);
-    run(alloc, words, input, output, &mut steps)
+    let Ok(seed) = RandomState::new(&OneSeed) else {
+        return Status::NoMemory;
+    };
+    run(alloc, seed, words, input, output, &mut steps)
 }
 
 /// A run with a counter of its own.

@@ -12,6 +12,7 @@ use ncq_pyx::Items;
 use ncq_script::{Command, Refusal, write_refused};
 use ncq_source::{ChangeError, DeclareError, Key, Store};
 use std::alloc::{AllocError, Global};
+use std::hash::RandomState;
 
 /// The sources with their elements, and the live subscriptions in the order of their creates.
 #[derive(Drop)]
@@ -21,13 +22,13 @@ pub(crate) struct Engine {
 }
 
 impl Engine {
-    /// An engine that accepted no command.
-    pub(crate) fn new(alloc: Global) -> Engine
+    /// An engine that accepted no command. Its sources place their keys by the seed.
+    pub(crate) fn new(alloc: Global, seed: RandomState) -> Engine
         ensures stands { Stands result.store result.subscriptions.items [] }
         ensures few { result.store.changes ≡ 0 }
     {
         Engine {
-            store: Store::new(alloc),
+            store: Store::new(alloc, seed),
             subscriptions: Vec::new(alloc),
         }
     }

@@ -16,6 +16,7 @@ use ncq_base::Steps;
 use ncq_outside::{Failed, Sink, Source};
 use ncq_script::ScriptReader;
 use std::alloc::{AllocError, Global};
+use std::hash::RandomState;
 use std::sync::ledger::Ledger;
 
 /// The longest script, in bytes.
@@ -212,6 +213,7 @@ fn turn<I: Source, O: Sink>(
 /// A session on a script of at most `most` bytes, with lines of at most `limit` bytes.
 fn serve<I: Source, O: Sink>(
     alloc: Global,
+    seed: RandomState,
     input: &mut I,
     output: &mut O,
     most: usize,
@@ -231,7 +233,7 @@ fn serve<I: Source, O: Sink>(
     };
     let mut session = Session {
         reader: ScriptReader::new(alloc, limit),
-        engine: Engine::new(alloc),
+        engine: Engine::new(alloc, seed),
         buffer,
         count: 0,
         taken: 0,
@@ -263,9 +265,11 @@ fn is_run(words: &[&str]) -> bool
 /// each of them, and after `NoMemory`, `output` was extended by a front of the defined output. No
 /// more than one byte past 268,435,456 is read. A source that is sure never gives a `ReadFault`, and
 /// a sink gives a `WriteFault` only where it holds all that it was sure to hold.
-/// No row is made yet, so `steps` stays.
+/// Keys are placed by the seed, so that nobody who does not know it can choose keys that fall
+/// together; nothing that is written depends on it. No row is made yet, so `steps` stays.
 pub fn run<I: Source, O: Sink, L: Ledger>(
     alloc: Global,
+    seed: RandomState,
     words: &[&str],
     input: &mut I,
     output: &mut O,
@@ -288,7 +292,7 @@ pub fn run<I: Source, O: Sink, L: Ledger>(
     if !is_run(words) {
         return Status::Usage;
     }
-    serve(alloc, input, output, MAX_SCRIPT, MAX_LINE)
+    serve(alloc, seed, input, output, MAX_SCRIPT, MAX_LINE)
 }
 
 /// The exit code of a status: 0, 2, 3, 4, 5, 6 in the order of the statuses.

@@ -9,13 +9,14 @@ use ncq_pyx::{Item, Items, read_block};
 use ncq_source::{Entry, Key, SourceId, Store};
 use ncq_tree::Element;
 use std::alloc::Global;
+use std::hash::RandomState;
 use std::process::Abort;
 use std::test::Fail;
 
-fn quotes(alloc: Global) -> Result<(Store, SourceId), Fail>
+fn quotes(alloc: Global, seed: RandomState) -> Result<(Store, SourceId), Fail>
     ensures { IfOk result (λ p. IsDeclared p.0 p.1) }
 {
-    let mut store = Store::new(alloc);
+    let mut store = Store::new(alloc, seed);
     let key = Key::Child(bytes_of(alloc, b"Symbol")?);
     let id = store.declare(
         alloc,
@@ -39,7 +40,7 @@ fn put_of_intc(rt: &impl Abort, alloc: Global) -> Result<Items, Fail> {
 
 #[test]
 fn a_declared_source_is_found(rt: HostRuntime) -> Result<(), Fail> {
-    let (store, id) = quotes(rt.alloc())?;
+    let (store, id) = quotes(rt.alloc(), RandomState::new(&rt)?)?;
     assert!(rt; store.find(b"quotes") == Some(id));
     assert!(rt; store.find(b"Quotes").is_none());
     Ok(())
@@ -62,7 +63,7 @@ fn expect_key(
 
 #[test]
 fn an_element_tells_its_key(rt: HostRuntime) -> Result<(), Fail> {
-    let (store, id) = quotes(rt.alloc())?;
+    let (store, id) = quotes(rt.alloc(), RandomState::new(&rt)?)?;
     let items = put_of_intc(&rt, rt.alloc())?;
     assert!(rt; matches!(items.get(0), Some(Item::Put(_))));
     if let Some(Item::Put(element)) = items.get(0) {
@@ -82,7 +83,7 @@ fn expect_put(rt: &impl Abort, entries: &[Entry]) {
 
 #[test]
 fn a_store_takes_what_was_put(rt: HostRuntime) -> Result<(), Fail> {
-    let (mut store, _) = quotes(rt.alloc())?;
+    let (mut store, _) = quotes(rt.alloc(), RandomState::new(&rt)?)?;
     let items = put_of_intc(&rt, rt.alloc())?;
     let change = store.prepare(rt.alloc(), b"quotes", items)?;
     expect_put(&rt, change.entries());
