@@ -7,7 +7,7 @@ use Rattle.std.proofs.lemmas.List.Elements.{filter-append}
 use Rattle.ncq_script.specs.Lines.{LineText, lines, whole_lines}
 use Rattle.ncq_script.proofs.LineLaws.{whole_grow, lines_grow, few_lines, few_whole}
 use Rattle.ncq_script.specs.Words.{begins}
-use Rattle.ncq_script.specs.Commands.{is_end, is_closed, opens_block, command_of, commands_of_lines, commands, whole_commands, known_commands}
+use Rattle.ncq_script.specs.Commands.{is_end, is_closed, opens_block, command_of, with_block, commands_of_lines, commands, whole_commands, known_commands}
 use Rattle.ncq_script.specs.declared.command_lines.CommandLines.{CommandLines}
 use Rattle.ncq_script.specs.declared.word.Keyword.{Keyword}
 use Rattle.ncq_script.proofs.BlockLaws.{before_first-no, before_first-yes}
@@ -45,7 +45,7 @@ Grows before after = (others : List CommandLines) × (after ≡ filter is_closed
 single_grows : (keyword : Keyword) (line : LineText) (ls more : List LineText) → opens_block keyword ≡ false → Grows (commands_of_lines false ls) (commands_of_lines false (ls ++ more)) → Grows (begun line ls (Some keyword)) (begun line (ls ++ more) (Some keyword))
 single_grows keyword line ls more single rest = (
   rest.0,
-  rw single (ap (λ (cs : List CommandLines). record { keyword = keyword; head = line; block = []; closed = true } ∷ cs) rest.1),
+  rw single (ap (λ (cs : List CommandLines). record { keyword = keyword; head = line.bytes; block = []; long = line.long; closed = true } ∷ cs) rest.1),
 )
 
 block_grows : (keyword : Keyword) (line : LineText) (ls more : List LineText) → opens_block keyword ≡ true → Grows (commands_of_lines true ls) (commands_of_lines true (ls ++ more)) → Grows (begun line ls (Some keyword)) (begun line (ls ++ more) (Some keyword))
@@ -53,7 +53,7 @@ block_grows keyword line ls more block rest =
     elim (cases_Bool (list_any is_end ls)) [
       | inl ends ↦ let same = block_stands ls more ends in (
         rest.0,
-        rw (block, ends, same.1, same.0) (ap (λ (cs : List CommandLines). record { keyword = keyword; head = line; block = before_first is_end ls; closed = true } ∷ cs) rest.1),
+        rw (block, ends, same.1, same.0) (ap (λ (cs : List CommandLines). with_block keyword line (before_first is_end ls) true ∷ cs) rest.1),
       )
       | inr never ↦ let none = none_behind ls never in (begun line (ls ++ more) (Some keyword), rw (block, never, none) refl)
     ]
@@ -76,7 +76,7 @@ closed_twice : (cs : List CommandLines) → filter is_closed (filter is_closed c
 closed_twice [] = refl
 closed_twice (command ∷ cs) =
     elim (cases_Bool command.closed) [
-      | inl ends ↦ rw ends (ap (λ (all : List CommandLines). record { keyword = command.keyword; head = command.head; block = command.block; closed = true } ∷ all) (closed_twice cs))
+      | inl ends ↦ rw ends (ap (λ (all : List CommandLines). record command { closed = true } ∷ all) (closed_twice cs))
       | inr goes_on ↦ rw goes_on (closed_twice cs)
     ]
 

@@ -4,8 +4,8 @@ use Rattle.std.specs.Prelude.{All, map}
 use Rattle.std.specs.List.{slice_split, flat_map}
 use Rattle.std.proofs.lemmas.List.Splits.{slice_split_at, slice_split_none, length-slice_split}
 use Rattle.std.proofs.lemmas.List.Elements.{All-head, All-tail}
-use Rattle.ncq_script.specs.Lines.{LineText, is_feed, line_at, lines, whole_lines, last_line, lines_of_parts, whole_of_parts}
-use Rattle.ncq_script.specs.LineReading.{IsClean, ended}
+use Rattle.ncq_script.specs.Lines.{LineText, line_at, lines, whole_lines, last_line, lines_of_parts, whole_of_parts}
+use Rattle.ncq_base.specs.Lines.{is_feed, IsClean, ended}
 
 pub split_given : (given : List (List ℕ)) (more : List ℕ) → All IsClean given → slice_split is_feed (flat_map ended given ++ more) ≡ given ++ slice_split is_feed more
 split_given [] more clean = refl

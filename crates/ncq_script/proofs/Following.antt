@@ -89,6 +89,17 @@ end_marked old new current follows limit closed pushed count (inl f) =
 end_marked old new current follows limit closed pushed count (inr d) =
     inr record { finished = closed; none = d.none; lines = again old.limit new.limit new pushed limit (follows pushed _ d.lines); all = rw limit d.all }
 
+-- the reader of lines moved, and gave none
+pub lines_moved : (old new : LineState) (current : Option CommandLines)
+    → ((pushed : List ℕ) (n : ℕ) → FollowsLines old pushed n → FollowsLines new pushed n) → new.limit ≡ old.limit → new.finished ≡ old.finished
+    → (pushed : List ℕ) (count : ℕ) → Follows (record { lines = old; current = current }) pushed count → Follows (record { lines = new; current = current }) pushed count
+unfolding Follows
+lines_moved old new current follows limit finished pushed count (inl f) =
+    let took = f.2 in
+    inl (f.0, f.1, record { lines = follows pushed _ took.lines; front = rw (limit, finished) took.front; gives = took.gives; closed = took.closed }, f.3)
+lines_moved old new current follows limit finished pushed count (inr d) =
+    inr record { finished = finished ∙ d.finished; none = d.none; lines = again old.limit new.limit new pushed limit (follows pushed _ d.lines); all = rw limit d.all }
+
 -- a line comes: the command that it ends is next
 module _ (old new : LineState) (before after : Option CommandLines) (line : LineText) (limit : new.limit ≡ old.limit) (finished : new.finished ≡ old.finished)
     (next : (pushed : List ℕ) (n : ℕ) → FollowsLines old pushed n → (slice_get (known_lines old.limit old.finished pushed) n ≡ Some line) × FollowsLines new pushed (n + 1)) where

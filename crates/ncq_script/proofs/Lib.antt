@@ -9,3 +9,4 @@ mod CommandLaws
 mod Taken
 mod Following
 mod ScriptLaws
+mod TextLaws

@@ -6,8 +6,8 @@ use Rattle.std.proofs.lemmas.Bool.{cases_Bool}
 use Rattle.std.proofs.lemmas.Bool.Decides.{nat_tests}
 use Rattle.std.proofs.lemmas.List.{append-nil, length-map}
 use Rattle.std.proofs.lemmas.List.Elements.{All-nil, All-cons, All-head, All-tail}
-use Rattle.ncq_script.specs.Lines.{LineText, is_feed, line_at, last_line, lines, whole_lines, known_lines}
-use Rattle.ncq_script.specs.LineReading.{IsClean, ended}
+use Rattle.ncq_script.specs.Lines.{LineText, line_at, last_line, lines, whole_lines, known_lines}
+use Rattle.ncq_base.specs.Lines.{is_feed, IsClean, ended}
 use Rattle.ncq_script.proofs.Cut.{whole_are, lines_are, whole_none, lines_last}
 
 record IsCut (bytes : List ℕ) : Type 0 where

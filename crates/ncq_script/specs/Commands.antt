@@ -1,5 +1,5 @@
 -- The lines of a script, as commands with their blocks.
-use Rattle.std.specs.Prelude.{◌==◌, ◌&&◌, ℕ, Bool, true, false, not, List, [], ◌∷◌, Some, None, if◌then◌else◌}
+use Rattle.std.specs.Prelude.{◌==◌, ◌&&◌, ◌||◌, ℕ, Bool, true, false, not, map, List, [], ◌∷◌, Some, None, if◌then◌else◌}
 use Rattle.std.specs.List.{filter, before_first, list_any}
 use Rattle.ncq_script.specs.Lines.{LineText, lines, whole_lines}
 use Rattle.ncq_script.specs.Words.{begins}
@@ -27,12 +27,31 @@ opens_block Clock = false
 opens_block Report = false
 opens_block Unknown = false
 
--- the command that the line begins, with the lines behind it: its block is those before the first `.`, and it is closed if there is one
+-- the bytes of each line
+abbrev pub bytes_of_lines : List LineText → List (List ℕ)
+bytes_of_lines lines = map (λ line. line.bytes) lines
+
+-- some line was longer than the limit
+abbrev pub any_long : List LineText → Bool
+any_long lines = list_any (λ line. line.long) lines
+
+-- the command that the line begins, with this block
+abbrev pub with_block : Keyword → LineText → List LineText → Bool → CommandLines
+with_block keyword head block closed = record {
+  keyword = keyword;
+  head = head.bytes;
+  block = bytes_of_lines block;
+  long = head.long || any_long block;
+  closed = closed;
+}
+
+-- the command that the line begins, with the lines behind it: its block is those before the first `.`, and it is
+-- closed if there is one
 abbrev pub command_of : Keyword → LineText → List LineText → CommandLines
 command_of keyword head more =
     if opens_block keyword
-    then record { keyword = keyword; head = head; block = before_first is_end more; closed = list_any is_end more }
-    else record { keyword = keyword; head = head; block = []; closed = true }
+    then with_block keyword head (before_first is_end more) (list_any is_end more)
+    else record { keyword = keyword; head = head.bytes; block = []; long = head.long; closed = true }
 
 -- the commands of the lines: inside a block no line begins one, up to the block's end
 abbrev pub commands_of_lines : Bool → List LineText → List CommandLines

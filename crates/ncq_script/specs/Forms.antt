@@ -1,9 +1,8 @@
 -- What the lines of a command say by their form.
 use Rattle.std.specs.Prelude.{◌==◌, ◌||◌, ◌&&◌, ℕ, Bool, not, List, [], ◌∷◌, ◌++◌, Option, Some, None, if◌then◌else◌, nat_le, nat_lt, length, codes}
-use Rattle.std.specs.List.{list_all, list_any, flat_map}
+use Rattle.std.specs.List.{list_all, flat_map}
 use Rattle.std.specs.Str.{str_eq_ignore_ascii_case}
 use Rattle.ncq_base.specs.Names.{is_pyx_name}
-use Rattle.ncq_script.specs.Lines.{LineText}
 use Rattle.ncq_script.specs.declared.command_lines.CommandLines.{CommandLines}
 
 -- no quotation mark, backslash, comma or parenthesis
@@ -33,14 +32,10 @@ source_form (first ∷ name ∷ root_word ∷ root ∷ key_word ∷ rule ∷ [])
     else None
 source_form _ = None
 
--- some line of the command is longer than the limit
-abbrev pub has_long : CommandLines → Bool
-has_long command = command.head.long || list_any (λ line. line.long) command.block
-
 -- a line behind a line feed
-abbrev pub next_line : LineText → List ℕ
-next_line line = 10 ∷ line.bytes
+abbrev pub next_line : List ℕ → List ℕ
+next_line line = 10 ∷ line
 
 -- the text of a statement: its lines before the end of the block, joined by line feeds
 abbrev pub statement_text : CommandLines → List ℕ
-statement_text command = command.head.bytes ++ flat_map next_line command.block
+statement_text command = command.head ++ flat_map next_line command.block

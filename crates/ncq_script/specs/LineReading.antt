@@ -1,7 +1,8 @@
 -- A reader of lines, as contracts see it. A caller needs `FollowsLines` alone, and not what it says.
-use Rattle.std.specs.Prelude.{◌≡◌, ◌+◌, ℕ, Bool, true, false, List, [], ◌∷◌, ◌++◌, length, take, All, nat_lt, ◌⊎◌}
+use Rattle.std.specs.Prelude.{◌≡◌, ◌≤◌, ◌+◌, ℕ, Bool, true, false, List, [], ◌∷◌, ◌++◌, length, take, All, nat_lt, ◌⊎◌}
 use Rattle.std.specs.List.{flat_map}
-use Rattle.ncq_script.specs.Lines.{is_feed, lines}
+use Rattle.ncq_base.specs.Lines.{IsClean, ended}
+use Rattle.ncq_script.specs.Lines.{lines}
 
 -- the front of the line that is not whole, whether more of it came than is kept, the bytes not yet looked at, and whether the end was marked
 pub record LineState : Type 0 where
@@ -11,13 +12,10 @@ pub record LineState : Type 0 where
   pub ahead : List ℕ
   pub finished : Bool
 
--- no line feed is among the bytes
-abbrev pub IsClean : List ℕ → Type 0
-IsClean part = All (λ b. is_feed b ≡ false) part
-
--- a part with the line feed that ends it
-abbrev pub ended : List ℕ → List ℕ
-ended part = part ++ 10 ∷ []
+-- all pieces were looked at and are gone, and of the line that is not whole no more is kept than the limit and one byte
+pub record IsLean (reader : LineState) : Type 0 where
+  pub none : reader.ahead ≡ []
+  pub few : length reader.kept ≤ reader.limit + 1
 
 -- so much of a part is kept that its line can be told
 pub record IsKept (limit : ℕ) (kept : List ℕ) (over : Bool) (part : List ℕ) : Type 0 where

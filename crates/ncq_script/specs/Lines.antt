@@ -2,14 +2,12 @@
 use Rattle.std.specs.Prelude.{◌==◌, ℕ, Bool, List, [], ◌∷◌, length, take, nat_lt, if◌then◌else◌}
 use Rattle.std.specs.List.{slice_split}
 use Rattle.std.specs.Str.Lines.{strip_carriage_return}
+use Rattle.ncq_base.specs.Lines.{is_feed}
 
 -- a line: its bytes up to the limit, and whether it was longer
 pub record LineText : Type 0 where
   pub bytes : List ℕ
   pub long : Bool
-
-abbrev pub is_feed : ℕ → Bool
-is_feed b = b == 10
 
 -- the line of what stands between two line feeds: one carriage return at its end is dropped, and what is longer than the limit is cut there and marked long
 abbrev pub line_at : ℕ → List ℕ → LineText

@@ -4,7 +4,7 @@ use Rattle.std.specs.Option.{option_and_then}
 use Rattle.ncq_base.specs.Names.{is_pyx_name}
 use Rattle.ncq_base.specs.Numbers.{read_u64}
 use Rattle.ncq_base.specs.declared.limit.Limit.TheVariants.{Line, Nesting}
-use Rattle.ncq_pyx.specs.Faults.{block_of}
+use Rattle.ncq_pyx.specs.Faults.{block_of, max_nesting}
 use Rattle.ncq_pyx.specs.declared.item.Item.{Item}
 use Rattle.ncq_pyx.specs.declared.error.PyxError.{PyxError}
 use Rattle.ncq_pyx.specs.declared.error.PyxError.TheVariants.{BadLine, TooDeep, OutOfMemory}
@@ -15,9 +15,8 @@ use Rattle.ncq_xmlql.specs.declared.statement.StatementError.{StatementError}
 use Rattle.ncq_xmlql.specs.declared.statement.StatementError.TheVariants.{NotAStatement, Limit}
 use Rattle.ncq_xmlql.specs.declared.statement.StatementError.TheVariants as statement_error
 use Rattle.ncq_source.specs.declared.key.Key.TheVariants.{Child, Attribute}
-use Rattle.ncq_script.specs.Lines.{LineText}
 use Rattle.ncq_script.specs.Words.{words}
-use Rattle.ncq_script.specs.Forms.{source_form, one_argument, has_long, statement_text}
+use Rattle.ncq_script.specs.Forms.{source_form, one_argument, statement_text}
 use Rattle.ncq_script.specs.declared.command_lines.CommandLines.{CommandLines}
 use Rattle.ncq_script.specs.declared.word.Keyword.{Keyword}
 use Rattle.ncq_script.specs.declared.word.Keyword.TheVariants as keyword
@@ -50,9 +49,6 @@ or_refused (Some command) = command
 abbrev pub if_closed : Bool → Command → Command
 if_closed closed command = if closed then command else Malformed refusal.Unfinished
 
-abbrev pub bytes_of_lines : List LineText → List (List ℕ)
-bytes_of_lines lines = map (λ line. line.bytes) lines
-
 -- a delta of what its block says; a block never says that memory ran out
 abbrev pub delta_of : List ℕ → Result (List Item) PyxError → Command
 delta_of source (Ok items) = Delta source items
@@ -63,7 +59,7 @@ delta_of source (Err OutOfMemory) = Malformed refusal.Command
 -- `delta <source>` with its block
 abbrev pub delta_form : Option (List ℕ) → CommandLines → Command
 delta_form None lines = Malformed refusal.Command
-delta_form (Some source) lines = if_closed lines.closed (delta_of source (block_of 64 (bytes_of_lines lines.block)))
+delta_form (Some source) lines = if_closed lines.closed (delta_of source (block_of max_nesting lines.block))
 
 -- a create of what its text says, or why it says nothing; a text never says that memory ran out
 abbrev pub create_of : Result Statement StatementError → Command
@@ -74,14 +70,14 @@ create_of (Err statement_error.OutOfMemory) = Malformed refusal.Query
 
 -- the command of lines none of which is long
 abbrev pub form_of : Keyword → CommandLines → Command
-form_of keyword.Source lines = or_refused (declare_of (words lines.head.bytes))
-form_of keyword.Delta lines = delta_form (one_argument (words lines.head.bytes)) lines
+form_of keyword.Source lines = or_refused (declare_of (words lines.head))
+form_of keyword.Delta lines = delta_form (one_argument (words lines.head)) lines
 form_of keyword.Create lines = if_closed lines.closed (create_of (statement_of (statement_text lines)))
-form_of keyword.Delete lines = or_refused (option_map Delete (one_argument (words lines.head.bytes)))
-form_of keyword.Clock lines = or_refused (clock_of (words lines.head.bytes))
-form_of keyword.Report lines = if nat_le (length (words lines.head.bytes)) 1 then Report else Malformed refusal.Command
+form_of keyword.Delete lines = or_refused (option_map Delete (one_argument (words lines.head)))
+form_of keyword.Clock lines = or_refused (clock_of (words lines.head))
+form_of keyword.Report lines = if nat_le (length (words lines.head)) 1 then Report else Malformed refusal.Command
 form_of keyword.Unknown lines = Malformed refusal.Command
 
 -- what the lines of a command say, or the first refusal of reading
 abbrev pub read : CommandLines → Command
-read lines = if has_long lines then Malformed (refusal.Limit Line) else form_of lines.keyword lines
+read lines = if lines.long then Malformed (refusal.Limit Line) else form_of lines.keyword lines

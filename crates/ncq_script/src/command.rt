@@ -2,16 +2,15 @@
 ghost use Rattle.std.specs.Prelude.{◌≡◌, if◌then◌else◌, length, nat_le, None, Some, IfOk, MatchOption, option_map};
 ghost use Rattle.std.specs.Option.{option_and_then};
 ghost use Rattle.ncq_base.specs.Numbers.{read_u64};
-ghost use Rattle.ncq_pyx.specs.Faults.{block_of};
+ghost use Rattle.ncq_pyx.specs.Faults.{block_of, max_nesting};
 ghost use Rattle.ncq_xmlql.specs.Answered.{statement_of};
 ghost use Rattle.ncq_script.specs.Words.{words};
-ghost use Rattle.ncq_script.specs.Reads.{rule_of, declare_of, clock_of, if_closed, bytes_of_lines, delta_of, delta_form, create_of, form_of, or_refused, read};
+ghost use Rattle.ncq_script.specs.Reads.{rule_of, declare_of, clock_of, if_closed, delta_of, delta_form, create_of, form_of, or_refused, read};
 ghost use Rattle.ncq_script.specs.Forms.{one_argument};
 ghost use Rattle.ncq_script.specs.Proper.{IsProperCommand};
 
 use crate::command_lines::CommandLines;
-use crate::form::{has_long, one_argument, source_form, statement_text};
-use crate::line::Line;
+use crate::form::{one_argument, source_form, statement_text};
 use crate::refusal::Refusal;
 use crate::word::{Keyword, next_word};
 use ncq_base::{Bytes, Limit, Lines, bytes_of, is_pyx_name, read_u64};
@@ -71,10 +70,10 @@ pub(crate) fn read(alloc: Global, lines: &CommandLines) -> Result<Command, Alloc
     ensures said { IfOk result (λ command. command ≡ read lines.now) }
     ensures proper { IfOk result (λ command. IsProperCommand command) }
 {
-    if has_long(lines) {
+    if lines.long {
         return Ok(refused(Refusal::Limit { which: Limit::Line }));
     }
-    let head = lines.head.bytes();
+    let head = lines.head.as_slice();
     match lines.keyword {
         Keyword::Source => Ok(declare_of(alloc, head)?.unwrap_or(refused(Refusal::Command))),
         Keyword::Delta => delta_form(alloc, head, lines),
@@ -140,16 +139,15 @@ fn delta_form(alloc: Global, head: &[u8], lines: &CommandLines) -> Result<Comman
     if !lines.closed {
         return Ok(refused(Refusal::Unfinished));
     }
-    delta_of(alloc, source, lines.block.as_slice())
+    delta_of(alloc, source, &lines.block)
 }
 
 /// The delta that a block says.
-fn delta_of(alloc: Global, source: &[u8], block: &[Line]) -> Result<Command, AllocError>
-    ensures said { IfOk result (λ command. command ≡ delta_of source.now (block_of 64 (bytes_of_lines block.now))) }
+fn delta_of(alloc: Global, source: &[u8], block: &Lines) -> Result<Command, AllocError>
+    ensures said { IfOk result (λ command. command ≡ delta_of source.now (block_of max_nesting block.now)) }
     ensures proper { IfOk result (λ command. IsProperCommand command) }
 {
-    let lines = lines_of(alloc, block)?;
-    match read_block(alloc, &lines) {
+    match read_block(alloc, block) {
         Ok(items) => Ok(Command::Delta {
             source: bytes_of(alloc, source)?,
             items,
@@ -160,16 +158,6 @@ fn delta_of(alloc: Global, source: &[u8], block: &[Line]) -> Result<Command, All
         })),
         Err(PyxError::OutOfMemory) => Err(AllocError),
     }
-}
-
-fn lines_of(alloc: Global, block: &[Line]) -> Result<Lines, AllocError>
-    ensures { IfOk result (λ lines. lines ≡ bytes_of_lines block.now) }
-{
-    let mut lines = Lines::new(alloc);
-    for line in block {
-        lines.push(bytes_of(alloc, line.bytes())?)?;
-    }
-    Ok(lines)
 }
 
 fn create_form(alloc: Global, lines: &CommandLines) -> Result<Command, AllocError>

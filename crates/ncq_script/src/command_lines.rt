@@ -1,13 +1,13 @@
 //! The lines of a script, cut into commands with their blocks.
-ghost use Rattle.std.specs.Prelude.{◌≡◌, ◌++◌, ◌∷◌, List, None, true, IfOk, IfSome};
+ghost use Rattle.std.specs.Prelude.{◌≡◌, ◌++◌, ◌∷◌, List, None, Some, true, IfOk, OnOk, OnErr, IfSome, option_map};
 ghost use Rattle.std.specs.Option.{option_to_list};
+ghost use Rattle.ncq_base.specs.Lines.{IsClean};
 ghost use Rattle.ncq_script.specs.Lines.{LineText};
 ghost use Rattle.ncq_script.specs.Commands.{is_end, opens_block};
-ghost use Rattle.ncq_script.specs.OpenCommands.{commands_behind, opened, lines_so_far, HasRoom};
+ghost use Rattle.ncq_script.specs.OpenCommands.{Ends, commands_behind, ended, joined, opened};
 
-use crate::line::Line;
 use crate::word::{Keyword, begins};
-use ncq_base::Sequence;
+use ncq_base::{Bytes, Lines, bytes_of};
 use std::alloc::{AllocError, Global};
 
 /// The lines of a command: the one that begins it, and those of its block.
@@ -16,9 +16,11 @@ pub(crate) struct CommandLines {
     /// What the command is called.
     pub keyword: Keyword,
     /// The line that begins it.
-    pub head: Line,
+    pub head: Bytes,
     /// The lines of its block, without the `.` that ends it.
-    pub block: Sequence<Line>,
+    pub block: Lines,
+    /// Whether one of its lines was longer than the limit.
+    pub long: bool,
     /// Whether its block has an end. True of a command without a block.
     pub closed: bool,
 }
@@ -27,69 +29,73 @@ pub(crate) struct CommandLines {
 #[derive(Drop)]
 pub(crate) struct OpenCommand {
     keyword: Keyword,
-    head: Line,
-    block: Vec<Line>,
+    head: Bytes,
+    block: Lines,
+    long: bool,
 }
 
 // Whether the line ends a block.
-fn is_end(line: &Line) -> bool
-    ensures { result ≡ is_end line.now }
+fn is_end(bytes: &[u8], long: bool) -> bool
+    ensures { result ≡ is_end (record { bytes = bytes.now; long = long }) }
 {
-    matches!(line.bytes(), [b'.']) && !line.is_long()
+    matches!(bytes, [b'.']) && !long
 }
 
-// Makes room for one line more.
-pub(crate) fn make_room(current: &mut Option<OpenCommand>) -> Result<(), AllocError>
-    ensures same { opened current.new ≡ opened current.old }
-    ensures room { IfOk result (λ _. HasRoom current.new) }
-{
-    if let Some(command) = current {
-        command.block.reserve(1)?;
-    }
-    Ok(())
-}
-
-// Takes a line, and gives the command that it ends.
+// Takes a line, and gives the command that it ends. Where memory runs out nothing was taken.
 pub(crate) fn take_line(
     alloc: Global,
     current: &mut Option<OpenCommand>,
-    line: Line,
-) -> Option<CommandLines>
-    requires { HasRoom current.old }
-    ensures given { (rest : List LineText) → commands_behind (opened current.old) (line ∷ rest) ≡ option_to_list result ++ commands_behind (opened current.new) rest }
-    ensures closed { IfSome result (λ command. command.closed ≡ true) }
-    ensures none { IfSome result (λ _. opened current.new ≡ None) }
+    bytes: &[u8],
+    long: bool,
+) -> Result<Option<CommandLines>, AllocError>
+    requires { IsClean bytes.now }
+    ensures ends { IfOk result (λ command. Ends (opened current.old)
+        (record { bytes = bytes.now; long = long }) command (opened current.new)) }
+    ensures err { OnErr result (opened current.new ≡ opened current.old) }
 {
-    match current.take() {
-        Some(mut command) => {
-            if is_end(&line) {
-                return Some(command_from(command, true));
-            }
-            match command.block.push(line) {
-                Ok(()) => {}
-                Err(_) => unreachable!(),
-            }
-            *current = Some(command);
-            None
-        }
-        None => {
-            let keyword = begins(line.bytes())?;
-            if opens_block(keyword) {
-                *current = Some(OpenCommand {
-                    keyword,
-                    head: line,
-                    block: Vec::new(alloc),
-                });
-                return None;
-            }
-            Some(CommandLines {
-                keyword,
-                head: line,
-                block: Sequence::new(alloc),
-                closed: true,
-            })
-        }
+    if current.is_none() {
+        return begin_command(alloc, current, bytes, long);
     }
+    if is_end(bytes, long) {
+        return Ok(give_open(current, true));
+    }
+    join_line(current, bytes, long)?;
+    Ok(None)
+}
+
+// Takes a line outside a block.
+fn begin_command(
+    alloc: Global,
+    current: &mut Option<OpenCommand>,
+    bytes: &[u8],
+    long: bool,
+) -> Result<Option<CommandLines>, AllocError>
+    requires { opened current.old ≡ None }
+    ensures ends { IfOk result (λ command. Ends None
+        (record { bytes = bytes.now; long = long }) command (opened current.new)) }
+    ensures err { OnErr result (opened current.new ≡ None) }
+{
+    let Some(keyword) = begins(bytes) else {
+        return Ok(None);
+    };
+    let head = bytes_of(alloc, bytes)?;
+    let block = Lines::new(alloc);
+    if !opens_block(keyword) {
+        return Ok(Some(CommandLines {
+            keyword,
+            head,
+            block,
+            long,
+            closed: true,
+        }));
+    }
+    *current = Some(OpenCommand {
+        keyword,
+        head,
+        block,
+        long,
+    });
+    Ok(None)
 }
 
 fn opens_block(keyword: Keyword) -> bool
@@ -98,23 +104,36 @@ fn opens_block(keyword: Keyword) -> bool
     matches!(keyword, Keyword::Delta | Keyword::Create)
 }
 
-// The command of an open block that ends here.
-fn command_from(current: OpenCommand, closed: bool) -> CommandLines
-    ensures { result ≡ record (lines_so_far current) { closed = closed } }
+// Adds a line to the block that is open.
+fn join_line(current: &mut Option<OpenCommand>, bytes: &[u8], long: bool) -> Result<(), AllocError>
+    requires { IsClean bytes.now }
+    ensures ok { OnOk result (opened current.new
+        ≡ option_map (joined (record { bytes = bytes.now; long = long })) (opened current.old)) }
+    ensures err { OnErr result (opened current.new ≡ opened current.old) }
 {
-    CommandLines {
-        keyword: current.keyword,
-        head: current.head,
-        block: Sequence::from_vec(current.block),
-        closed,
+    if let Some(command) = current {
+        command.block.push(bytes)?;
+        command.long = command.long || long;
     }
+    Ok(())
 }
 
-// The command whose block no line ended.
-pub(crate) fn give_open(current: &mut Option<OpenCommand>) -> Option<CommandLines>
-    ensures given { result ≡ opened current.old }
+// The command whose block is open, where one is: it ends here, or no line ended it.
+pub(crate) fn give_open(current: &mut Option<OpenCommand>, closed: bool) -> Option<CommandLines>
+    ensures given { result ≡ option_map (ended closed) (opened current.old) }
     ensures none { opened current.new ≡ None }
 {
-    let command = current.take()?;
-    Some(command_from(command, false))
+    let OpenCommand {
+        keyword,
+        head,
+        block,
+        long,
+    } = current.take()?;
+    Some(CommandLines {
+        keyword,
+        head,
+        block,
+        long,
+        closed,
+    })
 }

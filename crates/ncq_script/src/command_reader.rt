@@ -2,10 +2,10 @@
 ghost use Rattle.std.specs.Prelude.{◌≡◌, ◌<◌, ◌^◌, ◌++◌, ℕ, List, [], true, false, IfOk, OnOk, OnErr};
 ghost use Rattle.ncq_script.specs.OpenCommands.{opened};
 ghost use Rattle.ncq_script.specs.Reading.{CommandState, Follows};
-ghost use Rattle.ncq_script.specs.NextOfCommands.{IsNext, Falls};
+ghost use Rattle.ncq_script.specs.NextOfCommands.{IsNext, Falls, LeavesLittle};
 
-use crate::command_lines::{CommandLines, OpenCommand, give_open, make_room, take_line};
-use crate::line::{LineReader, NextLine};
+use crate::command_lines::{CommandLines, OpenCommand, give_open, take_line};
+use crate::line::{Found, LineReader};
 use std::alloc::{AllocError, Global};
 use std::marker::Model;
 
@@ -77,6 +77,7 @@ impl CommandReader {
         ensures next { IfOk result (λ next. (pushed : List ℕ) (count : ℕ) → Follows self.old pushed count → IsNext self.old self.new pushed count next) }
         ensures err { OnErr result ((pushed : List ℕ) (count : ℕ) → Follows self.old pushed count → Follows self.new pushed count) }
         ensures falls { IfOk result (λ next. Falls self.old self.new next) }
+        ensures little { IfOk result (λ next. LeavesLittle self.new next) }
         ensures limit { self.new.lines.limit ≡ self.old.lines.limit }
         ensures finished { self.new.lines.finished ≡ self.old.lines.finished }
     {
@@ -95,18 +96,24 @@ fn next_command(
     ensures err { OnErr result ((pushed : List ℕ) (count : ℕ) → Follows (record { lines = lines.old; current = opened current.old }) pushed count →
         Follows (record { lines = lines.new; current = opened current.new }) pushed count) }
     ensures falls { IfOk result (λ next. Falls (record { lines = lines.old; current = opened current.old }) (record { lines = lines.new; current = opened current.new }) next) }
+    ensures little { IfOk result (λ next. LeavesLittle
+        (record { lines = lines.new; current = opened current.new }) next) }
     ensures limit { lines.new.limit ≡ lines.old.limit }
     ensures finished { lines.new.finished ≡ lines.old.finished }
 {
     'lines: loop {
-        make_room(current)?;
-        match lines.next()? {
-            NextLine::Line(line) => match take_line(alloc, current, line) {
-                Some(command) => return Ok(NextCommand::Lines(command)),
-                None => {}
-            },
-            NextLine::Wanting => return Ok(NextCommand::Wanting),
-            NextLine::End => match give_open(current) {
+        match lines.find()? {
+            Found::Line(len) => {
+                let (bytes, long) = lines.line(len);
+                let command = take_line(alloc, current, bytes, long)?;
+                lines.pass(len);
+                match command {
+                    Some(command) => return Ok(NextCommand::Lines(command)),
+                    None => {}
+                }
+            }
+            Found::Wanting => return Ok(NextCommand::Wanting),
+            Found::End => match give_open(current, false) {
                 Some(command) => return Ok(NextCommand::Lines(command)),
                 None => return Ok(NextCommand::End),
             },

@@ -1,12 +1,10 @@
 //! What the lines of a command say by their form.
-ghost use Rattle.std.specs.Prelude.{◌≡◌, ◌++◌, None, Some, IfOk, MatchOption, OnOk};
-ghost use Rattle.std.specs.List.{flat_map, list_all, list_any};
-ghost use Rattle.ncq_script.specs.Lines.{LineText};
+ghost use Rattle.std.specs.Prelude.{◌≡◌, None, Some, IfOk, MatchOption};
+ghost use Rattle.std.specs.List.{list_all};
 ghost use Rattle.ncq_script.specs.Words.{words};
-ghost use Rattle.ncq_script.specs.Forms.{is_source_byte, is_source_name, one_argument, source_form, has_long, next_line, statement_text};
+ghost use Rattle.ncq_script.specs.Forms.{is_source_byte, is_source_name, one_argument, source_form, statement_text};
 
 use crate::command_lines::CommandLines;
-use crate::line::Line;
 use crate::word::{next_word, same_word};
 use ncq_base::is_pyx_name;
 use std::alloc::{AllocError, Global};
@@ -80,35 +78,13 @@ pub(crate) fn source_form(head: &[u8]) -> Option<SourceForm<'_>>
     }
 }
 
-/// Whether any line of the command, its first included, is longer than the limit.
-pub(crate) fn has_long(command: &CommandLines) -> bool
-    ensures { result ≡ has_long command.now }
-{
-    command.head.is_long() || any_long(command.block.as_slice())
-}
-
-fn any_long(lines: &[Line]) -> bool
-    ensures { result ≡ list_any {X = LineText} (λ line. line.long) lines.now }
-{
-    lines.iter().any(|line| line.is_long())
-}
-
 /// The text of a statement: its first line and the lines of its block, joined by line feeds.
 pub(crate) fn statement_text(alloc: Global, command: &CommandLines) -> Result<Vec<u8>, AllocError>
     ensures { IfOk result (λ text. text.items ≡ statement_text command.now) }
 {
-    let mut text = Vec::from_slice(alloc, command.head.bytes())?;
-    append_lines(command.block.as_slice(), &mut text)?;
+    let mut text = Vec::from_slice(alloc, command.head.as_slice())?;
+    text.push(b'\n')?;
+    text.extend_from_slice(command.block.text())?;
+    text.pop();
     Ok(text)
-}
-
-/// Appends each line behind a line feed.
-fn append_lines(lines: &[Line], text: &mut Vec<u8>) -> Result<(), AllocError>
-    ensures { OnOk result (text.new.items ≡ text.old.items ++ flat_map next_line lines.now) }
-{
-    for line in lines {
-        text.push(b'\n')?;
-        text.extend_from_slice(line.bytes())?;
-    }
-    Ok(())
 }

@@ -1,50 +1,13 @@
 //! The lines of a script that comes in pieces.
-ghost use Rattle.std.specs.Prelude.{◌≡◌, ◌<◌, ◌≤◌, ◌+◌, ◌++◌, ◌^◌, ◌∷◌, [], ℕ, List, false, true, MatchOption, IfOk, OnOk, OnErr, length, drop, vec_len};
+ghost use Rattle.std.specs.Prelude.{◌≡◌, ◌<◌, ◌≤◌, ◌+◌, ◌++◌, ◌^◌, [], ℕ, List, false, true, IfOk, OnOk, OnErr, length, drop, take, vec_len};
 ghost use Rattle.std.specs.Str.Lines.{strip_carriage_return};
-ghost use Rattle.ncq_script.specs.Lines.{LineText, line_at};
-ghost use Rattle.ncq_script.specs.LineReading.{LineState, IsKept, IsClean, FollowsLines};
+ghost use Rattle.ncq_base.specs.Lines.{IsClean};
+ghost use Rattle.ncq_script.specs.Lines.{line_at};
+ghost use Rattle.ncq_script.specs.LineReading.{LineState, IsKept, IsLean, FollowsLines};
 
+use ncq_base::first_line;
 use std::alloc::{AllocError, Global};
 use std::marker::Model;
-use std::mem;
-
-/// A line of a script, without its line feed and without one carriage return in front of that.
-#[derive(Drop)]
-pub(crate) struct Line {
-    bytes: Vec<u8>,
-    long: bool,
-}
-
-impl Model for Line {
-    ghost Value = { LineText };
-
-    ghost view = { λ l. record { bytes = l.bytes.items; long = l.long } };
-}
-
-impl Line {
-    /// Its bytes, up to the limit.
-    pub fn bytes(&self) -> &[u8]
-        ensures { result.now ≡ self.now.bytes }
-    {
-        self.bytes.as_slice()
-    }
-
-    /// Whether it was longer than the limit.
-    pub fn is_long(&self) -> bool
-        ensures { result ≡ self.now.long }
-    {
-        self.long
-    }
-}
-
-// The bytes before the first line feed.
-fn before_feed(bytes: &[u8]) -> Option<&[u8]>
-    ensures { MatchOption result (IsClean bytes.now)
-        (λ front. IsClean front.now × (bytes.now ≡ front.now ++ 10 ∷ drop (length front.now + 1) bytes.now)) }
-{
-    let end = bytes.iter().position(|b| *b == b'\n')?;
-    Some(&bytes[..end])
-}
 
 // Keeps more bytes of the line that is not whole, as far as they matter: one byte beyond the limit may be a carriage return.
 fn keep(kept: &mut Vec<u8>, over: &mut bool, more: &[u8], limit: usize) -> Result<(), AllocError>
@@ -53,6 +16,7 @@ fn keep(kept: &mut Vec<u8>, over: &mut bool, more: &[u8], limit: usize) -> Resul
     ensures ok { OnOk result ((part : List ℕ) → IsKept limit kept.old.items over.old part → IsKept limit kept.new.items over.new (part ++ more.now)) }
     ensures err { OnErr result ((kept.new.items ≡ kept.old.items) × (over.new ≡ over.old)) }
     ensures few { vec_len kept.new ≤ limit + 1 }
+    ensures clean { IsClean kept.old.items → IsClean more.now → IsClean kept.new.items }
     ensures grown { vec_len kept.new ≤ vec_len kept.old + length more.now }
 {
     let count = more.len().min(limit + 1 - kept.len());
@@ -63,37 +27,52 @@ fn keep(kept: &mut Vec<u8>, over: &mut bool, more: &[u8], limit: usize) -> Resul
     Ok(())
 }
 
-// Drops one carriage return at the end.
-fn strip(part: &mut Vec<u8>)
-    ensures { part.new.items ≡ strip_carriage_return part.old.items }
+// The text without one carriage return at its end.
+fn strip(text: &[u8]) -> &[u8]
+    ensures { result.now ≡ strip_carriage_return text.now }
 {
-    if part.last() == Some(&b'\r') {
-        part.pop();
+    match text {
+        [front @ .., b'\r'] => front,
+        _ => text,
     }
 }
 
-// The line of what was kept.
-fn line_from(mut kept: Vec<u8>, over: bool, limit: usize) -> Line
-    ensures { (part : List ℕ) → IsKept limit kept.items over part → result ≡ line_at limit part }
+// So many bytes of a text, or all of it.
+fn cut(text: &[u8], limit: usize) -> &[u8]
+    ensures { result.now ≡ take limit text.now }
+{
+    if text.len() <= limit {
+        return text;
+    }
+    &text[..limit]
+}
+
+// The line of what stands between two line feeds, and whether it was longer than the limit.
+fn line_at(part: &[u8], limit: usize) -> (&[u8], bool)
+    ensures line { record { bytes = result.0.now; long = result.1 } ≡ line_at limit part.now }
+    ensures clean { IsClean part.now → IsClean result.0.now }
+{
+    let line = strip(part);
+    (cut(line, limit), line.len() > limit)
+}
+
+// The line of a part of which so much was kept.
+fn line_kept(kept: &[u8], over: bool, limit: usize) -> (&[u8], bool)
+    ensures line { (part : List ℕ) → IsKept limit kept.now over part →
+        record { bytes = result.0.now; long = result.1 } ≡ line_at limit part }
+    ensures clean { IsClean kept.now → IsClean result.0.now }
 {
     if over {
-        kept.truncate(limit);
-        return Line {
-            bytes: kept,
-            long: true,
-        };
+        return (cut(kept, limit), true);
     }
-    strip(&mut kept);
-    let long = kept.len() > limit;
-    kept.truncate(limit);
-    Line { bytes: kept, long }
+    line_at(kept, limit)
 }
 
 /// What a reader of lines has next.
 #[derive(Drop)]
-pub(crate) enum NextLine {
-    /// The next line.
-    Line(Line),
+pub(crate) enum Found {
+    /// A line, which so many of the bytes that were not yet looked at end.
+    Line(usize),
     /// No further line is whole, and the end is not marked.
     Wanting,
     /// The end is marked, and all lines were given.
@@ -102,12 +81,11 @@ pub(crate) enum NextLine {
 
 /// The lines of bytes that are pushed piece by piece.
 ///
-/// Each byte is looked at once: what is left of a piece without a line feed joins the line that is not whole,
-/// of which no more is kept than the limit and one byte. Where `next` is called up to `Wanting` after each `push`,
-/// nothing of the earlier pieces is kept but that line; pieces pushed without it are kept whole until then.
+/// A line that stands whole in the pieces is lent and not copied. What is left of them without a line feed joins the
+/// line that is not whole, of which no more is kept than the limit and one byte, and the pieces go. So where `find` is
+/// called up to `Wanting` after each `push`, nothing of the earlier pieces is kept but that line.
 #[derive(Drop)]
 pub(crate) struct LineReader {
-    alloc: Global,
     limit: usize,
     // The front of the line that is not whole, and whether more of it came.
     kept: Vec<u8>,
@@ -119,6 +97,10 @@ pub(crate) struct LineReader {
 }
 
 impl Model for LineReader {
+    ghost use Rattle.std.specs.Prelude.{◌<◌, ◌≤◌, ◌+◌, ◌-◌, ◌^◌, drop, vec_len};
+    ghost use Rattle.ncq_base.specs.Lines.{IsClean};
+    ghost use Rattle.ncq_script.specs.LineReading.{LineState};
+
     ghost Value = { LineState };
 
     ghost view = { λ r. record {
@@ -129,11 +111,12 @@ impl Model for LineReader {
       finished = r.finished;
     } };
 
-    ghost invariant = { λ r. (r.limit < 2 ^ 62) × (vec_len r.kept ≤ r.limit + 1) × (r.at ≤ vec_len r.pending) };
+    // The pieces go as soon as all of them was looked at: else less than their length was.
+    ghost invariant = { λ r. (r.limit < 2 ^ 62) × (vec_len r.kept ≤ r.limit + 1) × (r.at ≤ vec_len r.pending - 1) × IsClean r.kept.items };
 }
 
 impl LineReader {
-    ghost use Rattle.ncq_script.specs.NextOfLines.{IsNextLine, LinesFall};
+    ghost use Rattle.ncq_script.specs.NextOfLines.{IsFound, IsReady, passed};
 
     /// A reader that was pushed nothing, for lines of at most `limit` bytes.
     pub fn new(alloc: Global, limit: usize) -> LineReader
@@ -143,7 +126,6 @@ impl LineReader {
         ensures open { result.finished ≡ false }
     {
         LineReader {
-            alloc,
             limit,
             kept: Vec::new(alloc),
             over: false,
@@ -174,43 +156,68 @@ impl LineReader {
         self.finished = true;
     }
 
-    /// The next line of the bytes that were pushed. Where memory runs out, the reader is as before.
-    pub fn next(&mut self) -> Result<NextLine, AllocError>
-        ensures next { IfOk result (λ next. (pushed : List ℕ) (count : ℕ) → FollowsLines self.old pushed count → IsNextLine self.old self.new pushed count next) }
+    /// Looks for the next line of the bytes that were pushed. Where memory runs out, the reader is as before.
+    pub fn find(&mut self) -> Result<Found, AllocError>
+        ensures found { IfOk result (λ found. (pushed : List ℕ) (count : ℕ) →
+            FollowsLines self.old pushed count → IsFound self.old self.new pushed count found) }
+        ensures ready { IfOk result (λ found. (len : ℕ) → found ≡ Found.Line len → IsReady self.new len) }
+        ensures lean { IfOk result (λ found. found ≡ Found.Wanting → IsLean self.new) }
         ensures err { OnErr result (self.new ≡ self.old) }
-        ensures falls { IfOk result (λ next. LinesFall self.old self.new next) }
+        ensures less { length self.new.kept + length self.new.ahead ≤ length self.old.kept + length self.old.ahead }
         ensures limit { self.new.limit ≡ self.old.limit }
         ensures finished { self.new.finished ≡ self.old.finished }
     {
         let ahead = ahead_of(&self.pending, self.at);
-        match before_feed(ahead) {
-            Some(front) => {
+        match first_line(ahead) {
+            Some((front, _)) => {
+                if self.kept.is_empty() {
+                    return Ok(Found::Line(front.len()));
+                }
                 keep(&mut self.kept, &mut self.over, front, self.limit)?;
-                self.at += front.len() + 1;
-                Ok(NextLine::Line(take_kept(
-                    &mut self.kept,
-                    &mut self.over,
-                    self.alloc,
-                    self.limit,
-                )))
+                self.at += front.len();
+                Ok(Found::Line(0))
             }
             None => {
                 keep(&mut self.kept, &mut self.over, ahead, self.limit)?;
                 self.pending.clear();
                 self.at = 0;
                 if !self.finished {
-                    return Ok(NextLine::Wanting);
+                    return Ok(Found::Wanting);
                 }
                 if self.kept.is_empty() {
-                    return Ok(NextLine::End);
+                    return Ok(Found::End);
                 }
-                Ok(NextLine::Line(take_kept(
-                    &mut self.kept,
-                    &mut self.over,
-                    self.alloc,
-                    self.limit,
-                )))
+                Ok(Found::Line(0))
             }
+        }
+    }
+
+    /// The line that was found, up to the limit, and whether it was longer.
+    pub fn line(&self, len: usize) -> (&[u8], bool)
+        requires { IsReady self.now len }
+        ensures line { (part : List ℕ) → IsKept self.now.limit self.now.kept self.now.over part →
+            record { bytes = result.0.now; long = result.1 } ≡ line_at self.now.limit (part ++ take len self.now.ahead) }
+        ensures clean { IsClean result.0.now }
+    {
+        if self.kept.is_empty() {
+            return line_at(cut(ahead_of(&self.pending, self.at), len), self.limit);
+        }
+        line_kept(self.kept.as_slice(), self.over, self.limit)
+    }
+
+    /// Goes behind the line that was found.
+    pub fn pass(&mut self, len: usize)
+        requires { len ≤ length self.old.ahead }
+        ensures { self.new ≡ passed self.old len }
+    {
+        self.kept.clear();
+        self.over = false;
+        let behind = self.at + len + 1;
+        if behind < self.pending.len() {
+            self.at = behind;
+        } else {
+            self.pending.clear();
+            self.at = 0;
         }
     }
 }
@@ -221,15 +228,4 @@ fn ahead_of(pending: &[u8], at: usize) -> &[u8]
     ensures { result.now ≡ drop at pending.now }
 {
     &pending[at..]
-}
-
-// The line of what was kept, and nothing is kept from then on.
-fn take_kept(kept: &mut Vec<u8>, over: &mut bool, alloc: Global, limit: usize) -> Line
-    ensures line { (part : List ℕ) → IsKept limit kept.old.items over.old part → result ≡ line_at limit part }
-    ensures none { IsKept limit kept.new.items over.new [] }
-    ensures few { vec_len kept.new ≡ 0 }
-{
-    let part = mem::replace(kept, Vec::new(alloc));
-    let more = mem::replace(over, false);
-    line_from(part, more, limit)
 }

@@ -1,11 +1,11 @@
 //! The commands of a script that comes in pieces, each as what it says.
 ghost use Rattle.std.specs.Prelude.{◌≡◌, ◌<◌, ◌^◌, ◌++◌, ℕ, List, [], None, Some, true, false, IfOk, OnOk, OnErr};
-ghost use Rattle.ncq_script.specs.NextOfCommands.{IsNext};
+ghost use Rattle.ncq_script.specs.NextOfCommands.{IsNext, LeavesLittle};
 ghost use Rattle.ncq_script.specs.Reading.{Follows};
 ghost use Rattle.ncq_script.specs.Proper.{GivesProper};
 ghost use Rattle.ncq_script.specs.Reads.{read};
 ghost use Rattle.ncq_script.specs.ScriptReading.{ScriptState, FollowsScript, FollowsWith, limit_of, is_finished};
-ghost use Rattle.ncq_script.specs.NextOfScript.{IsNextCommand, ScriptFalls, LinesTaken};
+ghost use Rattle.ncq_script.specs.NextOfScript.{IsNextCommand, KeepsLittle, ScriptFalls, LinesTaken};
 
 use crate::command::{Command, read};
 use crate::command_lines::CommandLines;
@@ -84,6 +84,7 @@ impl ScriptReader {
         ensures proper { IfOk result GivesProper }
         ensures err { OnErr result ((pushed : List ℕ) (count : ℕ) → FollowsScript self.old pushed count → FollowsScript self.new pushed count) }
         ensures falls { IfOk result (λ next. ScriptFalls self.old self.new next) }
+        ensures little { IfOk result (λ next. KeepsLittle self.new next) }
         ensures limit { limit_of self.new ≡ limit_of self.old }
         ensures finished { is_finished self.new ≡ is_finished self.old }
     {
@@ -102,6 +103,8 @@ fn next_read(
     ensures err { OnErr result ((pushed : List ℕ) (count : ℕ) → FollowsScript (record { reader = reader.old; waiting = waiting.old }) pushed count →
         FollowsScript (record { reader = reader.new; waiting = waiting.new }) pushed count) }
     ensures proper { IfOk result GivesProper }
+    ensures little { IfOk result (λ next. KeepsLittle
+        (record { reader = reader.new; waiting = waiting.new }) next) }
     ensures falls { IfOk result (λ next. ScriptFalls (record { reader = reader.old; waiting = waiting.old }) (record { reader = reader.new; waiting = waiting.new }) next) }
     ensures limit { reader.new.lines.limit ≡ reader.old.lines.limit }
     ensures finished { reader.new.lines.finished ≡ reader.old.lines.finished }
@@ -121,6 +124,7 @@ fn next_lines(
     ensures next { IfOk result (λ next. (pushed : List ℕ) (count : ℕ) → FollowsWith reader.old waiting.old pushed count → IsNext reader.old reader.new pushed count next) }
     ensures err { OnErr result ((pushed : List ℕ) (count : ℕ) → FollowsWith reader.old waiting.old pushed count → Follows reader.new pushed count) }
     ensures falls { IfOk result (λ next. LinesTaken reader.old waiting.old reader.new next) }
+    ensures little { IfOk result (λ next. LeavesLittle reader.new next) }
     ensures none { waiting.new ≡ None }
     ensures limit { reader.new.lines.limit ≡ reader.old.lines.limit }
     ensures finished { reader.new.lines.finished ≡ reader.old.lines.finished }

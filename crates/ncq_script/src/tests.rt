@@ -3,8 +3,7 @@ ghost use Rattle.ncq_script.specs.ScriptReading.{is_finished};
 
 use crate::command_lines::CommandLines;
 use crate::command_reader::{CommandReader, NextCommand};
-use crate::form::{has_long, is_source_name, one_argument, source_form};
-use crate::line::{LineReader, NextLine};
+use crate::form::{is_source_name, one_argument, source_form};
 use crate::word::Keyword;
 use crate::{Command, Next, Refusal, ScriptReader};
 use ncq_base::Limit;
@@ -14,17 +13,6 @@ use std::test::Fail;
 
 // The lines of the tables are cut at this many bytes.
 const LIMIT: usize = 12;
-
-// Lines as a text: `[` and `]` round each, `~` behind one that was longer.
-fn show_line(out: &mut Vec<u8>, bytes: &[u8], long: bool) -> Result<(), AllocError> {
-    out.push(b'[')?;
-    out.extend_from_slice(bytes)?;
-    out.push(b']')?;
-    if long {
-        out.push(b'~')?;
-    }
-    Ok(())
-}
 
 fn letter(keyword: Keyword) -> u8 {
     match keyword {
@@ -38,12 +26,17 @@ fn letter(keyword: Keyword) -> u8 {
     }
 }
 
-// A command as a text: its letter, its lines, and `!` where its block is open.
+// A command as a text: its letter, its lines, each ended by a bar, `~` where one was longer than the limit, and `!`
+// where its block is open.
 fn show_command(out: &mut Vec<u8>, command: &CommandLines) -> Result<(), AllocError> {
     out.push(letter(command.keyword))?;
-    show_line(out, command.head.bytes(), command.head.is_long())?;
-    for line in command.block.as_slice() {
-        show_line(out, line.bytes(), line.is_long())?;
+    out.extend_from_slice(command.head.as_slice())?;
+    out.push(b'|')?;
+    for byte in command.block.text() {
+        out.push(if *byte == b'\n' { b'|' } else { *byte })?;
+    }
+    if command.long {
+        out.push(b'~')?;
     }
     if !command.closed {
         out.push(b'!')?;
@@ -97,28 +90,28 @@ fn lines_are_cut_at_line_feeds_and_at_the_limit(rt: HostRuntime) -> Result<(), F
         // The last line needs no line feed, and an empty one is none.
         (b"".as_slice(), b"".as_slice()),
         (b"\n", b""),
-        (b"report", b"R[report]"),
-        (b"report\n", b"R[report]"),
-        (b"report\nreport", b"R[report]R[report]"),
+        (b"report", b"Rreport|"),
+        (b"report\n", b"Rreport|"),
+        (b"report\nreport", b"Rreport|Rreport|"),
         // One carriage return is dropped at the end of a line; inside it parts words.
         (b"\r", b""),
         (b"\r\n", b""),
-        (b"report\r\n", b"R[report]"),
-        (b"report\r", b"R[report]"),
-        (b"report\r\r\n", b"R[report\r]"),
-        (b"\rreport\n", b"R[\rreport]"),
-        (b"re\rport\n", b"U[re\rport]"),
+        (b"report\r\n", b"Rreport|"),
+        (b"report\r", b"Rreport|"),
+        (b"report\r\r\n", b"Rreport\r|"),
+        (b"\rreport\n", b"R\rreport|"),
+        (b"re\rport\n", b"Ure\rport|"),
         // A line of 12 bytes is whole, one of 13 is cut; a carriage return at the end does not count.
-        (b"clock 123456\n", b"K[clock 123456]"),
-        (b"clock 123456\r\n", b"K[clock 123456]"),
-        (b"clock 123456", b"K[clock 123456]"),
-        (b"clock 1234567\n", b"K[clock 123456]~"),
-        (b"clock 1234567\r\n", b"K[clock 123456]~"),
-        (b"clock 123456\r\r\n", b"K[clock 123456]~"),
-        (b"clock 1234567", b"K[clock 123456]~"),
+        (b"clock 123456\n", b"Kclock 123456|"),
+        (b"clock 123456\r\n", b"Kclock 123456|"),
+        (b"clock 123456", b"Kclock 123456|"),
+        (b"clock 1234567\n", b"Kclock 123456|~"),
+        (b"clock 1234567\r\n", b"Kclock 123456|~"),
+        (b"clock 123456\r\r\n", b"Kclock 123456|~"),
+        (b"clock 1234567", b"Kclock 123456|~"),
         // Of a long line only the front is looked at.
-        (b"            report\nreport\n", b"R[report]"),
-        (b"#           \r          \nreport\n", b"R[report]"),
+        (b"            report\nreport\n", b"Rreport|"),
+        (b"#           \r          \nreport\n", b"Rreport|"),
     ] {
         agrees(&rt, rt.alloc(), script, want)?;
     }
@@ -130,22 +123,22 @@ fn a_command_is_its_first_word(rt: HostRuntime) -> Result<(), Fail> {
     for (script, want) in [
         (
             b"source\nclock\nreport\ndelete\n".as_slice(),
-            b"S[source]K[clock]R[report]X[delete]".as_slice(),
+            b"Ssource|Kclock|Rreport|Xdelete|".as_slice(),
         ),
         (
             b"SOURCE\ncLocK 1\nReport\nDELETE\n",
-            b"S[SOURCE]K[cLocK 1]R[Report]X[DELETE]",
+            b"SSOURCE|KcLocK 1|RReport|XDELETE|",
         ),
-        (b" \t\r clock 7\n", b"K[ \t\r clock 7]"),
-        (b"clocks\nclo\n", b"U[clocks]U[clo]"),
+        (b" \t\r clock 7\n", b"K \t\r clock 7|"),
+        (b"clocks\nclo\n", b"Uclocks|Uclo|"),
         // Blank lines and comments are none; `#` inside a line is no comment.
         (b" \t \n\n# clock 1\n \t\r#clock 2\n", b""),
-        (b"report# 1\nx #\n", b"U[report# 1]U[x #]"),
+        (b"report# 1\nx #\n", b"Ureport# 1|Ux #|"),
         // A form feed, a vertical tab and bytes above 127 belong to words.
-        (b"\x0creport\n", b"U[\x0creport]"),
-        (b"report\x0b\n", b"U[report\x0b]"),
-        (b"\xc2\xa0report\n", b"U[\xc2\xa0report]"),
-        (b"report \xff\n", b"R[report \xff]"),
+        (b"\x0creport\n", b"U\x0creport|"),
+        (b"report\x0b\n", b"Ureport\x0b|"),
+        (b"\xc2\xa0report\n", b"U\xc2\xa0report|"),
+        (b"report \xff\n", b"Rreport \xff|"),
     ] {
         agrees(&rt, rt.alloc(), script, want)?;
     }
@@ -157,27 +150,24 @@ fn a_block_ends_with_a_line_that_is_exactly_a_dot(rt: HostRuntime) -> Result<(),
     for (script, want) in [
         (
             b"delta q\n(a\n)a\n.\nreport\n".as_slice(),
-            b"D[delta q][(a][)a]R[report]".as_slice(),
+            b"Ddelta q|(a|)a|Rreport|".as_slice(),
         ),
-        (b"CREATE x y z\n.\n", b"C[CREATE x y z]"),
-        (b"Delta\n.\r\nreport\n", b"D[Delta]R[report]"),
-        (b"delta\n.", b"D[delta]"),
+        (b"CREATE x y z\n.\n", b"CCREATE x y z|"),
+        (b"Delta\n.\r\nreport\n", b"DDelta|Rreport|"),
+        (b"delta\n.", b"Ddelta|"),
         // No other line ends it.
-        (
-            b"delta\n. \n .\n..\n.\r\r\n\n",
-            b"D[delta][. ][ .][..][.\r][]!",
-        ),
+        (b"delta\n. \n .\n..\n.\r\r\n\n", b"Ddelta|. | .|..|.\r||!"),
         // Comments, blank lines and commands inside it are lines of the block.
         (
             b"delta\n#x\n\nreport\ndelta b\n.\nreport\n",
-            b"D[delta][#x][][report][delta b]R[report]",
+            b"Ddelta|#x||report|delta b|Rreport|",
         ),
         // A block without an end.
-        (b"delta\n", b"D[delta]!"),
-        (b"create\nDO print", b"C[create][DO print]!"),
-        (b"create\n0123456789abc\n.\n", b"C[create][0123456789ab]~"),
+        (b"delta\n", b"Ddelta|!"),
+        (b"create\nDO print", b"Ccreate|DO print|!"),
+        (b"create\n0123456789abc\n.\n", b"Ccreate|0123456789ab|~"),
         // Outside a block a dot is a command of its own.
-        (b".\nclock 1\n.\n", b"U[.]K[clock 1]U[.]"),
+        (b".\nclock 1\n.\n", b"U.|Kclock 1|U.|"),
     ] {
         agrees(&rt, rt.alloc(), script, want)?;
     }
@@ -192,36 +182,17 @@ fn an_open_block_is_given_at_the_end_alone(rt: HostRuntime) -> Result<(), Fail> 
     let mut reader = CommandReader::new(alloc, LIMIT);
     reader.push(b"report\ndelta\n(a\nclock 1\n")?;
     show_next(&mut reader, &mut out)?;
-    assert_eq!(rt; out.as_slice(), b"R[report]".as_slice());
+    assert_eq!(rt; out.as_slice(), b"Rreport|".as_slice());
     reader.push(b".\nclock 2")?;
     show_next(&mut reader, &mut out)?;
-    assert_eq!(rt;
-        out.as_slice(),
-        b"R[report]D[delta][(a][clock 1]".as_slice()
-    );
+    assert_eq!(rt; out.as_slice(), b"Rreport|Ddelta|(a|clock 1|".as_slice());
     reader.finish();
     show_next(&mut reader, &mut out)?;
     assert_eq!(rt;
         out.as_slice(),
-        b"R[report]D[delta][(a][clock 1]K[clock 2]".as_slice()
+        b"Rreport|Ddelta|(a|clock 1|Kclock 2|".as_slice()
     );
     assert!(rt; matches!(reader.next()?, NextCommand::End));
-    Ok(())
-}
-
-#[test]
-fn a_reader_of_lines_gives_each_line(rt: HostRuntime) -> Result<(), Fail> {
-    let alloc = rt.alloc();
-    let mut reader = LineReader::new(alloc, 3);
-    reader.push(b"ab\r\nabcd\n\nx")?;
-    reader.finish();
-    let mut out = Vec::new(alloc);
-    for _ in 0..5 {
-        if let NextLine::Line(line) = reader.next()? {
-            show_line(&mut out, line.bytes(), line.is_long())?;
-        }
-    }
-    assert_eq!(rt; out.as_slice(), b"[ab][abc]~[][x]".as_slice());
     Ok(())
 }
 
@@ -278,7 +249,7 @@ fn a_long_line_is_found_in_head_and_block(rt: HostRuntime) -> Result<(), Fail> {
         let mut reader = CommandReader::new(rt.alloc(), LIMIT);
         reader.push(script)?;
         match reader.next()? {
-            NextCommand::Lines(command) => assert_eq!(rt; has_long(&command), want),
+            NextCommand::Lines(command) => assert_eq!(rt; command.long, want),
             NextCommand::Wanting | NextCommand::End => assert!(rt; false),
         }
     }

@@ -1,5 +1,4 @@
-use Rattle.std.proofs.Common.{◌≤◌, ◌<◌, ◌+◌, ◌^◌, ◌∙◌, length, arith, rules, subst, sym}
-use Rattle.ncq_pyx.specs.Reading.{refusal_of}
+use Rattle.std.proofs.Common.{arith, rules, subst, sym}
 use Rattle.ncq_pyx.specs.Spells.{Refusal}
 use Rattle.ncq_pyx.proofs.Blocks.{line_within, lines_left, fewer, line_stands, line_refused, ended_block}
 use Rattle.ncq_pyx.proofs.reader.read_lines.Goals as goal

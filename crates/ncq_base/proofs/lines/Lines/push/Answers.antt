@@ -1,4 +1,3 @@
-use Rattle.std.proofs.Common.{refl}
 use Rattle.ncq_base.proofs.LineLaws.{line_pushed, stays_text}
 use Rattle.ncq_base.proofs.lines.Lines.push.Goals as goal
 
