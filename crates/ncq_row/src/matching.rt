@@ -202,7 +202,7 @@ fn children_of(alloc: Global, element: &Element) -> Result<Row, AllocError>
 fn of_nodes(alloc: Global, forest: Forest) -> Result<Row, AllocError>
     ensures { IfOk result (λ row. row ≡ Value.Nodes forest ∷ []) }
 {
-    let mut row = Row::new(alloc);
+    let mut row = Row::with_room(alloc, 1)?;
     row.push(alloc, Value::Nodes(forest))?;
     Ok(row)
 }
