@@ -22,6 +22,10 @@ use ncq_tree::{Element, Forest, Node, copy_forest};
 use std::alloc::{AllocError, Global};
 use std::sync::ledger::Ledger;
 
+/// The places of a row for which room is taken at first. The block for three is no larger than the
+/// block for one.
+const FEW: usize = 3;
+
 /// Appends one row for each embedding of the shape in the element, with the values at the places of
 /// the shape in reading order: attributes, then parts or the value, then suffix. The choice of the
 /// first part varies slowest.
@@ -202,7 +206,7 @@ fn children_of(alloc: Global, element: &Element) -> Result<Row, AllocError>
 fn of_nodes(alloc: Global, forest: Forest) -> Result<Row, AllocError>
     ensures { IfOk result (λ row. row ≡ Value.Nodes forest ∷ []) }
 {
-    let mut row = Row::new(alloc);
+    let mut row = Row::with_room(alloc, FEW)?;
     row.push(alloc, Value::Nodes(forest))?;
     Ok(row)
 }
