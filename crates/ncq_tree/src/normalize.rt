@@ -53,7 +53,7 @@ fn take_node(
         ≡ out.old ++ tidy_behind pending (normal_of node ∷ rest)) }
 {
     match node {
-        Node::Text(text) => merged(alloc, pending, text),
+        Node::Text(text) => merged(pending, text),
         Node::Element(element) => {
             push_text(alloc, pending, out)?;
             out.push(Node::Element(normal_element(alloc, element)?))?;
@@ -62,16 +62,16 @@ fn take_node(
     }
 }
 
-/// The two texts with nothing between them. A text alone is moved.
-fn merged(alloc: Global, front: Bytes, back: Bytes) -> Result<Bytes, AllocError>
+/// The two texts with nothing between them. A text alone is moved, and the front is not copied.
+fn merged(front: Bytes, back: Bytes) -> Result<Bytes, AllocError>
     ensures { IfOk result (λ text. text ≡ front ++ back) }
 {
     if front.as_slice().is_empty() {
         return Ok(back);
     }
-    let mut both = Vec::from_slice(alloc, front.as_slice())?;
-    both.extend_from_slice(back.as_slice())?;
-    Ok(Bytes::from_vec(both))
+    let mut both = front;
+    both.append(back.as_slice())?;
+    Ok(both)
 }
 
 /// The element with its attributes sorted by name and its children in normal form.

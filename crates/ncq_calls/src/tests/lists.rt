@@ -57,7 +57,12 @@ fn bytes_are_those_of_the_vector(rt: HostRuntime) -> Result<(), Fail> {
         expect_bytes(&rt, bytes.as_slice(), text.as_bytes(), "");
         assert!(rt; bytes == bytes_of(alloc, text.as_bytes())?);
     }
-    assert!(rt; Bytes::new(alloc).as_slice().is_empty());
+    let mut grown = Bytes::new(alloc);
+    assert!(rt; grown.as_slice().is_empty());
+    for text in STRINGS {
+        grown.append(text.as_bytes())?;
+    }
+    expect_bytes(&rt, grown.as_slice(), b"0123456789abcdef0123456789abcdefg", "");
     Ok(())
 }
 
