@@ -9,7 +9,8 @@ use Rattle.std.specs.declared.cmp.Ordering.TheVariants.{Less, Equal, Greater}
 use Rattle.std.specs.Cmp.Lexicographic.{slice_cmp, texts_ties, nat_list_cmp_total}
 use Rattle.std.specs.FinMap.{find, get, entries, entries_sorted, from_sorted, is_sorted, entries-from_sorted, get-from_sorted, get-entries, get-from_entries, same_map}
 use Rattle.std.specs.FinMap.Entries.{below_all}
-use Rattle.ncq_base.specs.Keys.{ByBytes, is_key, times}
+use Rattle.std.specs.Str.{bytes_eq}
+use Rattle.ncq_base.specs.Keys.{ByBytes, times}
 use Rattle.ncq_base.proofs.Keyed.{bytes_apart}
 use Rattle.ncq_base.proofs.Tests.{both_true}
 use Rattle.ncq_bag.specs.Bags.{count_of, surplus, tally, difference, difference_of, differences, IsTally}
@@ -136,7 +137,7 @@ pub times_append : {A : Type 0} (test : A → Bool) (xs ys : List A) → times t
 times_append test [] ys = omega arith
 times_append test (x ∷ xs) ys = ap (λ n. cond (test x) 1 0 + n) (times_append test xs ys) ∙ sym (add_assoc (cond (test x) 1 0) (times test xs) (times test ys))
 
-tally_find : (f : List ℕ → ℤ) (q : List ℕ) (strings : List (List ℕ)) → (times (is_key q) strings ≡ 0 → f q ≡ pos 0)
+tally_find : (f : List ℕ → ℤ) (q : List ℕ) (strings : List (List ℕ)) → (times (bytes_eq q) strings ≡ 0 → f q ≡ pos 0)
     → unwrap_or (find R q (map (λ string. (string, f string)) strings)) (pos 0) ≡ f q
 tally_find f q [] none = sym (none refl)
 tally_find f q (s ∷ strings) none =
@@ -146,11 +147,11 @@ tally_find f q (s ∷ strings) none =
       | Greater ↦ λ p. tally_find f q strings (λ z. none (rw (texts_ties q s ∙ ap is_eq p) (zero-add _ ∙ z)))
     ] refl
 
-none_of : (q : List ℕ) (now before : List (List ℕ)) → times (is_key q) (now ++ before) ≡ 0 → surplus now before q ≡ pos 0
+none_of : (q : List ℕ) (now before : List (List ℕ)) → times (bytes_eq q) (now ++ before) ≡ 0 → surplus now before q ≡ pos 0
 none_of q now before z =
-    let sum = times_append (is_key q) now before in
-    let a : times (is_key q) now ≡ 0 = omega arith in
-    let b : times (is_key q) before ≡ 0 = omega arith in
+    let sum = times_append (bytes_eq q) now before in
+    let a : times (bytes_eq q) now ≡ 0 = omega arith in
+    let b : times (bytes_eq q) before ≡ 0 = omega arith in
     λ i. pos (a i) -ℤ pos (b i)
 
 pub tally_is : (now before : List (List ℕ)) → IsTally (tally now before) now before

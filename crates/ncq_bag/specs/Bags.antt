@@ -3,7 +3,8 @@ use Rattle.std.specs.Prelude.{◌≡◌, ℕ, zero, suc, ℤ, pos, negsuc, neg_�
 use Rattle.std.specs.Option.{unwrap_or}
 use Rattle.std.specs.List.{flat_map}
 use Rattle.std.specs.FinMap.{get, insert, empty, entries}
-use Rattle.ncq_base.specs.Keys.{ByBytes, is_key, map_of, times}
+use Rattle.std.specs.Str.{bytes_eq}
+use Rattle.ncq_base.specs.Keys.{ByBytes, map_of, times}
 use Rattle.ncq_bag.specs.Counted.{Counted}
 use Rattle.ncq_bag.specs.declared.bag.Difference.{Difference}
 
@@ -35,7 +36,7 @@ differences counts = flat_map difference_of (entries counts)
 
 -- how often the byte string stands in the list
 abbrev pub count_in : List ℕ → List (List ℕ) → ℕ
-count_in key strings = times (is_key key) strings
+count_in key strings = times (bytes_eq key) strings
 
 -- how much more often it stands in the one list than in the other
 abbrev pub surplus : List (List ℕ) → List (List ℕ) → List ℕ → ℤ

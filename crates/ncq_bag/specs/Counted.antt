@@ -3,7 +3,8 @@ use Rattle.std.specs.Prelude.{ℕ, ◌^◌, ℤ, ◌≤◌, List, [], ◌∷◌,
 use Rattle.std.specs.Coded.{Coded, code_by, coded×, coded_ℕ, coded_ℤ, coded_list}
 use Rattle.std.specs.FinMap.{code}
 use Rattle.std.specs.Map.{lookup}
-use Rattle.ncq_base.specs.Keys.{ByBytes, is_key}
+use Rattle.std.specs.Str.{bytes_eq}
+use Rattle.ncq_base.specs.Keys.{ByBytes}
 pub use Rattle.ncq_base.specs.Keys.{map_of}
 
 pub record Counted : Type 0 where
@@ -15,7 +16,7 @@ counted_code = code_by (ByBytes ℤ × ℕ) (coded× (code (coded_list coded_ℕ
 
 -- no count is further from 0 than n, which is at most 2^63
 abbrev pub IsWithin : List (List ℕ × ℤ) → ℕ → Type 0
-IsWithin pairs n = (n ≤ 2 ^ 63) × ((key : List ℕ) → IfSome (lookup (is_key key) pairs) (λ count. nat_abs count ≤ n))
+IsWithin pairs n = (n ≤ 2 ^ 63) × ((key : List ℕ) → IfSome (lookup (bytes_eq key) pairs) (λ count. nat_abs count ≤ n))
 
 -- each of the counts is at most 2^63 from 0
 abbrev pub AreWithin : List (List ℕ × ℤ) → Type 0

@@ -11,7 +11,8 @@ use Rattle.std.specs.FinMap.Entries.{below_all, put, by_order}
 use Rattle.std.specs.List.{IsDistinct, AllByRecursion}
 use Rattle.std.specs.Map.{keys_of, lookup}
 use Rattle.std.proofs.lemmas.Map.Keys.{IsDistinct-head, IsDistinct-tail}
-use Rattle.ncq_base.specs.Keys.{ByBytes, is_key, map_of, total, total_of, weight}
+use Rattle.std.specs.Str.{bytes_eq}
+use Rattle.ncq_base.specs.Keys.{ByBytes, map_of, total, total_of, weight}
 use Rattle.ncq_base.proofs.Keyed.{bytes_apart, get_map_of}
 use Rattle.ncq_base.proofs.Tests.{both_true}
 
@@ -112,19 +113,19 @@ module _ {X : Type 0} where
           | Some v ↦ λ is. remove_some m k v is
         ] refl
 
-    absent : (k : List ℕ) (es : List (List ℕ × X)) → AllByRecursion (λ y. is_key k y ≡ false) (keys_of es) → lookup (is_key k) es ≡ None
+    absent : (k : List ℕ) (es : List (List ℕ × X)) → AllByRecursion (λ y. bytes_eq k y ≡ false) (keys_of es) → lookup (bytes_eq k) es ≡ None
     absent k [] h = refl
-    absent k (e ∷ es) h = (λ i. cond (h.0 i) (Some e.1) (lookup (is_key k) es)) ∙ absent k es h.1
+    absent k (e ∷ es) h = (λ i. cond (h.0 i) (Some e.1) (lookup (bytes_eq k) es)) ∙ absent k es h.1
 
     nothing_in : (es : List (List ℕ × X)) → length es ≡ 0 → total f es ≡ 0
     nothing_in [] e = refl
     nothing_in (x ∷ es) e = absurd (omega arith)
 
     -- where no key stands twice, the sum over the map of pairs is that over the pairs
-    pub map_total : (es : List (List ℕ × X)) → IsDistinct is_key (keys_of es) → total_of f (map_of es) ≡ total f es
+    pub map_total : (es : List (List ℕ × X)) → IsDistinct bytes_eq (keys_of es) → total_of f (map_of es) ≡ total f es
     map_total [] apart = nothing_in (entries (map_of [])) (sym (len-entries (map_of [])) ∙ len-empty (slice_cmp nat_cmp) X)
     map_total (e ∷ es) apart =
-        let none : weight f (get (map_of es) e.0) ≡ 0 = ap (weight f) (get_map_of es e.0 ∙ absent e.0 es (IsDistinct-head is_key e.0 (keys_of es) apart)) in
+        let none : weight f (get (map_of es) e.0) ≡ 0 = ap (weight f) (get_map_of es e.0 ∙ absent e.0 es (IsDistinct-head bytes_eq e.0 (keys_of es) apart)) in
         let one = insert_total (map_of es) e.0 e.1 in
-        let rest = map_total es (IsDistinct-tail is_key e.0 (keys_of es) apart) in
+        let rest = map_total es (IsDistinct-tail bytes_eq e.0 (keys_of es) apart) in
         omega arith

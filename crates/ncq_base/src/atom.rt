@@ -1,5 +1,4 @@
 ghost use Rattle.std.specs.Prelude.{◌≡◌, IsTrue, ◌↔◌};
-ghost use Rattle.std.specs.Cmp.{IsTotalOrder};
 ghost use Rattle.ncq_base.specs.Atoms.{compared, atom_cmp, holds_of};
 
 use crate::bytes::Bytes;
@@ -75,8 +74,3 @@ pub fn holds(op: Op, a: &Atom, b: &Atom) -> bool
         Op::Ge => compare(a, b).is_some_and(|o| o.is_ge()),
     }
 }
-
-/// The order of atoms is total.
-pub fn order_is_total()
-    ensures { IsTotalOrder atom_cmp }
-{}

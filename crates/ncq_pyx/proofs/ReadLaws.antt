@@ -184,6 +184,7 @@ good_proper forest h =
     each f give (node ∷ nodes) k =
         let t = both_true (is_good node) (list_all is_good nodes) k in
         and_from _ _ (give node t.0) (each f give nodes t.1)
+
     all_made : (nodes : List Node) → list_all is_good nodes ≡ true
         → list_all is_named (map normal_of nodes) ≡ true
     all_made [] k = refl

@@ -7,6 +7,7 @@ use Rattle.ncq_tree.specs.declared.model.Node.TheVariants.{Element as element_no
 use Rattle.ncq_pyx.specs.declared.item.Item.{Item}
 use Rattle.ncq_pyx.specs.declared.item.Item.TheVariants.{Put, Remove}
 use Rattle.ncq_tree.specs.Nodes.{by_nodes}
+pub use Rattle.ncq_base.specs.Lines.{ended, text_of as bytes_of_lines}
 use Rattle.ncq_base.specs.Escapes.{escaped}
 use Rattle.ncq_base.specs.Names.{is_pyx_name}
 use Rattle.ncq_tree.specs.Normal.{has_name, is_normal, node_is_normal}
@@ -30,14 +31,6 @@ node_lines = by_nodes text_lines element_lines
 -- the lines of a forest
 abbrev pub canonical : List Node → List (List ℕ)
 canonical forest = flat_map node_lines forest
-
--- a line ended by LF
-abbrev pub ended : List ℕ → List ℕ
-ended line = line ++ 10 ∷ []
-
--- lines as bytes
-abbrev pub bytes_of_lines : List (List ℕ) → List ℕ
-bytes_of_lines lines = flat_map ended lines
 
 -- the canonical bytes of a forest
 abbrev pub pyx : List Node → List ℕ

@@ -4,7 +4,7 @@ use Rattle.std.proofs.Common.{map, refl, sym, ap, ◌∙◌, add_assoc, arith, z
 use Rattle.std.specs.Prelude.{not, fold}
 use Rattle.std.specs.List.{flat_map, sum_by}
 use Rattle.std.proofs.lemmas.List.{append-nil}
-use Rattle.ncq_base.specs.Keys.{is_key}
+use Rattle.std.specs.Str.{bytes_eq}
 use Rattle.ncq_tree.specs.declared.model.Attribute.{Attribute}
 use Rattle.ncq_tree.specs.declared.model.Element.{Element}
 use Rattle.ncq_tree.specs.declared.model.Node.{Node}
@@ -35,10 +35,10 @@ reached_text tag text = by_nodes_text no_elements (element_if_named tag) text
 
 -- a tag reaches an element that has it as its name
 pub reached_element : (tag : List ℕ) (e : Element) → reached_at tag (element_node e)
-    ≡ (if is_key e.name tag then e ∷ [] else [])
+    ≡ (if bytes_eq e.name tag then e ∷ [] else [])
 reached_element tag e =
     by_nodes_element no_elements (element_if_named tag) e
-    ∙ ap (λ (nodes : List Node). if is_key e.name tag then
+    ∙ ap (λ (nodes : List Node). if bytes_eq e.name tag then
     record { name = e.name; attributes = e.attributes; children = nodes } ∷ [] else [])
     (firsts (reached_at tag) e.children)
 
@@ -72,9 +72,9 @@ rows_of_parts parts e =
 -- the rows of a shape at the elements that are reached at one node
 pub rows_of_node : (s : Shape) (e : Element)
     → flat_map (rows_at s) (reached_at s.tag (element_node e))
-    ≡ (if is_key e.name s.tag then rows_at s e else [])
+    ≡ (if bytes_eq e.name s.tag then rows_at s e else [])
 rows_of_node s e = ap (flat_map (rows_at s)) (reached_element s.tag e)
-    ∙ by_name (is_key e.name s.tag)
+    ∙ by_name (bytes_eq e.name s.tag)
   where
     by_name : (b : Bool) → flat_map (rows_at s) (if b then e ∷ [] else [])
         ≡ (if b then rows_at s e else [])
@@ -87,9 +87,9 @@ pub rows_of_text : (s : Shape) (text : List ℕ)
 rows_of_text s text = ap (flat_map (rows_at s)) (reached_text s.tag text)
 
 -- nor in an element of another name
-pub rows_of_other : (s : Shape) (e : Element) → not (is_key e.name s.tag) ≡ true
+pub rows_of_other : (s : Shape) (e : Element) → not (bytes_eq e.name s.tag) ≡ true
     → flat_map (rows_at s) (reached_at s.tag (element_node e)) ≡ []
-rows_of_other s e h = rows_of_node s e ∙ by_name (is_key e.name s.tag) h
+rows_of_other s e h = rows_of_node s e ∙ by_name (bytes_eq e.name s.tag) h
   where
     by_name : (b : Bool) → not b ≡ true → (if b then rows_at s e else []) ≡ []
     by_name true h = cc
@@ -99,7 +99,7 @@ pub ruleset nodes_are = (rows_of_node, rows_of_text)
 
 -- a shape has rows in an element of its tag alone
 pub rows_of_element : (s : Shape) (e : Element) → rows_of s e
-    ≡ (if is_key e.name s.tag then rows_at s e else [])
+    ≡ (if bytes_eq e.name s.tag then rows_at s e else [])
 rows_of_element s e = ap (flat_map (rows_at s)) (append-nil (reached_at s.tag (element_node e)))
     ∙ rows_of_node s e
 
@@ -111,7 +111,7 @@ attribute_is_wide : (attributes : List Attribute) (name : List ℕ)
     → AreWide 1 (attribute_rows attributes name)
 attribute_is_wide [] name = tt
 attribute_is_wide (a ∷ more) name =
-    elim (is_key a.name name) as
+    elim (bytes_eq a.name name) as
     (λ b. AreWide 1 (if b then (Text a.value ∷ []) ∷ [] else attribute_rows more name)) [
       | true ↦ (refl, tt)
       | false ↦ attribute_is_wide more name

@@ -2,7 +2,7 @@
 -- embedding.
 use Rattle.std.specs.Prelude.{ℕ, if◌then◌else◌, List, [], ◌∷◌, ◌++◌, map}
 use Rattle.std.specs.List.{flat_map}
-use Rattle.ncq_base.specs.Keys.{is_key}
+use Rattle.std.specs.Str.{bytes_eq}
 use Rattle.ncq_tree.specs.declared.model.Attribute.{Attribute}
 use Rattle.ncq_tree.specs.declared.model.Element.{Element}
 use Rattle.ncq_tree.specs.declared.model.Node.{Node}
@@ -41,7 +41,7 @@ no_elements text = []
 abbrev pub element_if_named : List ℕ → List ℕ → List Attribute → List (Node × List Element)
     → List Element
 element_if_named tag name attributes below =
-    if is_key name tag
+    if bytes_eq name tag
     then record { name = name; attributes = attributes; children = map (λ p. p.0) below } ∷ []
     else []
 
@@ -58,7 +58,7 @@ reached tag nodes = flat_map (reached_at tag) nodes
 abbrev pub attribute_rows : List Attribute → List ℕ → Rows
 attribute_rows [] name = []
 attribute_rows (a ∷ more) name =
-    if is_key a.name name then (Text a.value ∷ []) ∷ [] else attribute_rows more name
+    if bytes_eq a.name name then (Text a.value ∷ []) ∷ [] else attribute_rows more name
 
 -- the element or its children, where the suffix takes them
 abbrev pub suffix_rows : ShapeSuffix → Element → Rows

@@ -4,7 +4,7 @@ use Rattle.std.specs.Prelude.{Option, Some, None, Result, Ok, Err, codes, decima
 use Rattle.std.specs.List.{position, flat_map}
 use Rattle.std.proofs.lemmas.List.{append-nil, nil_from_length}
 use Rattle.std.specs.FinMap.{empty}
-use Rattle.ncq_base.specs.Keys.{is_key}
+use Rattle.std.specs.Str.{bytes_eq}
 use Rattle.ncq_bag.specs.Bags.{difference}
 use Rattle.ncq_callback.specs.Texts.{print_text}
 use Rattle.ncq_pyx.specs.declared.item.Item.{Item}
@@ -157,15 +157,15 @@ module _ (store : StoreState) (live : List Subscription) (number : ℕ) (out : L
         create_is history s none ∙ ap (create_refusal query) (ap (source_in query.source) (sym s.sources_are) ∙ not_found query.source store.sources missing))
 
     module _ (at : ℕ) (d : Declared) (none : length live ≡ 0) (is : found store query.source ≡ Some at) (here : slice_get store.sources at ≡ Some d) where
-      root_is : (history : History) → Stands store live history → refusal_in history (Create query) ≡ (if is_key d.root query.root then None else Some refusal.Root)
+      root_is : (history : History) → Stands store live history → refusal_in history (Create query) ≡ (if bytes_eq d.root query.root then None else Some refusal.Root)
       root_is history s = create_is history s none ∙ ap (create_refusal query) (ap (source_in query.source) (sym s.sources_are) ∙ is_found query.source store.sources at d is here)
 
       -- the source has another root
-      pub create_other_root : (out' : List ℕ) → is_key d.root query.root ≡ false → out' ≡ out ++ refused_text number refusal.Root → Applies store live number (Create query) out store live out'
+      pub create_other_root : (out' : List ℕ) → bytes_eq d.root query.root ≡ false → out' ≡ out ++ refused_text number refusal.Root → Applies store live number (Create query) out store live out'
       create_other_root out' other e = refuse (Create query) refusal.Root out' e (λ history s. root_is history s ∙ ap (λ (t : Bool). if t then None else Some refusal.Root) other)
 
       -- the query is installed, and told its whole answer
-      pub create_accepted : (live' : List Subscription) (out' : List ℕ) → is_key d.root query.root ≡ true → live' ≡ live ++ record { query = query; install = 1 } ∷ []
+      pub create_accepted : (live' : List Subscription) (out' : List ℕ) → bytes_eq d.root query.root ≡ true → live' ≡ live ++ record { query = query; install = 1 } ∷ []
           → out' ≡ (out ++ ok_text number) ++ print_text query.name 0 (difference (answer_in query d.elements) []) → Applies store live number (Create query) out store live' out'
       create_accepted live' out' root more told = accept (Create query) store live' out' (λ history s.
           let there = ap (source_in query.source) (sym s.sources_are) ∙ is_found query.source store.sources at d is here in

@@ -8,7 +8,7 @@ use Rattle.std.specs.Cmp.{eq_by_cmp_equiv}
 use Rattle.std.specs.Cmp.Lexicographic.{slice_cmp, texts_ties, nat_list_cmp_total}
 use Rattle.std.specs.FinMap.{entries, empty, len-entries, len-empty}
 use Rattle.std.proofs.lemmas.List.{append-nil, nil_from_length}
-use Rattle.ncq_base.specs.Keys.{is_key}
+use Rattle.std.specs.Str.{bytes_eq}
 use Rattle.ncq_base.proofs.Keyed.{bytes_apart}
 use Rattle.ncq_base.proofs.Totals.{is_equal}
 use Rattle.ncq_bag.specs.Bags.{difference}
@@ -27,10 +27,10 @@ use Rattle.ncq_run.specs.Firing.{fires, mark, answer_at, answer_before, notice, 
 use Rattle.ncq_run.specs.Weights.{answer_in, told_change}
 
 -- texts that the test takes for one are one
-pub key_is : (a b : List ℕ) → is_key a b ≡ true → a ≡ b
+pub key_is : (a b : List ℕ) → bytes_eq a b ≡ true → a ≡ b
 key_is a b t = bytes_apart a b (is_equal (slice_cmp nat_cmp a b) (sym (texts_ties a b) ∙ t))
 
-pub key_itself : (a : List ℕ) → is_key a a ≡ true
+pub key_itself : (a : List ℕ) → bytes_eq a a ≡ true
 key_itself a = texts_ties a a ∙ (eq_by_cmp_equiv nat_list_cmp_total).refl a
 
 module _ {A : Type 0} where
@@ -62,24 +62,24 @@ elements_of_empty source e =
 -- one more source without elements changes no world
 declared_more : (name : List ℕ) (source : Source) → source.elements ≡ empty → (all : List Source) → elements_of (source_in name (all ++ source ∷ [])) ≡ elements_of (source_in name all)
 declared_more name source e [] =
-    elim (is_key name source.name) as (λ t. elements_of (if t then Some source else None) ≡ []) [ true ↦ elements_of_empty source e | false ↦ refl ]
+    elim (bytes_eq name source.name) as (λ t. elements_of (if t then Some source else None) ≡ []) [ true ↦ elements_of_empty source e | false ↦ refl ]
 declared_more name source e (s ∷ all) =
-    elim (is_key name s.name) as (λ t. elements_of (if t then Some s else source_in name (all ++ source ∷ [])) ≡ elements_of (if t then Some s else source_in name all)) [
+    elim (bytes_eq name s.name) as (λ t. elements_of (if t then Some s else source_in name (all ++ source ∷ [])) ≡ elements_of (if t then Some s else source_in name all)) [
       | true ↦ refl
       | false ↦ declared_more name source e all
     ]
 
 -- items of one source change no other
-other_source : (name other : List ℕ) (items : List Item) → is_key name other ≡ false → (all : List Source) → source_in other (with_items name items all) ≡ source_in other all
+other_source : (name other : List ℕ) (items : List Item) → bytes_eq name other ≡ false → (all : List Source) → source_in other (with_items name items all) ≡ source_in other all
 other_source name other items apart [] = refl
 other_source name other items apart (s ∷ all) =
-    elim (is_key name s.name) as (λ t. is_key name s.name ≡ t → source_in other (if t then record s { elements = store_after s.key s.elements items } ∷ all else s ∷ with_items name items all) ≡ source_in other (s ∷ all)) [
+    elim (bytes_eq name s.name) as (λ t. bytes_eq name s.name ≡ t → source_in other (if t then record s { elements = store_after s.key s.elements items } ∷ all else s ∷ with_items name items all) ≡ source_in other (s ∷ all)) [
       | true ↦ λ p.
-          elim (is_key other s.name) as (λ u. is_key other s.name ≡ u → (if u then Some (record s { elements = store_after s.key s.elements items }) else source_in other all) ≡ (if u then Some s else source_in other all)) [
-            | true ↦ λ q. absurd (true≢false (sym (key_itself other) ∙ ap (λ (k : List ℕ). is_key k other) (key_is other s.name q ∙ sym (key_is name s.name p)) ∙ apart))
+          elim (bytes_eq other s.name) as (λ u. bytes_eq other s.name ≡ u → (if u then Some (record s { elements = store_after s.key s.elements items }) else source_in other all) ≡ (if u then Some s else source_in other all)) [
+            | true ↦ λ q. absurd (true≢false (sym (key_itself other) ∙ ap (λ (k : List ℕ). bytes_eq k other) (key_is other s.name q ∙ sym (key_is name s.name p)) ∙ apart))
             | false ↦ λ q. refl
           ] refl
-      | false ↦ λ p. ap (λ (o : Option Source). if is_key other s.name then Some s else o) (other_source name other items apart all)
+      | false ↦ λ p. ap (λ (o : Option Source). if bytes_eq other s.name then Some s else o) (other_source name other items apart all)
     ] refl
 
 -- items go to the source of their name
@@ -87,7 +87,7 @@ pub this_source : (name : List ℕ) (items : List Item) (all : List Source) (sou
     → source_in name (with_items name items all) ≡ Some (record source { elements = store_after source.key source.elements items })
 this_source name items [] source e = cc
 this_source name items (s ∷ all) source e =
-    elim (is_key name s.name) as (λ t. is_key name s.name ≡ t → (if t then Some s else source_in name all) ≡ Some source
+    elim (bytes_eq name s.name) as (λ t. bytes_eq name s.name ≡ t → (if t then Some s else source_in name all) ≡ Some source
     → source_in name (if t then record s { elements = store_after s.key s.elements items } ∷ all else s ∷ with_items name items all) ≡ Some (record source { elements = store_after source.key source.elements items })) [
       | true ↦ λ p h.
           (λ i. if p i then Some (record s { elements = store_after s.key s.elements items }) else source_in name all)
@@ -132,7 +132,7 @@ current_delta : (name : List ℕ) (items : List Item) (before : History) (s : Su
 current_delta name items before s h =
     let installed : nat_le s.install (creates before) ≡ true = let few = h.0 in grind (arith, nat_tests) in (
       h.0,
-      elim (is_key name s.query.source) as (λ t. is_key name s.query.source ≡ t → answer_before s (Delta name items ∷ before) ≡ answer_after s.query (Delta name items ∷ before)) [
+      elim (bytes_eq name s.query.source) as (λ t. bytes_eq name s.query.source ≡ t → answer_before s (Delta name items ∷ before) ≡ answer_after s.query (Delta name items ∷ before)) [
         | true ↦ λ p. step_fires s (Delta name items) before (λ i. installed i && p i)
         | false ↦ λ p. step_quiet s (Delta name items) before (λ i. installed i && p i)
             (ap (λ (o : Option Source). answer_bytes s.query (elements_of o)) (other_source name s.query.source items p (sources before))) h.1
@@ -164,7 +164,7 @@ never s [] later = refl
 never s ((Declare name root key) ∷ before) later = never s before later
 never s ((Delta name items) ∷ before) later =
     let not_yet : nat_le s.install (creates before) ≡ false = grind (arith, nat_tests) in
-    ap (λ (t : Bool). if t && is_key name s.query.source then Some (changes (Delta name items ∷ before)) else mark s before) not_yet ∙ never s before later
+    ap (λ (t : Bool). if t && bytes_eq name s.query.source then Some (changes (Delta name items ∷ before)) else mark s before) not_yet ∙ never s before later
 never s ((Create query) ∷ before) later =
     let other : (s.install == creates before + 1) ≡ false = grind (arith, nat_tests) in
     ap (λ (t : Bool). if t then Some (changes (Create query ∷ before)) else mark s before) other ∙ never s before (omega (arith, later))
@@ -179,7 +179,7 @@ delta_tells_one history name items source at s h =
     let few = h.0 in
     let installed : nat_le s.install (creates history) ≡ true = grind (arith, nat_tests) in
     let command = Delta name items in
-    elim (is_key name s.query.source) as (λ t. is_key name s.query.source ≡ t →
+    elim (bytes_eq name s.query.source) as (λ t. bytes_eq name s.query.source ≡ t →
     (if nat_le s.install (creates history) && t then print_text s.query.name 0 (difference (answer_after s.query (command ∷ history)) (answer_before s history)) else [])
     ≡ (if t then print_text s.query.name 0 (difference (answer_in s.query (store_after source.key source.elements items)) (answer_in s.query source.elements)) else [])) [
       | true ↦ λ p.

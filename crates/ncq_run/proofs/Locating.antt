@@ -5,7 +5,7 @@ use Rattle.std.specs.List.{position, position_or_len}
 use Rattle.std.proofs.lemmas.Bool.Decides.{nat_tests}
 use Rattle.std.proofs.lemmas.List.Quantifiers.{position-Some}
 use Rattle.std.specs.FinMap.{empty}
-use Rattle.ncq_base.specs.Keys.{is_key}
+use Rattle.std.specs.Str.{bytes_eq}
 use Rattle.ncq_pyx.specs.declared.item.Item.{Item}
 use Rattle.std.proofs.lemmas.Option.{slice_get-get_or}
 use Rattle.ncq_source.specs.Changes.{store_after, after}
@@ -22,17 +22,17 @@ not_some : {A : Type 0} (b : Bool) (x : A) → (if b then Some x else None) ≡ 
 not_some true x e = cc
 not_some false x e = refl
 
-none_from : (name : List ℕ) (all : List Declared) → nat_lt (position_or_len (is_key name) (names_of all)) (length (names_of all)) ≡ false → source_in name (map content_of all) ≡ None
+none_from : (name : List ℕ) (all : List Declared) → nat_lt (position_or_len (bytes_eq name) (names_of all)) (length (names_of all)) ≡ false → source_in name (map content_of all) ≡ None
 none_from name [] e = refl
 none_from name (d ∷ all) e =
-    elim (is_key name d.name) as (λ t. nat_lt (cond (not t) (1 + position_or_len (is_key name) (names_of all)) 0) (suc (length (names_of all))) ≡ false
+    elim (bytes_eq name d.name) as (λ t. nat_lt (cond (not t) (1 + position_or_len (bytes_eq name) (names_of all)) 0) (suc (length (names_of all))) ≡ false
     → (if t then Some (content_of d) else source_in name (map content_of all)) ≡ None) [
       | true ↦ λ h. let bad : true ≡ false = grind (arith, nat_tests, h) in absurd (true≢false bad)
-      | false ↦ λ h. none_from name all (let less : nat_lt (position_or_len (is_key name) (names_of all)) (length (names_of all)) ≡ false = grind (arith, nat_tests, h) in less)
+      | false ↦ λ h. none_from name all (let less : nat_lt (position_or_len (bytes_eq name) (names_of all)) (length (names_of all)) ≡ false = grind (arith, nat_tests, h) in less)
     ] e
 
 -- a name that is not found names no source
-pub not_found : (name : List ℕ) (all : List Declared) → position (is_key name) (map (λ d. d.name) all) ≡ None → source_in name (map content_of all) ≡ None
+pub not_found : (name : List ℕ) (all : List Declared) → position (bytes_eq name) (map (λ d. d.name) all) ≡ None → source_in name (map content_of all) ≡ None
 not_found name all e = none_from name all (not_some _ _ e)
 
 same_Some : {A : Type 0} (x y : A) → Some x ≡ Some y → x ≡ y
@@ -45,8 +45,8 @@ within_names (d ∷ all) (suc at) h = let rest = within_names all at (let less :
 
 -- the first source of the name, at its place
 module _ (name : List ℕ) where
-  at_place : (all : List Declared) (at : ℕ) (d : Declared) → slice_get all at ≡ Some d → is_key name (get_or (names_of all) at []) ≡ true
-      → ((k : ℕ) → k < at → is_key name (get_or (names_of all) k []) ≡ false) → source_in name (map content_of all) ≡ Some (content_of d)
+  at_place : (all : List Declared) (at : ℕ) (d : Declared) → slice_get all at ≡ Some d → bytes_eq name (get_or (names_of all) at []) ≡ true
+      → ((k : ℕ) → k < at → bytes_eq name (get_or (names_of all) k []) ≡ false) → source_in name (map content_of all) ≡ Some (content_of d)
   at_place [] at d here is before = cc
   at_place (x ∷ all) zero d here is before =
       (λ i. if is i then Some (content_of x) else source_in name (map content_of all)) ∙ ap (λ (y : Declared). Some (content_of y)) (same_Some x d here)
@@ -54,8 +54,8 @@ module _ (name : List ℕ) where
       (λ i. if before 0 (let some : 0 < suc at = omega arith in some) i then Some (content_of x) else source_in name (map content_of all))
       ∙ at_place all at d here is (λ k less. before (suc k) (let more : suc k < suc at = omega (arith, less) in more))
 
-  set_place : (items : List Item) (all : List Declared) (at : ℕ) (d new : Declared) → slice_get all at ≡ Some d → is_key name (get_or (names_of all) at []) ≡ true
-      → ((k : ℕ) → k < at → is_key name (get_or (names_of all) k []) ≡ false)
+  set_place : (items : List Item) (all : List Declared) (at : ℕ) (d new : Declared) → slice_get all at ≡ Some d → bytes_eq name (get_or (names_of all) at []) ≡ true
+      → ((k : ℕ) → k < at → bytes_eq name (get_or (names_of all) k []) ≡ false)
       → content_of new ≡ record (content_of d) { elements = store_after d.key d.elements items } → map content_of (slice_set all at new) ≡ with_items name items (map content_of all)
   set_place items [] at d new here is before e = cc
   set_place items (x ∷ all) zero d new here is before e =
@@ -65,15 +65,15 @@ module _ (name : List ℕ) where
       ap (λ (ss : List Source). content_of x ∷ ss) (set_place items all at d new here is (λ k less. before (suc k) (let more : suc k < suc at = omega (arith, less) in more)) e)
       ∙ sym (λ i. if before 0 (let some : 0 < suc at = omega arith in some) i then record (content_of x) { elements = store_after x.key x.elements items } ∷ map content_of all else content_of x ∷ with_items name items (map content_of all))
 
-  pub is_found : (all : List Declared) (at : ℕ) (d : Declared) → position (is_key name) (map (λ d. d.name) all) ≡ Some at → slice_get all at ≡ Some d → source_in name (map content_of all) ≡ Some (content_of d)
-  is_found all at d found here = let p = position-Some (is_key name) (names_of all) at [] found in at_place all at d here p.1 p.2
+  pub is_found : (all : List Declared) (at : ℕ) (d : Declared) → position (bytes_eq name) (map (λ d. d.name) all) ≡ Some at → slice_get all at ≡ Some d → source_in name (map content_of all) ≡ Some (content_of d)
+  is_found all at d found here = let p = position-Some (bytes_eq name) (names_of all) at [] found in at_place all at d here p.1 p.2
 
-  pub is_changed : (items : List Item) (all : List Declared) (at : ℕ) (d new : Declared) → position (is_key name) (map (λ d. d.name) all) ≡ Some at → slice_get all at ≡ Some d
+  pub is_changed : (items : List Item) (all : List Declared) (at : ℕ) (d new : Declared) → position (bytes_eq name) (map (λ d. d.name) all) ≡ Some at → slice_get all at ≡ Some d
       → content_of new ≡ record (content_of d) { elements = store_after d.key d.elements items } → map content_of (slice_set all at new) ≡ with_items name items (map content_of all)
-  is_changed items all at d new found here e = let p = position-Some (is_key name) (names_of all) at [] found in set_place items all at d new here p.1 p.2 e
+  is_changed items all at d new found here e = let p = position-Some (bytes_eq name) (names_of all) at [] found in set_place items all at d new here p.1 p.2 e
 
-  pub found_within : (all : List Declared) (at : ℕ) → position (is_key name) (map (λ d. d.name) all) ≡ Some at → at < length all
-  found_within all at found = let p = position-Some (is_key name) (names_of all) at [] found in within_names all at p.0
+  pub found_within : (all : List Declared) (at : ℕ) → position (bytes_eq name) (map (λ d. d.name) all) ≡ Some at → at < length all
+  found_within all at found = let p = position-Some (bytes_eq name) (names_of all) at [] found in within_names all at p.0
 
 map_map : {A B C : Type 0} (f : A → B) (g : B → C) (xs : List A) → map (λ x. g (f x)) xs ≡ map g (map f xs)
 map_map f g [] = refl
@@ -114,7 +114,7 @@ module _ {A B : Type 0} (f : A → B) where
 
 -- a change that was prepared before the room was taken
 pub moved_by : (name : List ℕ) (items : List Item) (old ready new : List Declared) (at : ℕ) (d : Declared) (entries : List Entry) (number : ℕ)
-    → position (is_key name) (map (λ d. d.name) old) ≡ Some at → slice_get old at ≡ Some d → map without_room ready ≡ map without_room old
+    → position (bytes_eq name) (map (λ d. d.name) old) ≡ Some at → slice_get old at ≡ Some d → map without_room ready ≡ map without_room old
     → ((r : Declared) → slice_get ready at ≡ Some r → (t : Declared) × (new ≡ slice_set ready at t) × Follows r t entries number)
     → after d.elements entries ≡ store_after d.key d.elements items → map content_of new ≡ with_items name items (map content_of old)
 moved_by name items old ready new at d entries number found here same changed fold =
@@ -129,5 +129,5 @@ moved_by name items old ready new at d entries number found here same changed fo
     let e : content_of c.0 ≡ record (content_of r) { elements = store_after r.key r.elements items } =
     (λ i. record { name = f.name i; root = f.root i; key = f.key i; elements = (f.elements ∙ fold_r) i }) in
     ap (map content_of) c.1
-    ∙ is_changed name items ready at r c.0 (ap (position (is_key name)) (same_names old ready same) ∙ found) there e
+    ∙ is_changed name items ready at r c.0 (ap (position (bytes_eq name)) (same_names old ready same) ∙ found) there e
     ∙ ap (with_items name items) (room_is_no_content old ready same)

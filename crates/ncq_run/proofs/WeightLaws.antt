@@ -7,7 +7,8 @@ use Rattle.std.specs.Option.{unwrap_or}
 use Rattle.std.specs.Ordering.{nat_cmp}
 use Rattle.std.specs.Cmp.Lexicographic.{slice_cmp}
 use Rattle.std.proofs.lemmas.List.{drop_more, drop_all}
-use Rattle.ncq_base.specs.Keys.{ByBytes, is_key, times, total, total_of, weight}
+use Rattle.std.specs.Str.{bytes_eq}
+use Rattle.ncq_base.specs.Keys.{ByBytes, times, total, total_of, weight}
 use Rattle.ncq_bag.specs.Bags.{count_of, count_in, added, signed, no_counts, difference, differences}
 use Rattle.ncq_bag.specs.Counted.{Counted}
 use Rattle.ncq_bag.proofs.Tallies.{times_append, tally_decides}
@@ -32,20 +33,20 @@ no_times true = refl
 no_times false = refl
 
 -- one forest as often as there are choices
-times_same : (key bytes : List ℕ) (forest : List Node) (xs : List (List ℕ)) → pyx forest ≡ bytes → times (is_key key) (map pyx (map (λ x. forest) xs)) ≡ (if is_key key bytes then length xs else 0)
-times_same key bytes forest [] e = no_times (is_key key bytes)
+times_same : (key bytes : List ℕ) (forest : List Node) (xs : List (List ℕ)) → pyx forest ≡ bytes → times (bytes_eq key) (map pyx (map (λ x. forest) xs)) ≡ (if bytes_eq key bytes then length xs else 0)
+times_same key bytes forest [] e = no_times (bytes_eq key bytes)
 times_same key bytes forest (x ∷ xs) e =
-    ap (λ (b : List ℕ). cond (is_key key b) 1 0 + times (is_key key) (map pyx (map (λ x. forest) xs))) e
-    ∙ ap (λ (n : ℕ). cond (is_key key bytes) 1 0 + n) (times_same key bytes forest xs e)
-    ∙ elim (is_key key bytes) as (λ (t : Bool). cond t 1 0 + (if t then length xs else 0) ≡ (if t then length (x ∷ xs) else 0)) [ true ↦ omega arith | false ↦ refl ]
+    ap (λ (b : List ℕ). cond (bytes_eq key b) 1 0 + times (bytes_eq key) (map pyx (map (λ x. forest) xs))) e
+    ∙ ap (λ (n : ℕ). cond (bytes_eq key bytes) 1 0 + n) (times_same key bytes forest xs e)
+    ∙ elim (bytes_eq key bytes) as (λ (t : Bool). cond t 1 0 + (if t then length xs else 0) ≡ (if t then length (x ∷ xs) else 0)) [ true ↦ omega arith | false ↦ refl ]
 
 -- the weight of an element of the query's name
-pub weight_is : (query : ChildQuery) (key bytes : List ℕ) (element : Element) (count : ℕ) → is_key query.tag element.name ≡ true → count ≡ length (choices query element) → pyx (element_node element ∷ []) ≡ bytes
-    → weight_in query key element ≡ (if is_key key bytes then count else 0)
+pub weight_is : (query : ChildQuery) (key bytes : List ℕ) (element : Element) (count : ℕ) → bytes_eq query.tag element.name ≡ true → count ≡ length (choices query element) → pyx (element_node element ∷ []) ≡ bytes
+    → weight_in query key element ≡ (if bytes_eq key bytes then count else 0)
 weight_is query key bytes element count tag counted e =
-    ap (λ (t : Bool). times (is_key key) (map pyx (if t then map (λ choice. element_node element ∷ []) (choices query element) else []))) tag
+    ap (λ (t : Bool). times (bytes_eq key) (map pyx (if t then map (λ choice. element_node element ∷ []) (choices query element) else []))) tag
     ∙ times_same key bytes (element_node element ∷ []) (choices query element) e
-    ∙ ap (λ (n : ℕ). if is_key key bytes then n else 0) (sym counted)
+    ∙ ap (λ (n : ℕ). if bytes_eq key bytes then n else 0) (sym counted)
 
 map_append : {A B : Type 0} (f : A → B) (xs ys : List A) → map f (xs ++ ys) ≡ map f xs ++ map f ys
 map_append f [] ys = refl
@@ -56,7 +57,7 @@ count_pairs : (query : ChildQuery) (key : List ℕ) (pairs : List (List ℕ × E
 count_pairs query key [] = refl
 count_pairs query key (pair ∷ pairs) =
     ap (count_in key) (map_append pyx (bindings query pair.1) (answer query (map (λ entry. entry.1) pairs)))
-    ∙ times_append (is_key key) (map pyx (bindings query pair.1)) (answer_bytes query (map (λ entry. entry.1) pairs))
+    ∙ times_append (bytes_eq key) (map pyx (bindings query pair.1)) (answer_bytes query (map (λ entry. entry.1) pairs))
     ∙ ap (λ (n : ℕ). weight_in query key pair.1 + n) (count_pairs query key pairs)
 
 pub count_in-answer : (query : ChildQuery) (key : List ℕ) (kept : Kept) → count_in key (answer_in query kept) ≡ total_of (weight_in query key) kept
@@ -82,7 +83,7 @@ pub whole_tally : (counts : _) (query : ChildQuery) (kept : Kept) → ((key : Li
 whole_tally counts query kept is = tally_decides counts (answer_in query kept) [] (λ key. is key ∙ ap pos (sym (count_in-answer query key kept)) ∙ from_nothing (count_in key (answer_in query kept)))
 
 -- a subscription to this source is told the tally of the entries
-pub told_same : (name : List ℕ) (before : Kept) (entries : List Entry) (subscription : Subscription) (out out' : List ℕ) (counts : _) → is_key name subscription.query.source ≡ true → Chains before entries
+pub told_same : (name : List ℕ) (before : Kept) (entries : List Entry) (subscription : Subscription) (out out' : List ℕ) (counts : _) → bytes_eq name subscription.query.source ≡ true → Chains before entries
     → ((key : List ℕ) → count_of counts key ≡ pos (gains (weight_in subscription.query key) entries) -ℤ pos (losses (weight_in subscription.query key) entries))
     → out' ≡ out ++ print_text subscription.query.name 0 (differences counts) → out' ≡ out ++ told_change name before (after before entries) subscription
 told_same name before entries subscription out out' counts this chains is e =
@@ -144,10 +145,10 @@ all_counted f pairs at count end e =
 
 -- one add of so many
 pub added_times : (counts new : ByBytes ℤ) (bytes key : List ℕ) (gain : Bool) (times : ℕ) → new ≡ added counts bytes times gain
-    → count_of new key ≡ count_of counts key +ℤ signed gain (if is_key key bytes then times else 0)
+    → count_of new key ≡ count_of counts key +ℤ signed gain (if bytes_eq key bytes then times else 0)
 added_times counts new bytes key gain times e =
     ap (λ (m : ByBytes ℤ). count_of m key) e ∙ count_of-added counts bytes key times gain
-    ∙ elim (is_key key bytes) as (λ t. (if t then count_of counts key +ℤ signed gain times else count_of counts key) ≡ count_of counts key +ℤ signed gain (if t then times else 0)) [
+    ∙ elim (bytes_eq key bytes) as (λ t. (if t then count_of counts key +ℤ signed gain times else count_of counts key) ≡ count_of counts key +ℤ signed gain (if t then times else 0)) [
       | true ↦ refl
       | false ↦ unchanged gain (count_of counts key)
     ]

@@ -4,7 +4,7 @@
 use Rattle.std.specs.Prelude.{ℕ, Bool, if◌then◌else◌, List, [], ◌∷◌, map}
 use Rattle.std.specs.List.{filter, flat_map}
 use Rattle.ncq_base.specs.Atoms.{atom_of, same_atom}
-use Rattle.ncq_base.specs.Keys.{is_key}
+use Rattle.std.specs.Str.{bytes_eq}
 use Rattle.ncq_tree.specs.declared.model.Element.{Element}
 use Rattle.ncq_tree.specs.declared.model.Node.{Node}
 use Rattle.ncq_tree.specs.declared.model.Node.TheVariants.{Element as element_node}
@@ -23,7 +23,7 @@ choices query element = filter (is_wanted query) (flat_map (child_keys query.chi
 
 -- one forest for each binding in the element: the element itself
 abbrev pub bindings : ChildQuery → Element → List (List Node)
-bindings query element = if is_key query.tag element.name then map (λ choice. element_node element ∷ []) (choices query element) else []
+bindings query element = if bytes_eq query.tag element.name then map (λ choice. element_node element ∷ []) (choices query element) else []
 
 -- one forest for each binding
 abbrev pub answer : ChildQuery → List Element → List (List Node)

@@ -4,7 +4,7 @@
 use Rattle.std.specs.Prelude.{ℕ, Bool, true, false, ◌&&◌, ◌==◌, if◌then◌else◌, List, [], ◌∷◌, codes, Option, Some, None, Result, Ok, Err}
 use Rattle.std.specs.Option.{option_map, option_and_then}
 use Rattle.ncq_base.specs.Atoms.{atom_of}
-use Rattle.ncq_base.specs.Keys.{is_key}
+use Rattle.std.specs.Str.{bytes_eq}
 use Rattle.ncq_script.specs.declared.command.Command.{Command}
 use Rattle.ncq_script.specs.declared.command.Command.TheVariants as script
 use Rattle.ncq_script.specs.declared.refusal.Refusal.{Refusal}
@@ -94,11 +94,11 @@ match_form (Condition left op right) = None
 
 -- the template is this variable
 abbrev pub is_variable : List ℕ → Template → Bool
-is_variable x top = elim (out-Template top) [ Variable y ↦ is_key x y | Literal text ↦ false | Element tag attributes inside ↦ false ]
+is_variable x top = elim (out-Template top) [ Variable y ↦ bytes_eq x y | Literal text ↦ false | Element tag attributes inside ↦ false ]
 
 -- the action is `print` without an argument, and no time is written
 abbrev pub is_plain_print : Statement → Bool
-is_plain_print st = is_key st.action (codes "print") && is_absent st.argument && is_absent st.start && st.every == 0 && is_absent st.expire
+is_plain_print st = bytes_eq st.action (codes "print") && is_absent st.argument && is_absent st.start && st.every == 0 && is_absent st.expire
 
 -- one such match, whose element is printed
 abbrev pub statement_form : Statement → Option ChildForm

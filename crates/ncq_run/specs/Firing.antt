@@ -1,7 +1,7 @@
 -- When a subscription fires, and the difference that it is told.
 use Rattle.std.specs.Prelude.{ℕ, ◌+◌, Bool, false, ◌==◌, ◌&&◌, nat_le, if◌then◌else◌, List, [], ◌∷◌, Option, Some, None}
 use Rattle.std.specs.List.{flat_map}
-use Rattle.ncq_base.specs.Keys.{is_key}
+use Rattle.std.specs.Str.{bytes_eq}
 use Rattle.ncq_bag.specs.Bags.{difference}
 use Rattle.ncq_callback.specs.Texts.{print_text}
 use Rattle.ncq_run.specs.declared.command.Subscription.{Subscription}
@@ -13,7 +13,7 @@ use Rattle.ncq_run.specs.Answer.{answer_after}
 -- whether the command, accepted after the history, fires the subscription: its own create does, and from then on each delta of its source
 abbrev pub fires : Subscription → History → BuiltCommand → Bool
 fires subscription history (Declare name root key) = false
-fires subscription history (Delta name items) = nat_le subscription.install (creates history) && is_key name subscription.query.source
+fires subscription history (Delta name items) = nat_le subscription.install (creates history) && bytes_eq name subscription.query.source
 fires subscription history (Create query) = subscription.install == creates history + 1
 
 -- the mark: the number of changes at the latest firing

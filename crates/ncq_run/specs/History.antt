@@ -1,7 +1,7 @@
 -- A history is the list of the accepted commands, the newest first; and what stands after it.
 use Rattle.std.specs.Prelude.{ℕ, ◌+◌, nat_le, if◌then◌else◌, List, [], ◌∷◌, ◌++◌, map, Option, Some, None}
 use Rattle.std.specs.FinMap.{empty, entries}
-use Rattle.ncq_base.specs.Keys.{is_key}
+use Rattle.std.specs.Str.{bytes_eq}
 use Rattle.ncq_tree.specs.declared.model.Element.{Element}
 use Rattle.ncq_pyx.specs.declared.item.Item.{Item}
 use Rattle.ncq_source.specs.declared.key.Key.{Key}
@@ -39,7 +39,7 @@ pub record Source : Type 0 where
 abbrev pub with_items : List ℕ → List Item → List Source → List Source
 with_items name items [] = []
 with_items name items (source ∷ more) =
-    if is_key name source.name
+    if bytes_eq name source.name
     then record source { elements = store_after source.key source.elements items } ∷ more
     else source ∷ with_items name items more
 
@@ -53,7 +53,7 @@ sources ((Create query) ∷ before) = sources before
 -- the source of this name
 abbrev pub source_in : List ℕ → List Source → Option Source
 source_in name [] = None
-source_in name (source ∷ more) = if is_key name source.name then Some source else source_in name more
+source_in name (source ∷ more) = if bytes_eq name source.name then Some source else source_in name more
 
 abbrev pub elements_of : Option Source → List Element
 elements_of None = []

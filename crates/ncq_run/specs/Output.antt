@@ -1,6 +1,6 @@
 -- What is written for a script: the answer of each command in turn.
 use Rattle.std.specs.Prelude.{ℕ, ◌+◌, Bool, true, false, if◌then◌else◌, List, [], ◌∷◌, ◌++◌, codes, Option, Some, None, Result, Ok, Err, decimal}
-use Rattle.ncq_base.specs.Keys.{is_key}
+use Rattle.std.specs.Str.{bytes_eq}
 use Rattle.ncq_source.specs.Changes.{prepared, Trial}
 use Rattle.ncq_source.specs.Changes.Trial.{Good, NoKey, NotThere}
 use Rattle.ncq_source.specs.declared.change.Entry.{Entry}
@@ -35,7 +35,7 @@ declare_refusal (Some source) = Some refusal.SourceExists
 -- a create on this source: its root has to be the query's
 abbrev pub create_refusal : ChildQuery → Option Source → Option Refusal
 create_refusal query None = Some refusal.NoSource
-create_refusal query (Some source) = if is_key source.root query.root then None else Some refusal.Root
+create_refusal query (Some source) = if bytes_eq source.root query.root then None else Some refusal.Root
 
 -- a delta of this source: the first item that cannot be applied decides
 abbrev pub delta_refusal : BuiltCommand → Option Source → Option Refusal

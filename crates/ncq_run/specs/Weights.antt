@@ -1,7 +1,7 @@
 -- How often a forest stands in an answer, counted element by element. Only the crate's private clauses cite it.
 use Rattle.std.specs.Prelude.{ℕ, if◌then◌else◌, List, [], map}
 use Rattle.std.specs.FinMap.{entries}
-use Rattle.ncq_base.specs.Keys.{is_key}
+use Rattle.std.specs.Str.{bytes_eq}
 use Rattle.ncq_bag.specs.Bags.{count_in, difference}
 use Rattle.ncq_callback.specs.Texts.{print_text}
 use Rattle.ncq_tree.specs.declared.model.Element.{Element}
@@ -22,6 +22,6 @@ answer_in query kept = answer_bytes query (map (λ entry. entry.1) (entries kept
 -- what a subscription is told where the elements of the source of this name became others
 abbrev pub told_change : List ℕ → Kept → Kept → Subscription → List ℕ
 told_change name before after subscription =
-    if is_key name subscription.query.source
+    if bytes_eq name subscription.query.source
     then print_text subscription.query.name 0 (difference (answer_in subscription.query after) (answer_in subscription.query before))
     else []

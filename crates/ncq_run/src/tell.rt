@@ -2,7 +2,8 @@
 ghost use Rattle.std.specs.Prelude.{◌≡◌, ◌++◌, ◌<◌, ◌^◌, ℕ, List, pos, ◌+ℤ◌, ◌-ℤ◌, ◌∷◌, if◌then◌else◌, length, [], slice_get, Some, OnOk, IfOk};
 ghost use Rattle.std.specs.Option.{option_copied};
 ghost use Rattle.std.specs.List.{flat_map, filter};
-ghost use Rattle.ncq_base.specs.Keys.{is_key, weight, total_of};
+ghost use Rattle.std.specs.Str.{bytes_eq};
+ghost use Rattle.ncq_base.specs.Keys.{weight, total_of};
 ghost use Rattle.ncq_bag.specs.Bags.{count_of, difference, differences, signed};
 ghost use Rattle.ncq_callback.specs.Texts.{print_text};
 ghost use Rattle.ncq_source.specs.Changes.{after, Chains, gains, losses};
@@ -202,7 +203,7 @@ fn is_wanted(query: &ChildQuery, text: &Bytes) -> bool
 
 /// Counts the bytes so many times more, or less. A bag that is full answers that memory ran out.
 fn add_times(bytes: Bytes, times: u64, gain: bool, bag: &mut SignedBag) -> Result<(), AllocError>
-    ensures { OnOk result ((key : List ℕ) → count_of bag.new.counts key ≡ count_of bag.old.counts key +ℤ signed gain (if is_key key bytes then times else 0)) }
+    ensures { OnOk result ((key : List ℕ) → count_of bag.new.counts key ≡ count_of bag.old.counts key +ℤ signed gain (if bytes_eq key bytes then times else 0)) }
 {
     let Some(adds) = bag.adds().checked_add(times) else {
         return Err(AllocError);

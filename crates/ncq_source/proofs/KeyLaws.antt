@@ -1,6 +1,6 @@
 -- The key values that a node has.
 use Rattle.std.proofs.Common.{◌≡◌, ℕ, List, [], ◌∷◌, map, ap, ◌∙◌, refl, if◌then◌else◌}
-use Rattle.ncq_base.specs.Keys.{is_key}
+use Rattle.std.specs.Str.{bytes_eq}
 use Rattle.ncq_tree.specs.declared.model.Element.{Element}
 use Rattle.ncq_tree.specs.declared.model.Node.{Node}
 use Rattle.ncq_tree.specs.declared.model.Node.TheVariants.{Text as text_node, Element as element_node}
@@ -15,9 +15,9 @@ firsts f (x ∷ xs) = ap (λ ys. x ∷ ys) (firsts f xs)
 pub child_keys_text : (wanted text : List ℕ) → child_keys wanted (text_node text) ≡ []
 child_keys_text wanted text = by_nodes_text no_strings (value_if_named wanted) text
 
-pub child_keys_element : (wanted : List ℕ) (e : Element) → child_keys wanted (element_node e) ≡ (if is_key wanted e.name then string_value e.children ∷ [] else [])
+pub child_keys_element : (wanted : List ℕ) (e : Element) → child_keys wanted (element_node e) ≡ (if bytes_eq wanted e.name then string_value e.children ∷ [] else [])
 child_keys_element wanted e =
     by_nodes_element no_strings (value_if_named wanted) e
-    ∙ ap (λ (nodes : List Node). if is_key wanted e.name then string_value nodes ∷ [] else []) (firsts (child_keys wanted) e.children)
+    ∙ ap (λ (nodes : List Node). if bytes_eq wanted e.name then string_value nodes ∷ [] else []) (firsts (child_keys wanted) e.children)
 
 pub ruleset child_keys_are = (child_keys_text, child_keys_element)

@@ -8,7 +8,8 @@ use Rattle.std.specs.Cmp.Lexicographic.{texts_ties}
 use Rattle.std.proofs.lemmas.Bool.Decides.{nat_tests}
 use Rattle.std.proofs.lemmas.Map.Entries.{lookup_from_place}
 use Rattle.std.proofs.lemmas.Map.Views.{Contains-from_lookup, lookup-from_Contains, list_any-from_Contains, Contains-from_any}
-use Rattle.ncq_base.specs.Keys.{is_key, times}
+use Rattle.std.specs.Str.{bytes_eq}
+use Rattle.ncq_base.specs.Keys.{times}
 use Rattle.ncq_base.proofs.Keyed.{get_map_of, count_map_of, is_key_equiv, bytes_apart}
 use Rattle.ncq_base.proofs.Totals.{is_equal}
 use Rattle.ncq_tree.specs.declared.model.Element.{Element}
@@ -19,7 +20,7 @@ use Rattle.ncq_source.specs.StoreStates.{StoreState, names, found}
 use Rattle.ncq_source.proofs.Places.{from_map}
 
 -- keys that are one are equal
-one_key : (x y : List ℕ) → is_key x y ≡ true → x ≡ y
+one_key : (x y : List ℕ) → bytes_eq x y ≡ true → x ≡ y
 one_key x y h = bytes_apart x y (is_equal _ (sym (texts_ties x y) ∙ h))
 
 -- a key holds an element exactly where the two are shown
@@ -66,13 +67,13 @@ none_of (Some a) h = absurd (h refl)
 pub finds_names : (store : StoreState) (name : List ℕ) → found store name ≡ None ↔ (Contains (names store) name → ⊥)
 finds_names store name =
     let all = names store in
-    let any = is_some_position (is_key name) all in (
+    let any = is_some_position (bytes_eq name) all in (
       λ none among. true≢false (sym (list_any-from_Contains is_key_equiv name all among) ∙ sym any ∙ ap is_some none),
       λ not_among. none_of (found store name) (λ some. not_among (Contains-from_any one_key name all (sym any ∙ some))),
     )
 
 -- an element that is shown is proper where all are
-pub shows_proper : (pairs : List (List ℕ × Element)) (at : ℕ) (element : Element) → HoldsProper (map_of pairs) → IsDistinct is_key (keys_of pairs)
+pub shows_proper : (pairs : List (List ℕ × Element)) (at : ℕ) (element : Element) → HoldsProper (map_of pairs) → IsDistinct bytes_eq (keys_of pairs)
     → slice_get (map (λ p. p.1) pairs) at ≡ Some element → IsProper element
 shows_proper pairs at element proper apart shown =
     let p = from_map (λ p. p.1) pairs at element shown in

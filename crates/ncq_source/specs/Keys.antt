@@ -1,7 +1,7 @@
 -- The key of an element.
 use Rattle.std.specs.Prelude.{ℕ, if◌then◌else◌, List, [], ◌∷◌, map, Option, Some, None}
 use Rattle.std.specs.List.{flat_map}
-use Rattle.ncq_base.specs.Keys.{is_key}
+use Rattle.std.specs.Str.{bytes_eq}
 use Rattle.ncq_tree.specs.declared.model.Attribute.{Attribute}
 use Rattle.ncq_tree.specs.declared.model.Element.{Element}
 use Rattle.ncq_tree.specs.declared.model.Node.{Node}
@@ -20,7 +20,7 @@ no_strings text = []
 
 -- the string value of an element of this name
 abbrev pub value_if_named : List ℕ → List ℕ → List Attribute → List (Node × Strings) → Strings
-value_if_named wanted name attributes below = if is_key wanted name then string_value (map (λ p. p.0) below) ∷ [] else []
+value_if_named wanted name attributes below = if bytes_eq wanted name then string_value (map (λ p. p.0) below) ∷ [] else []
 
 -- the string values of a node that is an element of this name
 abbrev pub child_keys : List ℕ → Node → Strings
@@ -28,7 +28,7 @@ child_keys wanted = by_nodes no_strings (value_if_named wanted)
 
 -- the value of an attribute of this name
 abbrev pub attribute_keys : List ℕ → Attribute → Strings
-attribute_keys wanted attribute = if is_key wanted attribute.name then attribute.value ∷ [] else []
+attribute_keys wanted attribute = if bytes_eq wanted attribute.name then attribute.value ∷ [] else []
 
 -- a value that is not empty
 abbrev pub not_empty : List ℕ → Option (List ℕ)

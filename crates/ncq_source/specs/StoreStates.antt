@@ -2,7 +2,7 @@
 use Rattle.std.specs.Prelude.{◌≡◌, ℕ, ◌+◌, ◌<◌, ◌≤◌, List, [], ◌∷◌, ◌++◌, map, length, slice_get, slice_set, Option, Some, refl, position, Ok, Err}
 use Rattle.std.specs.Coded.{Coded, code_by, coded×, coded_ℕ, coded_list}
 use Rattle.std.specs.declared.result.Result.{Result}
-use Rattle.ncq_base.specs.Keys.{is_key}
+use Rattle.std.specs.Str.{bytes_eq}
 use Rattle.ncq_source.specs.declared.change.ChangeError.{ChangeError}
 use Rattle.ncq_source.specs.declared.change.ChangeError.TheVariants.{BadKey, NoSuchKey, NoSource, OutOfMemory}
 use Rattle.ncq_source.specs.declared.change.Entry.{Entry}
@@ -29,7 +29,7 @@ names store = map (λ s. s.name) store.sources
 
 -- the first source of this name
 abbrev pub found : StoreState → List ℕ → Option ℕ
-found store name = position (is_key name) (names store)
+found store name = position (bytes_eq name) (names store)
 
 -- the store has a source at this place
 abbrev pub IsDeclared : StoreState → SourceId → Type 0

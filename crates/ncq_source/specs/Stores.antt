@@ -4,7 +4,7 @@ use Rattle.std.specs.Coded.{Coded, code_by, coded×, coded_ℕ, coded_list}
 use Rattle.std.specs.FinMap.{empty}
 use Rattle.std.specs.List.{IsDistinct}
 use Rattle.std.specs.Map.{keys_of}
-use Rattle.ncq_base.specs.Keys.{is_key}
+use Rattle.std.specs.Str.{bytes_eq}
 use Rattle.ncq_tree.specs.declared.model.Element.{Element}
 use Rattle.ncq_tree.specs.contracts.model.Element.{the_row as element_row}
 use Rattle.ncq_source.specs.declared.change.Entry.{Entry}
@@ -46,7 +46,7 @@ source_code = code_by Parts
 
 -- the elements that are shown are those of the map, and each key's is shown once
 pub record ShowsEach (source : Source) : Type 0 where
-  pub once : IsDistinct is_key (keys_of source.shown)
+  pub once : IsDistinct bytes_eq (keys_of source.shown)
   pub elements : source.elements ≡ map_of source.shown
 
 -- a source that was declared and not changed yet

@@ -4,7 +4,7 @@ ghost use Rattle.std.specs.Option.{option_copied};
 ghost use Rattle.std.specs.FinMap.{get, insert, remove};
 ghost use Rattle.std.specs.List.{IsDistinct};
 ghost use Rattle.std.specs.Map.{keys_of};
-ghost use Rattle.ncq_base.specs.Keys.{is_key};
+ghost use Rattle.std.specs.Str.{bytes_eq};
 ghost use Rattle.ncq_source.specs.Changes.{after};
 ghost use Rattle.ncq_source.specs.Held.{map_of, with_at};
 
@@ -51,7 +51,7 @@ impl Elements {
     /// How many elements there are, each under a key of its own.
     pub(crate) fn len(&self) -> usize
         ensures count { result ≡ length self.now.pairs }
-        ensures once { IsDistinct is_key (keys_of self.now.pairs) }
+        ensures once { IsDistinct bytes_eq (keys_of self.now.pairs) }
     {
         self.elements.len()
     }

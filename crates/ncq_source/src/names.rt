@@ -1,7 +1,7 @@
 //! Names in the order in which they came.
 ghost use Rattle.std.specs.Prelude.{◌≡◌, ◌++◌, ◌∷◌, [], ◌<◌, length, OnOk, OnErr, IfSome, position, is_some, false};
 ghost use Rattle.std.specs.List.{list_any};
-ghost use Rattle.ncq_base.specs.Keys.{is_key};
+ghost use Rattle.std.specs.Str.{bytes_eq};
 
 use indexmap::IndexSet;
 use std::alloc::{AllocError, Global};
@@ -34,8 +34,8 @@ impl Names {
 
     /// The place of the name, without memory.
     pub(crate) fn find(&self, name: &[u8]) -> Option<usize>
-        ensures place { result ≡ position (is_key name.now) self.now }
-        ensures there { is_some result ≡ list_any (is_key name.now) self.now }
+        ensures place { result ≡ position (bytes_eq name.now) self.now }
+        ensures there { is_some result ≡ list_any (bytes_eq name.now) self.now }
         ensures within { IfSome result (λ at. at < length self.now) }
     {
         self.names.get_index_of(name)
@@ -43,7 +43,7 @@ impl Names {
 
     /// One more name, which is not there yet.
     pub(crate) fn push(&mut self, alloc: Global, name: &[u8]) -> Result<(), AllocError>
-        requires { list_any (is_key name.now) self.old ≡ false }
+        requires { list_any (bytes_eq name.now) self.old ≡ false }
         ensures ok { OnOk result (self.new ≡ self.old ++ name.now ∷ []) }
         ensures err { OnErr result (self.new ≡ self.old) }
     {

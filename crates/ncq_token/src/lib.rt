@@ -4,13 +4,15 @@
 //! No clause says when memory runs out: a body could still answer so at any text.
 #![tactic(auto)]
 
+mod laws;
 mod quoted;
 mod scan;
 mod token;
 mod tokenise;
 
+pub use laws::{names_are_names, tokens_are};
 pub use token::{Token, TokenError, TokenItems};
-pub use tokenise::{names_are_names, tokens, tokens_are};
+pub use tokenise::tokens;
 
 #[cfg(test)]
 mod tests;

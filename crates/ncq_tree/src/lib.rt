@@ -7,6 +7,7 @@
 
 mod checks;
 mod copy;
+mod laws;
 mod model;
 mod normalize;
 mod ordering;
@@ -16,7 +17,8 @@ mod text;
 
 pub use checks::{are_rising, is_normal};
 pub use copy::copy_forest;
+pub use laws::{normal_is_made, normal_stays, order_is_total};
 pub use model::{Attribute, Attributes, Element, Forest, Node};
-pub use normalize::{normal, normal_element, normal_is_made, normal_stays, sort_attributes, trim};
-pub use ordering::{is_same, order, order_is_total};
+pub use normalize::{normal, normal_element, sort_attributes, trim};
+pub use ordering::{is_same, order};
 pub use text::string_value;

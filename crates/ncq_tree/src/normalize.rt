@@ -143,13 +143,3 @@ fn spaces_behind(text: &[u8]) -> usize
 {
     text.iter().rev().take_while(|b| is_space(**b)).count()
 }
-
-/// The law of `normal`: a normal forest is its own normal form.
-pub fn normal_stays()
-    ensures { (forest : List Node) → is_normal forest ≡ true → normal forest ≡ forest }
-{}
-
-/// The law of `normal`: where no element has two attributes of one name, the normal form is normal.
-pub fn normal_is_made()
-    ensures { (forest : List Node) → list_all node_is_distinct forest ≡ true → is_normal (normal forest) ≡ true }
-{}

@@ -62,7 +62,12 @@ fn bytes_are_those_of_the_vector(rt: HostRuntime) -> Result<(), Fail> {
     for text in STRINGS {
         grown.append(text.as_bytes())?;
     }
-    expect_bytes(&rt, grown.as_slice(), b"0123456789abcdef0123456789abcdefg", "");
+    expect_bytes(
+        &rt,
+        grown.as_slice(),
+        b"0123456789abcdef0123456789abcdefg",
+        "",
+    );
     Ok(())
 }
 

@@ -1,7 +1,7 @@
 use Rattle.std.proofs.Common.{◌≡◌, true, ◌++◌, append-nil, arith, sym, ap, ◌∙◌}
 use Rattle.std.specs.Prelude.{not}
 use Rattle.std.specs.List.{flat_map}
-use Rattle.ncq_base.specs.Keys.{is_key}
+use Rattle.std.specs.Str.{bytes_eq}
 use Rattle.ncq_tree.specs.declared.model.Node.{Node}
 use Rattle.ncq_row.specs.declared.shape.Shape.{Shape}
 use Rattle.ncq_row.specs.Embeddings.{Rows, rows_at, rows_among, reached_at}
@@ -11,7 +11,7 @@ use Rattle.ncq_row.proofs.matching.+matching.Goals as goal
 
 pub add_found-returns-then-ne : goal.add_found-returns-then-ne
 add_found-returns-then-ne t c =
-    let other : not (is_key c.in-Element.element.name c.args.shape.now.tag)
+    let other : not (bytes_eq c.in-Element.element.name c.args.shape.now.tag)
     ≡ true = sym c.ne.ensures ∙ c.if-ne.true in
     let none =
     ap (λ (n : Node). flat_map (rows_at c.args.shape.now) (reached_at c.args.shape.now.tag n))

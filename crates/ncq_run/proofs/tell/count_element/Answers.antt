@@ -2,7 +2,7 @@ use Rattle.std.proofs.Common.{◌≡◌, ◌∙◌, ◌++◌, sym, ap, append-ni
 use Rattle.std.specs.Prelude.{◌+ℤ◌}
 use Rattle.std.specs.List.{filter, flat_map}
 use Rattle.std.proofs.lemmas.Result.{on_ok_weaker}
-use Rattle.ncq_base.specs.Keys.{is_key}
+use Rattle.std.specs.Str.{bytes_eq}
 use Rattle.ncq_bag.specs.Bags.{count_of}
 use Rattle.ncq_pyx.specs.Canonical.{bytes_of_lines, node_lines}
 use Rattle.ncq_source.specs.Keys.{child_keys}
@@ -17,7 +17,7 @@ pub returns : goal.returns
 returns c =
     let query = c.args.query.now in
     let element = c.args.element.now in
-    let tag : is_key query.tag element.name ≡ true = search rules in
+    let tag : bytes_eq query.tag element.name ≡ true = search rules in
     let children = ap (λ (nodes : List Node). length (filter (is_wanted query) (flat_map (child_keys query.child) nodes))) c.as_slice.ensures in
     let lines = ap bytes_of_lines (append-nil (node_lines (element_node element))) in
     let bytes = lines ∙ sym (c.from_vec.ensures ∙ c.in_ok-write_element.ensures.ok ∙ ap (λ xs. xs ++ bytes_of_lines (node_lines (element_node element))) c.in_ok-bytes.ensures.items) in

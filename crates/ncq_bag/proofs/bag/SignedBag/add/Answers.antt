@@ -3,7 +3,8 @@ use Rattle.std.specs.Int.{w128}
 use Rattle.std.specs.Option.{unwrap_or}
 use Rattle.std.specs.Map.{lookup}
 use Rattle.std.specs.FinMap.{insert}
-use Rattle.ncq_base.specs.Keys.{map_of, is_key}
+use Rattle.std.specs.Str.{bytes_eq}
+use Rattle.ncq_base.specs.Keys.{map_of}
 use Rattle.ncq_base.proofs.Keyed.{map_put, get_map_of, updated}
 use Rattle.ncq_bag.specs.Bags.{signed}
 use Rattle.ncq_bag.specs.Counted.{Counted}
@@ -20,7 +21,7 @@ stepped-requires c =
     rw (fits _ bound) omega arith
 
 -- what the insert changes, by equality
-changes : (c : goal.After-self-1) (q : List ℕ) → lookup (is_key q) c.insert.new.self.entries ≡ cond (is_key c.args.key q) (Some (to_z w128 (of_z w128 c.stepped.result))) (lookup (is_key q) c.self.inside.counts.entries)
+changes : (c : goal.After-self-1) (q : List ℕ) → lookup (bytes_eq q) c.insert.new.self.entries ≡ cond (bytes_eq c.args.key q) (Some (to_z w128 (of_z w128 c.stepped.result))) (lookup (bytes_eq q) c.self.inside.counts.entries)
 changes c = updated c.self.inside.counts.entries c.insert.new.self.entries c.args.key _ c.in_ok-insert.ensures.updates.0
 
 pub invariant_of-self-2 : goal.invariant_of-self-2

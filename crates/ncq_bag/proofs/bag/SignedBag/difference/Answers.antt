@@ -4,7 +4,7 @@ use Rattle.std.specs.Map.{lookup}
 use Rattle.std.proofs.lemmas.Map.Views.{All-found}
 use Rattle.std.proofs.lemmas.List.Elements.{All-weaker}
 use Rattle.std.specs.Cmp.Lexicographic.{nat_list_cmp_total}
-use Rattle.ncq_base.specs.Keys.{is_key}
+use Rattle.std.specs.Str.{bytes_eq}
 use Rattle.ncq_base.proofs.Keyed.{entries_rising, ordered_lookup}
 use Rattle.ncq_bag.specs.Bags.{difference_of}
 use Rattle.ncq_bag.specs.Counted.{AreWithin}
@@ -15,7 +15,7 @@ pub loop-bytes-init : goal.loop-bytes-init
 loop-bytes-init c =
     let es = c.self.inside.counts.entries in
     let found = All-found nat_list_cmp_total c.self.inside.counts c.into_iter-bytes-iterator.ensures.into_iter_gives.5 in
-    let each = All-weaker _ (λ (e : List ℕ × ℤ). lookup (is_key e.0) es ≡ Some e.1) (λ e h. sym (ordered_lookup e.0 es) ∙ h) es found in
+    let each = All-weaker _ (λ (e : List ℕ × ℤ). lookup (bytes_eq e.0) es ≡ Some e.1) (λ e h. sym (ordered_lookup e.0 es) ∙ h) es found in
     record {
       out = rw c.new-out.ensures refl;
       within = subst AreWithin (sym c.into_iter-bytes-iterator.ensures.into_iter_gives.0) (are_within es es c.self.inside.adds c.self.invariant each);

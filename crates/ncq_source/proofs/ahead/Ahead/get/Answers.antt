@@ -2,7 +2,7 @@ use Rattle.std.proofs.Common.{◌≡◌, None, ap, ◌∙◌, sym}
 use Rattle.std.specs.Option.{unwrap_or, option_copied}
 use Rattle.std.specs.Map.{lookup}
 use Rattle.std.specs.FinMap.{get}
-use Rattle.ncq_base.specs.Keys.{is_key}
+use Rattle.std.specs.Str.{bytes_eq}
 use Rattle.ncq_source.specs.Held.{map_of}
 use Rattle.ncq_source.proofs.Over.{get_over}
 use Rattle.ncq_source.proofs.ahead.Ahead.get.Goals as goal
@@ -20,6 +20,6 @@ returns-in-None c =
     let kept = map_of c.self.inside.elements.now.pairs in
     let changed = c.self.inside.changed.entries in
     let key = c.args.key.now in
-    let found : lookup (is_key key) changed ≡ None = sym c.get.ensures.value ∙ ap option_copied c.in-None.is in
+    let found : lookup (bytes_eq key) changed ≡ None = sym c.get.ensures.value ∙ ap option_copied c.in-None.is in
     rw (← c.self.view_is)
     (c.get-in-None.ensures ∙ sym (get_over kept changed key ∙ ap (λ o. unwrap_or o (get kept key)) found))

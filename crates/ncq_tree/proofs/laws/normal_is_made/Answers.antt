@@ -1,5 +1,5 @@
 use Rattle.ncq_tree.proofs.NormalMade.{normal_made}
-use Rattle.ncq_tree.proofs.normalize.normal_is_made.Goals as goal
+use Rattle.ncq_tree.proofs.laws.normal_is_made.Goals as goal
 
 pub returns : goal.returns
 returns c = normal_made

@@ -1,5 +1,5 @@
 use Rattle.ncq_token.proofs.TokenLaws.{tokens_sound, tokens_complete, stop_sound, stop_complete}
-use Rattle.ncq_token.proofs.tokenise.tokens_are.Goals as goal
+use Rattle.ncq_token.proofs.laws.tokens_are.Goals as goal
 
 pub returns-clause-read : goal.returns-clause-read
 returns-clause-read c = λ text ts. (tokens_sound text ts, tokens_complete text ts)

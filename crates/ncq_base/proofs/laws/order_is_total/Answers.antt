@@ -1,5 +1,5 @@
 use Rattle.ncq_base.proofs.AtomOrder.{atom_cmp_total}
-use Rattle.ncq_base.proofs.atom.order_is_total.Goals as goal
+use Rattle.ncq_base.proofs.laws.order_is_total.Goals as goal
 
 pub returns : goal.returns
 returns c = atom_cmp_total

@@ -1,5 +1,5 @@
 use Rattle.ncq_tree.proofs.NormalAgain.{normal_stays}
-use Rattle.ncq_tree.proofs.normalize.normal_stays.Goals as goal
+use Rattle.ncq_tree.proofs.laws.normal_stays.Goals as goal
 
 pub returns : goal.returns
 returns c = normal_stays
