@@ -1,11 +1,27 @@
-//! What is asked of a row of a query, and what is made of it.
-//! Tests compare the atoms at two slots of a row, or an atom with a constant; a template makes a
-//! forest of the values at slots. What they mean of a row stands in `specs/`.
+//! Queries in normal form, and the expressions that plan them.
+//! A query has an arm for each of its patterns: what it asks of the arm's rows, and of those of the
+//! arms before. Its plan is an expression of scans, selections and joins, whose rows that pass the
+//! residual tests are the rows of the query. A template makes a forest of such a row. The laws say
+//! that, and how the rows of any expression change with the elements of the sources.
 #![tactic(auto)]
 
+mod copy;
+mod expr;
+mod laws;
+mod planning;
+mod query;
 mod residual;
+mod same;
+mod slots;
 mod template;
 
+pub use expr::Expr;
+pub use laws::{deltas_count, deltas_lead, plans_give_the_rows, rows_have_the_width};
+pub use ncq_base::{End, Interval, in_interval};
 pub use ncq_row::{Pair, Pairs};
+pub use planning::plan;
+pub use query::{Arm, Arms, EqualTo, EqualTos, NormalQuery, Within, Withins};
 pub use residual::{Side, Test, Tests};
+pub use same::{same_expr, same_pairs};
+pub use slots::width;
 pub use template::{SlotAttribute, SlotAttributes, SlotTemplate, SlotTemplates, SlotText};

@@ -1,0 +1,49 @@
+//! Queries in normal form: names are slots, and each condition stands where it can be met first.
+use crate::residual::Tests;
+use crate::template::SlotTemplate;
+use ncq_base::{Atom, Bytes, Interval, Sequence};
+use ncq_row::{Pairs, Shape};
+
+/// A slot has the constant's atom.
+#[derive(Drop)]
+pub struct EqualTo {
+    pub slot: usize,
+    pub constant: Atom,
+}
+
+/// Such demands, in order.
+pub type EqualTos = Sequence<EqualTo>;
+
+/// A slot is a number in the interval.
+#[derive(Drop)]
+pub struct Within {
+    pub slot: usize,
+    pub interval: Interval,
+}
+
+/// Such demands, in order.
+pub type Withins = Sequence<Within>;
+
+/// A pattern under the root of a source, by its shape, and what it asks. The slots of `equals` and `ranges` are those of
+/// the arm's row. The pairs tie the arm to those before it: the left slot is one of the query, the right slot one of the
+/// arm. The first arm has none.
+#[derive(Drop)]
+pub struct Arm {
+    pub source: Bytes,
+    pub shape: Shape,
+    pub equals: EqualTos,
+    pub ranges: Withins,
+    pub pairs: Pairs,
+}
+
+/// Arms in order.
+pub type Arms = Sequence<Arm>;
+
+/// A query whose variables are slots. A slot of the query is the arm's offset plus a slot of the arm; the offset is the sum
+/// of the widths of the arms before.
+#[derive(Drop)]
+pub struct NormalQuery {
+    pub arms: Arms,
+    pub residual: Tests,
+    pub template: SlotTemplate,
+}
