@@ -1,0 +1,3 @@
+pub mod IntervalTexts
+pub mod Signatures
+pub mod SignatureTexts
