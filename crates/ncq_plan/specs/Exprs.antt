@@ -16,7 +16,8 @@ use Rattle.ncq_plan.specs.Meets.{has_atom, is_within, agree}
 abbrev pub World : Type 0
 World = List ℕ → List Element
 
--- the slots of an expression's rows: a selection has those of its input, a join those of the left and then those of the right
+-- the slots of an expression's rows: a selection has those of its input, a join those of the left
+-- and then those of the right
 abbrev pub width_step : Expr-F ℕ → ℕ
 width_step (Scan source shape) = width shape
 width_step (EqSel input slot constant) = input
@@ -54,7 +55,8 @@ rows_step world (EqSel input slot constant) = filter (has_atom slot constant) in
 rows_step world (RangeSel input slot interval) = filter (is_within slot interval) input
 rows_step world (Join left right pairs) = join_rows pairs left right
 
--- the rows of an expression, in a fixed order: a scan has those of its shape in each element of its source, a selection
--- those of its input that meet it, a join each left row followed by each right row where each pair has the same atom
+-- the rows of an expression, in a fixed order: a scan has those of its shape in each element of its
+-- source, a selection those of its input that meet it, a join each left row followed by each right
+-- row where each pair has the same atom
 abbrev pub rows_in : Expr → World → List Row
 rows_in expr world = fold-Expr (List Row) (rows_step world) expr

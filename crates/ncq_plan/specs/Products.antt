@@ -25,18 +25,23 @@ equal_holds offset row equal = same_atom (atom_at row (offset + equal.slot)) equ
 abbrev pub range_holds : ℕ → Row → Within → Bool
 range_holds offset row range = in_interval range.interval (atom_at row (offset + range.slot))
 
--- the two slots have the same atom: the left one is a slot of the query, the right one stands behind the arm's offset
+-- the two slots have the same atom: the left one is a slot of the query, the right one stands
+-- behind the arm's offset
 abbrev pub pair_holds : ℕ → Row → Pair → Bool
 pair_holds offset row pair = same_atom (atom_at row pair.left) (atom_at row (offset + pair.right))
 
 -- a row meets the equalities, the ranges and the pairs of an arm at this offset
 abbrev pub arm_holds : ℕ → Row → Arm → Bool
-arm_holds offset row arm = list_all (equal_holds offset row) arm.equals && list_all (range_holds offset row) arm.ranges && list_all (pair_holds offset row) arm.pairs
+arm_holds offset row arm =
+    list_all (equal_holds offset row) arm.equals
+    && list_all (range_holds offset row) arm.ranges
+    && list_all (pair_holds offset row) arm.pairs
 
 -- and so for each of the arms, the first of them at this offset
 abbrev pub arms_hold : ℕ → Row → List Arm → Bool
 arms_hold offset row [] = true
-arms_hold offset row (arm ∷ arms) = arm_holds offset row arm && arms_hold (offset + arm_width arm) row arms
+arms_hold offset row (arm ∷ arms) =
+    arm_holds offset row arm && arms_hold (offset + arm_width arm) row arms
 
 -- a row of the query meets all its equalities, ranges, pairs and tests
 abbrev pub meets : NormalQuery → Row → Bool

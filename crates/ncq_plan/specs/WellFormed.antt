@@ -1,5 +1,7 @@
--- Well formed queries and expressions: the slots that they name are there, and they are not too large.
-use Rattle.std.specs.Prelude.{◌≡◌, ℕ, ◌+◌, ◌<◌, ◌≤◌, Bool, true, ◌&&◌, nat_lt, List, [], ◌∷◌, length}
+-- Well formed queries and expressions: the slots that they name are there, and they are not too
+-- large.
+use Rattle.std.specs.Prelude.{◌≡◌, ℕ, ◌+◌, ◌<◌, ◌≤◌, Bool, true, ◌&&◌, nat_lt, List, [], ◌∷◌}
+use Rattle.std.specs.Prelude.{length}
 use Rattle.std.specs.List.{AllByRecursion, list_all}
 use Rattle.ncq_row.specs.declared.pair.Pair.{Pair}
 use Rattle.ncq_plan.specs.declared.expr.Expr.{Expr}
@@ -21,9 +23,12 @@ abbrev pub slots_step : Expr-F (Expr × Bool) → Bool
 slots_step (Scan source shape) = true
 slots_step (EqSel input slot constant) = input.1 && nat_lt slot (expr_width input.0)
 slots_step (RangeSel input slot interval) = input.1 && nat_lt slot (expr_width input.0)
-slots_step (Join left right pairs) = left.1 && right.1 && list_all (pair_fits (expr_width left.0) (expr_width right.0)) pairs
+slots_step (Join left right pairs) =
+    left.1 && right.1
+    && list_all (pair_fits (expr_width left.0) (expr_width right.0)) pairs
 
--- whether each selection's slot is one of its input's, and each pair's slots are those of the join's two inputs
+-- whether each selection's slot is one of its input's, and each pair's slots are those of the
+-- join's two inputs
 abbrev pub slots_fit : Expr → Bool
 slots_fit = para-Expr Bool slots_step
 
@@ -46,7 +51,8 @@ abbrev pub ranges_in : List Arm → ℕ
 ranges_in [] = 0
 ranges_in (arm ∷ arms) = length arm.ranges + ranges_in arms
 
--- the slots that an arm names are its own, but the left ones of its pairs, which are those of the arms before
+-- the slots that an arm names are its own, but the left ones of its pairs, which are those of the
+-- arms before
 pub record ArmFits (offset : ℕ) (arm : Arm) : Type 0 where
   pub equals : AllByRecursion (λ equal. equal.slot < arm_width arm) arm.equals
   pub ranges : AllByRecursion (λ range. range.slot < arm_width arm) arm.ranges
@@ -58,7 +64,8 @@ abbrev pub ArmsFit : ℕ → List Arm → Type 0
 ArmsFit offset [] = Unit {0}
 ArmsFit offset (arm ∷ arms) = ArmFits offset arm × ArmsFit (offset + arm_width arm) arms
 
--- 1 to 8 arms, at most 64 slots, 96 demands of equality and 32 ranges; each slot that is named is there
+-- 1 to 8 arms, at most 64 slots, 96 demands of equality and 32 ranges; each slot that is named is
+-- there
 pub record IsWellFormed (query : NormalQuery) : Type 0 where
   pub some : 1 ≤ length query.arms
   pub few : length query.arms ≤ 8

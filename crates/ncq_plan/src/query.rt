@@ -24,9 +24,9 @@ pub struct Within {
 /// Such demands, in order.
 pub type Withins = Sequence<Within>;
 
-/// A pattern under the root of a source, by its shape, and what it asks. The slots of `equals` and `ranges` are those of
-/// the arm's row. The pairs tie the arm to those before it: the left slot is one of the query, the right slot one of the
-/// arm. The first arm has none.
+/// A pattern under the root of a source, by its shape, and what it asks. The slots of `equals` and
+/// `ranges` are those of the arm's row. The pairs tie the arm to those before it: the left slot is
+/// one of the query, the right slot one of the arm. The first arm has none.
 #[derive(Drop)]
 pub struct Arm {
     pub source: Bytes,
@@ -39,8 +39,8 @@ pub struct Arm {
 /// Arms in order.
 pub type Arms = Sequence<Arm>;
 
-/// A query whose variables are slots. A slot of the query is the arm's offset plus a slot of the arm; the offset is the sum
-/// of the widths of the arms before.
+/// A query whose variables are slots. A slot of the query is the arm's offset plus a slot of the
+/// arm; the offset is the sum of the widths of the arms before.
 #[derive(Drop)]
 pub struct NormalQuery {
     pub arms: Arms,

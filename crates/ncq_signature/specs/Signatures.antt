@@ -5,10 +5,14 @@ use Rattle.ncq_base.specs.declared.interval.Interval.{Interval}
 use Rattle.ncq_plan.specs.declared.expr.Expr.{Expr}
 use Rattle.ncq_plan.specs.declared.expr.Expr.TheVariants.{EqSel, RangeSel}
 use Rattle.ncq_plan.specs.declared.expr.Expr.TheOpen.{Expr-F}
-use Rattle.ncq_plan.specs.declared.expr.Expr.TheOpen.Expr-F.{Scan as ScanLayer, EqSel as EqualLayer, RangeSel as RangeLayer, Join as JoinLayer}
+use Rattle.ncq_plan.specs.declared.expr.Expr.TheOpen.Expr-F.{Scan as ScanLayer}
+use Rattle.ncq_plan.specs.declared.expr.Expr.TheOpen.Expr-F.{EqSel as EqualLayer}
+use Rattle.ncq_plan.specs.declared.expr.Expr.TheOpen.Expr-F.{RangeSel as RangeLayer}
+use Rattle.ncq_plan.specs.declared.expr.Expr.TheOpen.Expr-F.{Join as JoinLayer}
 use Rattle.ncq_plan.specs.declared.expr.Expr.TheFolds.{para-Expr}
 use Rattle.ncq_signature.specs.declared.signature.Signature.{Signature}
-use Rattle.ncq_signature.specs.declared.signature.Signature.TheVariants.{Scan, EqOn, RangeOn, JoinOf}
+use Rattle.ncq_signature.specs.declared.signature.Signature.TheVariants.{Scan, EqOn}
+use Rattle.ncq_signature.specs.declared.signature.Signature.TheVariants.{RangeOn, JoinOf}
 
 -- inputs stay whole
 abbrev pub signature_step : Expr-F (Expr × Signature) → Signature

@@ -4,10 +4,14 @@
 //! expressions have one signature exactly where they differ at most in that constant or interval.
 #![tactic(auto)]
 
+mod group;
 mod laws;
 mod signature;
+#[cfg(test)]
+mod tests;
 mod text;
 
+pub use group::{GroupLine, GroupLines};
 pub use laws::signatures_group;
 pub use signature::{Signature, same_signature, signature_of};
 pub use text::write_signature;

@@ -2,7 +2,10 @@
 ghost use Rattle.std.specs.Prelude.{◌≡◌, ◌++◌, ◌∷◌, [], length, take, map, codes, OnOk, OnErr};
 ghost use Rattle.ncq_base.specs.AtomTexts.{atom_text, number_text};
 ghost use Rattle.ncq_signature.specs.IntervalTexts.{interval_text, low_text, high_text};
-ghost use Rattle.ncq_signature.specs.SignatureTexts.{signature_text, expr_text, scan_text, join_text, pairs_text, pair_text, shape_text, content_text, parts_text, suffix_text, led_by, closing, selection_text};
+ghost use Rattle.ncq_signature.specs.SignatureTexts.{signature_text, expr_text, selection_text};
+ghost use Rattle.ncq_signature.specs.SignatureTexts.{scan_text, join_text, pairs_text, pair_text};
+ghost use Rattle.ncq_signature.specs.SignatureTexts.{shape_text, content_text, parts_text};
+ghost use Rattle.ncq_signature.specs.SignatureTexts.{suffix_text, led_by, closing};
 
 use crate::signature::Signature;
 use ncq_base::{Atom, Bytes, write_atom, write_decimal, write_number};
@@ -10,8 +13,8 @@ use ncq_plan::{End, Expr, Interval, Pair};
 use ncq_row::{Shape, ShapeContent, ShapeSuffix};
 use std::alloc::AllocError;
 
-/// Appends the text of a signature: that of the expression without the constant or the interval of its outermost operator.
-/// After want of memory `out` is as before.
+/// Appends the text of a signature: that of the expression without the constant or the interval of
+/// its outermost operator. After want of memory `out` is as before.
 pub fn write_signature(signature: &Signature, out: &mut Vec<u8>) -> Result<(), AllocError>
     ensures ok { OnOk result (out.new.items ≡ out.old.items ++ signature_text signature.now) }
     ensures err { OnErr result (out.new.items ≡ out.old.items) }
@@ -43,7 +46,9 @@ fn push_signature(signature: &Signature, out: &mut Vec<u8>) -> Result<(), AllocE
 
 /// Appends an operator without its constant or interval; what was there stays in front.
 fn push_open(word: &[u8], input: &Expr, slot: usize, out: &mut Vec<u8>) -> Result<(), AllocError>
-    ensures ok { OnOk result (out.new.items ≡ out.old.items ++ selection_text word.now (expr_text input.now) slot ++ codes ")") }
+    ensures ok { OnOk result
+        (out.new.items
+        ≡ out.old.items ++ selection_text word.now (expr_text input.now) slot ++ codes ")") }
     ensures front { take (length out.old.items) out.new.items ≡ out.old.items }
 {
     push_selection(word, input, slot, out)?;
@@ -91,7 +96,8 @@ fn push_selection(
     slot: usize,
     out: &mut Vec<u8>,
 ) -> Result<(), AllocError>
-    ensures ok { OnOk result (out.new.items ≡ out.old.items ++ selection_text word.now (expr_text input.now) slot) }
+    ensures ok { OnOk result
+        (out.new.items ≡ out.old.items ++ selection_text word.now (expr_text input.now) slot) }
     ensures front { take (length out.old.items) out.new.items ≡ out.old.items }
 {
     push_input(word, input, out)?;
@@ -111,7 +117,8 @@ fn push_input(mark: &[u8], input: &Expr, out: &mut Vec<u8>) -> Result<(), AllocE
 
 /// Appends the pairs of a join and its end; what was there stays in front.
 fn push_last(pairs: &[Pair], out: &mut Vec<u8>) -> Result<(), AllocError>
-    ensures ok { OnOk result (out.new.items ≡ out.old.items ++ codes "," ++ pairs_text pairs.now ++ codes ")") }
+    ensures ok { OnOk result
+        (out.new.items ≡ out.old.items ++ codes "," ++ pairs_text pairs.now ++ codes ")") }
     ensures front { take (length out.old.items) out.new.items ≡ out.old.items }
 {
     out.push(b',')?;
@@ -122,7 +129,8 @@ fn push_last(pairs: &[Pair], out: &mut Vec<u8>) -> Result<(), AllocError>
 
 /// Appends a constant and the end of its operator; what was there stays in front.
 fn push_constant(constant: &Atom, out: &mut Vec<u8>) -> Result<(), AllocError>
-    ensures ok { OnOk result (out.new.items ≡ out.old.items ++ codes "," ++ atom_text constant.now ++ codes ")") }
+    ensures ok { OnOk result
+        (out.new.items ≡ out.old.items ++ codes "," ++ atom_text constant.now ++ codes ")") }
     ensures front { take (length out.old.items) out.new.items ≡ out.old.items }
 {
     out.push(b',')?;
@@ -173,7 +181,8 @@ fn push_content(content: &ShapeContent, out: &mut Vec<u8>) -> Result<(), AllocEr
 /// Appends the texts of parts in brackets, and nothing for none; what was there stays in front.
 #[cycle(shape)]
 fn push_parts(shapes: &[Shape], out: &mut Vec<u8>) -> Result<(), AllocError>
-    ensures ok { OnOk result (out.new.items ≡ out.old.items ++ parts_text (map shape_text shapes.now)) }
+    ensures ok { OnOk result
+        (out.new.items ≡ out.old.items ++ parts_text (map shape_text shapes.now)) }
     ensures front { take (length out.old.items) out.new.items ≡ out.old.items }
 {
     let mut mark = b'(';
@@ -207,7 +216,8 @@ fn push_closing(none: bool, out: &mut Vec<u8>) -> Result<(), AllocError>
 
 /// Appends `@` and the name for each attribute; what was there stays in front.
 fn push_attributes(names: &[Bytes], out: &mut Vec<u8>) -> Result<(), AllocError>
-    ensures ok { OnOk result (out.new.items ≡ out.old.items ++ led_by (codes "@") (codes "@") names.now) }
+    ensures ok { OnOk result
+        (out.new.items ≡ out.old.items ++ led_by (codes "@") (codes "@") names.now) }
     ensures front { take (length out.old.items) out.new.items ≡ out.old.items }
 {
     for name in names {
@@ -217,6 +227,7 @@ fn push_attributes(names: &[Bytes], out: &mut Vec<u8>) -> Result<(), AllocError>
     Ok(())
 }
 
+/// Appends the mark of a suffix that binds; what was there stays in front.
 fn push_suffix(suffix: ShapeSuffix, out: &mut Vec<u8>) -> Result<(), AllocError>
     ensures ok { OnOk result (out.new.items ≡ out.old.items ++ suffix_text suffix) }
     ensures front { take (length out.old.items) out.new.items ≡ out.old.items }
@@ -250,6 +261,7 @@ fn push_marked_pair(mark: &[u8], pair: &Pair, out: &mut Vec<u8>) -> Result<(), A
     push_pair(pair, out)
 }
 
+/// Appends a pair; what was there stays in front.
 fn push_pair(pair: &Pair, out: &mut Vec<u8>) -> Result<(), AllocError>
     ensures ok { OnOk result (out.new.items ≡ out.old.items ++ pair_text pair.now) }
     ensures front { take (length out.old.items) out.new.items ≡ out.old.items }
@@ -261,7 +273,8 @@ fn push_pair(pair: &Pair, out: &mut Vec<u8>) -> Result<(), AllocError>
 
 /// Appends an interval and the end of its operator; what was there stays in front.
 fn push_interval(interval: &Interval, out: &mut Vec<u8>) -> Result<(), AllocError>
-    ensures ok { OnOk result (out.new.items ≡ out.old.items ++ codes "," ++ interval_text interval.now ++ codes ")") }
+    ensures ok { OnOk result
+        (out.new.items ≡ out.old.items ++ codes "," ++ interval_text interval.now ++ codes ")") }
     ensures front { take (length out.old.items) out.new.items ≡ out.old.items }
 {
     out.push(b',')?;
