@@ -1,5 +1,5 @@
 -- Expressions have one signature exactly where they differ at most in the outermost constant or interval.
-use Rattle.std.proofs.Common.{◌≡◌, ◌⊎◌, inl, inr, ◌↔◌, ℕ, List, refl, sym, ◌∙◌, ap}
+use Rattle.std.proofs.Common.{◌≡◌, inl, inr, ℕ, List, refl, sym, ◌∙◌, ap}
 use Rattle.ncq_base.specs.declared.atom.Atom.{Atom}
 use Rattle.ncq_row.specs.declared.shape.Shape.{Shape}
 use Rattle.ncq_base.specs.declared.interval.Interval.{Interval}
@@ -8,7 +8,7 @@ use Rattle.ncq_plan.specs.declared.expr.Expr.{Expr}
 use Rattle.ncq_plan.specs.declared.expr.Expr.TheVariants.{Scan, EqSel, RangeSel, Join}
 use Rattle.ncq_plan.proofs.ExprCases.{expr_cases}
 use Rattle.ncq_signature.specs.declared.signature.Signature.{Signature}
-use Rattle.ncq_signature.specs.Signatures.{signature_of, AreEqualities, AreRanges, DifferInConstant}
+use Rattle.ncq_signature.specs.Signatures.{signature_of, DifferInConstant}
 use Rattle.ncq_signature.proofs.SignatureCases.{signature_scan, signature_equal, signature_range, signature_join}
 
 -- signatures by the variants of the two expressions

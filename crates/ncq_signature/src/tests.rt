@@ -66,12 +66,7 @@ fn scan(alloc: Global, letter: u8) -> Result<Expr, AllocError> {
     })
 }
 
-fn equal(
-    alloc: Global,
-    input: Expr,
-    slot: usize,
-    constant: Atom,
-) -> Result<Expr, AllocError> {
+fn equal(alloc: Global, input: Expr, slot: usize, constant: Atom) -> Result<Expr, AllocError> {
     Ok(Expr::EqSel {
         input: Own::new(alloc, input)?,
         slot,
@@ -188,7 +183,10 @@ fn a_signature_shows_all_but_the_last_constant(rt: HostRuntime) -> Result<(), Fa
             "p\"1",
             "eq(eq(scan(quotes,Quote(Price=)),0,\"a\\\"\\\\\\n\\t\\r\"),0)",
         ),
-        ("p<>", "range(range(scan(quotes,Quote(Price=)),0,(-,-0.5)),0)"),
+        (
+            "p<>",
+            "range(range(scan(quotes,Quote(Price=)),0,(-,-0.5)),0)",
+        ),
         ("p><", "range(range(scan(quotes,Quote(Price=)),0,[0,-)),0)"),
         (
             "qq+",
@@ -199,10 +197,20 @@ fn a_signature_shows_all_but_the_last_constant(rt: HostRuntime) -> Result<(), Fa
             "join(scan(quotes,Quote(Symbol=,Price=)),scan(companies,Company(Symbol=,Area=)),0=0)",
         ),
         ("rr.", "join(scan(s,R),scan(s,R),)"),
-        ("rn/", "join(scan(s,R),scan(s,A@i@k(B(C=,D=),E!e)!c),1=1;0=12)"),
-        ("p1r.-", "eq(join(eq(scan(quotes,Quote(Price=)),0,100),scan(s,R),),12)"),
+        (
+            "rn/",
+            "join(scan(s,R),scan(s,A@i@k(B(C=,D=),E!e)!c),1=1;0=12)",
+        ),
+        (
+            "p1r.-",
+            "eq(join(eq(scan(quotes,Quote(Price=)),0,100),scan(s,R),),12)",
+        ),
     ] {
-        assert_eq!(rt; text(alloc, letters)?.as_slice(), want.as_bytes(), "{letters}");
+        assert_eq!(rt;
+            text(alloc, letters)?.as_slice(),
+            want.as_bytes(),
+            "{letters}"
+        );
     }
     Ok(())
 }
