@@ -2,7 +2,7 @@
 //!
 //! A lower-case letter is a scan, any other letter stands behind its one or two inputs: `p=` is an
 //! equality over the scan `p`, `pq.` the product of the scans `p` and `q`.
-use crate::{same_signature, signature_of, write_signature};
+use crate::{Signature, signature_of, write_signature};
 use ncq_base::{Atom, Own, bytes_of};
 use ncq_plan::{End, Expr, Interval, Pair, Pairs};
 use ncq_row::{Names, Shape, ShapeContent, ShapeSuffix, Shapes};
@@ -155,17 +155,17 @@ fn expr(alloc: Global, letters: &str) -> Result<Expr, AllocError> {
     }
 }
 
-fn text(alloc: Global, letters: &str) -> Result<Vec<u8>, AllocError> {
-    let mut out = Vec::new(alloc);
-    let signature = signature_of(alloc, &expr(alloc, letters)?)?;
-    write_signature(&signature, &mut out)?;
-    Ok(out)
+/// The signature of the expression of these letters.
+fn signature(alloc: Global, letters: &str) -> Result<Signature, AllocError> {
+    let whole = expr(alloc, letters)?;
+    signature_of(alloc, &whole)
 }
 
-fn share(alloc: Global, one: &str, other: &str) -> Result<bool, AllocError> {
-    let first = signature_of(alloc, &expr(alloc, one)?)?;
-    let second = signature_of(alloc, &expr(alloc, other)?)?;
-    Ok(same_signature(&first, &second))
+fn text(alloc: Global, letters: &str) -> Result<Vec<u8>, AllocError> {
+    let signature = signature(alloc, letters)?;
+    let mut out = Vec::new(alloc);
+    write_signature(&signature, &mut out)?;
+    Ok(out)
 }
 
 #[test]
@@ -211,29 +211,6 @@ fn a_signature_shows_all_but_the_last_constant(rt: HostRuntime) -> Result<(), Fa
             want.as_bytes(),
             "{letters}"
         );
-    }
-    Ok(())
-}
-
-#[test]
-fn the_last_constant_alone_is_open(rt: HostRuntime) -> Result<(), Fail> {
-    let alloc = rt.alloc();
-    for (one, other, want) in [
-        ("p=", "p1", true),
-        ("p<", "p^", true),
-        ("p==", "p=1", true),
-        ("p==", "p1=", false),
-        ("p=", "p<", false),
-        ("p=", "p-", false),
-        ("p=", "q=", false),
-        ("p", "p", true),
-        ("p", "q", false),
-        ("pq.", "pq.", true),
-        ("pq.", "qp.", false),
-        ("pq.", "pq*", false),
-        ("p1q.", "p=q.", false),
-    ] {
-        assert_eq!(rt; share(alloc, one, other)?, want, "{one} {other}");
     }
     Ok(())
 }
