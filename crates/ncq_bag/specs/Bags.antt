@@ -1,5 +1,6 @@
 -- Bags of byte strings, the counts that changes leave, and the difference of two bags.
-use Rattle.std.specs.Prelude.{◌≡◌, ℕ, zero, suc, ℤ, pos, negsuc, neg_ℤ, ◌+ℤ◌, ◌-ℤ◌, Bool, true, false, if◌then◌else◌, List, [], ◌∷◌, ◌++◌, map}
+use Rattle.std.specs.Prelude.{◌≡◌, ℕ, zero, suc, ℤ, pos, negsuc, neg_ℤ, ◌+ℤ◌, ◌-ℤ◌, Bool, true}
+use Rattle.std.specs.Prelude.{false, if◌then◌else◌, List, [], ◌∷◌, ◌++◌, map}
 use Rattle.std.specs.Option.{unwrap_or}
 use Rattle.std.specs.List.{flat_map}
 use Rattle.std.specs.FinMap.{get, insert, empty, entries}
@@ -46,7 +47,8 @@ surplus now before key = pos (count_in key now) -ℤ pos (count_in key before)
 abbrev pub tally : List (List ℕ) → List (List ℕ) → ByBytes ℤ
 tally now before = map_of (map (λ string. (string, surplus now before string)) (now ++ before))
 
--- the difference of two bags: each byte string that stands more often in one than in the other, in rising order, and by how much
+-- the difference of two bags: each byte string that stands more often in one than in the other, in
+-- rising order, and by how much
 unfoldable pub difference : List (List ℕ) → List (List ℕ) → List Difference
 difference now before = differences (tally now before)
 

@@ -12,11 +12,14 @@ pub record Counted : Type 0 where
   pub adds : ℕ
 
 abbrev pub counted_code : Coded Counted
-counted_code = code_by (ByBytes ℤ × ℕ) (coded× (code (coded_list coded_ℕ) coded_ℤ) coded_ℕ) (λ c. (c.counts, c.adds)) (λ p. record { counts = p.0; adds = p.1 }) (λ _. refl)
+counted_code = code_by (ByBytes ℤ × ℕ) (coded× (code (coded_list coded_ℕ) coded_ℤ) coded_ℕ)
+    (λ c. (c.counts, c.adds))
+    (λ p. record { counts = p.0; adds = p.1 }) (λ _. refl)
 
 -- no count is further from 0 than n, which is at most 2^63
 abbrev pub IsWithin : List (List ℕ × ℤ) → ℕ → Type 0
-IsWithin pairs n = (n ≤ 2 ^ 63) × ((key : List ℕ) → IfSome (lookup (bytes_eq key) pairs) (λ count. nat_abs count ≤ n))
+IsWithin pairs n = (n ≤ 2 ^ 63)
+    × ((key : List ℕ) → IfSome (lookup (bytes_eq key) pairs) (λ count. nat_abs count ≤ n))
 
 -- each of the counts is at most 2^63 from 0
 abbrev pub AreWithin : List (List ℕ × ℤ) → Type 0

@@ -1,4 +1,5 @@
-ghost use Rattle.std.specs.Prelude.{◌≡◌, ◌+◌, ◌<◌, ◌^◌, IfOk, OnOk, OnErr, ◌++◌, ◌≤◌, nat_abs, ◌+ℤ◌};
+ghost use Rattle.std.specs.Prelude.{◌≡◌, ◌+◌, ◌<◌, ◌^◌, IfOk, OnOk, OnErr, ◌++◌, ◌≤◌, nat_abs};
+ghost use Rattle.std.specs.Prelude.{◌+ℤ◌};
 ghost use Rattle.ncq_bag.specs.Bags.{added, differences, difference_of, no_counts, signed};
 
 use ncq_base::{Bytes, Sequence};
@@ -68,7 +69,8 @@ impl SignedBag {
         Ok(())
     }
 
-    /// The keys whose count is not 0, rising by bytes, each with the size and the sign of its count.
+    /// The keys whose count is not 0, rising by bytes, each with the size and the sign of its
+    /// count.
     pub fn difference(self, alloc: Global) -> Result<Differences, AllocError>
         ensures { IfOk result (λ d. d ≡ differences self.counts) }
     {

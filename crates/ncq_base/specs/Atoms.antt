@@ -1,5 +1,7 @@
 -- Texts that are numbers, and the atom of a text.
-use Rattle.std.specs.Prelude.{ℕ, ◌+◌, ◌-◌, ◌*◌, ◌^◌, Bool, ◌&&◌, ◌==◌, nat_le, nat_lt, if◌then◌else◌, List, [], ◌∷◌, length, take, drop, ℤ, pos, neg_ℤ, Option, Some, None, option_map}
+use Rattle.std.specs.Prelude.{ℕ, ◌+◌, ◌-◌, ◌*◌, ◌^◌, Bool, ◌&&◌, ◌==◌, nat_le, nat_lt}
+use Rattle.std.specs.Prelude.{if◌then◌else◌, List, [], ◌∷◌, length, take, drop, ℤ, pos, neg_ℤ}
+use Rattle.std.specs.Prelude.{Option, Some, None, option_map}
 use Rattle.std.specs.List.{prefix_len, list_all}
 use Rattle.ncq_base.specs.Numbers.{is_digit, digits_value}
 use Rattle.ncq_base.specs.declared.atom.Atom.{Atom}
@@ -17,7 +19,8 @@ use Rattle.std.specs.Cmp.Lexicographic.{slice_cmp}
 abbrev pub fraction_of : List ℕ → Option ℕ
 fraction_of [] = Some 0
 fraction_of (point ∷ digits) =
-    if (point == 46) && nat_lt 0 (length digits) && nat_le (length digits) 6 && list_all is_digit digits
+    if (point == 46) && nat_lt 0 (length digits) && nat_le (length digits) 6
+    && list_all is_digit digits
     then Some (digits_value digits * 10 ^ (6 - length digits))
     else None
 
@@ -34,7 +37,8 @@ abbrev pub number_of : List ℕ → Option ℤ
 number_of [] = None
 number_of (sign ∷ rest) =
     if sign == 45 then option_map (λ n. neg_ℤ (pos n)) (unsigned_of rest)
-    else (if sign == 43 then option_map pos (unsigned_of rest) else option_map pos (unsigned_of (sign ∷ rest)))
+    else (if sign == 43 then option_map pos (unsigned_of rest)
+    else option_map pos (unsigned_of (sign ∷ rest)))
 
 -- a number where the text is one, and else the text
 abbrev pub atom_of : List ℕ → Atom

@@ -1,5 +1,6 @@
 -- The escapes of texts, values and keys: a backslash before n, t, r or a backslash.
-use Rattle.std.specs.Prelude.{ℕ, Bool, true, false, not, ◌&&◌, ◌==◌, List, [], ◌∷◌, ◌++◌, if◌then◌else◌}
+use Rattle.std.specs.Prelude.{ℕ, Bool, true, false, not, ◌&&◌, ◌==◌, List, [], ◌∷◌, ◌++◌}
+use Rattle.std.specs.Prelude.{if◌then◌else◌}
 use Rattle.std.specs.List.{flat_map}
 
 -- what a backslash and this byte stand for
@@ -16,9 +17,11 @@ abbrev pub unescaped_behind : Bool → List ℕ → List ℕ
 unescaped_behind true [] = 92 ∷ []
 unescaped_behind false [] = []
 unescaped_behind true (b ∷ more) = meant b ++ unescaped_behind false more
-unescaped_behind false (b ∷ more) = if b == 92 then unescaped_behind true more else b ∷ unescaped_behind false more
+unescaped_behind false (b ∷ more) = if b == 92 then unescaped_behind true more
+    else b ∷ unescaped_behind false more
 
--- what a text stands for: a backslash before n, t, r or a backslash is an escape, and else stands for itself
+-- what a text stands for: a backslash before n, t, r or a backslash is an escape, and else stands
+-- for itself
 abbrev pub unescaped : List ℕ → List ℕ
 unescaped = unescaped_behind false
 

@@ -1,6 +1,9 @@
 //! The texts of atoms.
-ghost use Rattle.std.specs.Prelude.{◌≡◌, ◌+◌, ◌*◌, ◌/◌, ◌++◌, ◌<◌, length, take, OnOk, OnErr, decimal};
-ghost use Rattle.ncq_base.specs.AtomTexts.{atom_text, number_text, size_text, sign_text, fraction_text, fraction_digits, quoted_text, quoted_byte};
+ghost use Rattle.std.specs.Prelude.{◌≡◌, ◌+◌, ◌*◌, ◌/◌, ◌++◌, ◌<◌, length, take, OnOk, OnErr};
+ghost use Rattle.std.specs.Prelude.{decimal};
+ghost use Rattle.ncq_base.specs.AtomTexts.{atom_text, number_text, size_text, sign_text};
+ghost use Rattle.ncq_base.specs.AtomTexts.{fraction_text, fraction_digits, quoted_text};
+ghost use Rattle.ncq_base.specs.AtomTexts.{quoted_byte};
 ghost use Rattle.std.specs.List.{flat_map};
 
 use crate::atom::Atom;
@@ -8,8 +11,8 @@ use crate::escape::write_escaped;
 use itoa::Buffer;
 use std::alloc::AllocError;
 
-/// Appends the text of an atom: a number in decimal without needless zeros, a text in quotation marks with its escapes.
-/// After want of memory `out` is as before.
+/// Appends the text of an atom: a number in decimal without needless zeros, a text in quotation
+/// marks with its escapes. After want of memory `out` is as before.
 pub fn write_atom(atom: &Atom, out: &mut Vec<u8>) -> Result<(), AllocError>
     ensures ok { OnOk result (out.new.items ≡ out.old.items ++ atom_text atom.now) }
     ensures err { OnErr result (out.new.items ≡ out.old.items) }
@@ -71,8 +74,8 @@ fn push_whole(n: u128, out: &mut Vec<u8>) -> Result<(), AllocError>
     out.extend_from_slice(buffer.format(n).as_bytes())
 }
 
-/// Appends a point and the digits of a fraction of 1, in millionths, without trailing zeros, and nothing for 0; what was
-/// there stays in front.
+/// Appends a point and the digits of a fraction of 1, in millionths, without trailing zeros, and
+/// nothing for 0; what was there stays in front.
 fn push_fraction(fraction: u128, out: &mut Vec<u8>) -> Result<(), AllocError>
     requires { fraction < 1000000 }
     ensures ok { OnOk result (out.new.items ≡ out.old.items ++ fraction_text fraction) }
@@ -85,7 +88,8 @@ fn push_fraction(fraction: u128, out: &mut Vec<u8>) -> Result<(), AllocError>
     push_digits(6, fraction, out)
 }
 
-/// Appends at most so many digits of a fraction, as long as something is left; what was there stays in front.
+/// Appends at most so many digits of a fraction, as long as something is left; what was there stays
+/// in front.
 #[tactic(auto, using(crate::proofs::FractionLaws::digits_are))]
 fn push_digits(most: usize, fraction: u128, out: &mut Vec<u8>) -> Result<(), AllocError>
     requires { fraction < 1000000 }

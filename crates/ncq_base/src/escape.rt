@@ -1,12 +1,15 @@
 //! The escapes of texts, values and keys.
-ghost use Rattle.std.specs.Prelude.{◌≡◌, ◌++◌, ◌≤◌, List, ℕ, length, take, IfOk, OnOk, OnErr, vec_len};
-ghost use Rattle.ncq_base.specs.Escapes.{meant, unescaped, escaped, escaped_byte, is_literal, is_plain};
+ghost use Rattle.std.specs.Prelude.{◌≡◌, ◌++◌, ◌≤◌, List, ℕ, length, take, IfOk, OnOk, OnErr};
+ghost use Rattle.std.specs.Prelude.{vec_len};
+ghost use Rattle.ncq_base.specs.Escapes.{meant, unescaped, escaped, escaped_byte, is_literal};
+ghost use Rattle.ncq_base.specs.Escapes.{is_plain};
 ghost use Rattle.std.specs.List.{list_all};
 
 use crate::bytes::{Bytes, bytes_of};
 use std::alloc::{AllocError, Global};
 
-/// The bytes that a text stands for: `\n` is LF, `\t` tab, `\r` CR and `\\` a backslash; any other backslash stands for itself.
+/// The bytes that a text stands for: `\n` is LF, `\t` tab, `\r` CR and `\\` a backslash; any other
+/// backslash stands for itself.
 #[tactic(auto, using(crate::proofs::EscapeLaws::literal_unescaped))]
 pub fn unescape(alloc: Global, text: &[u8]) -> Result<Bytes, AllocError>
     ensures { IfOk result (λ b. b ≡ unescaped text.now) }
@@ -39,7 +42,8 @@ fn are_literal(text: &[u8]) -> bool
     text.iter().all(|b| *b != b'\\')
 }
 
-/// Appends the text, with LF, tab, CR and backslash escaped. After want of memory `out` is as before.
+/// Appends the text, with LF, tab, CR and backslash escaped. After want of memory `out` is as
+/// before.
 pub fn write_escaped(text: &[u8], out: &mut Vec<u8>) -> Result<(), AllocError>
     ensures ok { OnOk result (out.new.items ≡ out.old.items ++ escaped text.now) }
     ensures err { OnErr result (out.new.items ≡ out.old.items) }

@@ -1,7 +1,8 @@
 //! Names, and the bytes that they are made of.
 ghost use Rattle.std.specs.Prelude.{◌≡◌};
 ghost use Rattle.std.specs.List.{list_all};
-ghost use Rattle.ncq_base.specs.Names.{is_space, is_pyx_name_byte, is_pyx_name, is_variable_start, is_name_start, is_name_byte, is_name};
+ghost use Rattle.ncq_base.specs.Names.{is_space, is_pyx_name_byte, is_pyx_name, is_variable_start};
+ghost use Rattle.ncq_base.specs.Names.{is_name_start, is_name_byte, is_name};
 
 /// Whether the byte is white space: space, tab, line feed or carriage return.
 pub fn is_space(byte: u8) -> bool
@@ -10,14 +11,16 @@ pub fn is_space(byte: u8) -> bool
     byte == b' ' || byte == b'\t' || byte == b'\n' || byte == b'\r'
 }
 
-/// Whether the text can be the name of an element or an attribute: not empty, with no white space and no backslash.
+/// Whether the text can be the name of an element or an attribute: not empty, with no white space
+/// and no backslash.
 pub fn is_pyx_name(text: &[u8]) -> bool
     ensures { result ≡ is_pyx_name text.now }
 {
     !text.is_empty() && are_pyx_name_bytes(text)
 }
 
-/// Whether the text is a name in a statement: an ASCII letter, `_` or a byte from 128 on; then these, digits, `-` and `:`.
+/// Whether the text is a name in a statement: an ASCII letter, `_` or a byte from 128 on; then
+/// these, digits, `-` and `:`.
 pub fn is_name(text: &[u8]) -> bool
     ensures { result ≡ is_name text.now }
 {

@@ -1,4 +1,5 @@
-//! Texts that are numbers: an optional sign, 1 to 15 digits, and optionally a point and 1 to 6 digits.
+//! Texts that are numbers: an optional sign, 1 to 15 digits, and optionally a point and 1 to 6
+//! digits.
 ghost use Rattle.std.specs.Prelude.{◌≡◌, ◌≤◌, ◌<◌, ◌^◌, length, IfOk, IfSome, IsTrue};
 ghost use Rattle.std.specs.List.{list_all, prefix_len};
 ghost use Rattle.ncq_base.specs.Atoms.{fraction_of, unsigned_of, number_of, atom_of, same_atom};

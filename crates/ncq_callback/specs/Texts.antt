@@ -5,7 +5,8 @@ use Rattle.ncq_bag.specs.declared.bag.Difference.{Difference}
 
 -- the line of a difference, then the canonical lines of its forest
 abbrev pub entry_text : Difference → List ℕ
-entry_text entry = (if entry.gain then codes "gain " else codes "lose ") ++ decimal entry.count ++ codes "\n" ++ entry.bytes
+entry_text entry = (if entry.gain then codes "gain " else codes "lose ") ++ decimal entry.count
+    ++ codes "\n" ++ entry.bytes
 
 -- the entries of a notice, one after the other
 abbrev pub entries_text : List Difference → List ℕ

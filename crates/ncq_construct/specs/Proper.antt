@@ -14,8 +14,8 @@ use Rattle.ncq_plan.specs.declared.template.SlotTemplate.TheOpen.SlotTemplate-F.
 use Rattle.ncq_plan.specs.declared.template.SlotTemplate.TheFolds.{para-SlotTemplate}
 use Rattle.ncq_plan.specs.Templates.{attribute_of}
 
--- The attributes' names are PYX names, and none stands twice. Values do not matter, so it is said of
--- what the attributes are for a row without values.
+-- The attributes' names are PYX names, and none stands twice. Values do not matter, so it is said
+-- of what the attributes are for a row without values.
 abbrev pub attributes_are_named : List SlotAttribute → Bool
 attributes_are_named attributes = are_good [] (map (attribute_of []) attributes)
 

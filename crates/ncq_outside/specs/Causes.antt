@@ -1,5 +1,6 @@
 -- What a read and a write tell: the bytes that they move, and when their counts rise.
-use Rattle.std.specs.Prelude.{◌≡◌, ◌-◌, ◌<◌, ◌≤◌, ◌+◌, ◌^◌, ℕ, min, List, length, Result, IfOk, IfSome, OnErr, MatchResult, Option}
+use Rattle.std.specs.Prelude.{◌≡◌, ◌-◌, ◌<◌, ◌≤◌, ◌+◌, ◌^◌, ℕ, min, List, length, Result, IfOk}
+use Rattle.std.specs.Prelude.{IfSome, OnErr, MatchResult, Option}
 
 -- a count with n more, which stands once it has reached 2^64 - 1
 abbrev pub raised : ℕ → ℕ → ℕ

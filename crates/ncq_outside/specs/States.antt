@@ -6,7 +6,8 @@ abbrev pub none_fails : List ℕ → Bool
 none_fails [] = true
 none_fails (call ∷ calls) = false
 
--- a source in memory: the bytes left, the most that a call gives, the numbers of the failing calls, and three counts
+-- a source in memory: the bytes left, the most that a call gives, the numbers of the failing calls,
+-- and three counts
 pub record SourceState : Type 0 where
   pub left : List ℕ
   pub piece : ℕ
@@ -15,7 +16,8 @@ pub record SourceState : Type 0 where
   pub faults : ℕ
   pub given : ℕ
 
--- a sink in memory: the bytes held, the room for them, the numbers of the failing calls, and two counts
+-- a sink in memory: the bytes held, the room for them, the numbers of the failing calls, and two
+-- counts
 pub record SinkState : Type 0 where
   pub held : List ℕ
   pub room : ℕ

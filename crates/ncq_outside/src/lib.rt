@@ -1,8 +1,9 @@
-//! Where a script comes from and where the output goes: a `Source` and a `Sink`, in memory and over std's `Read` and
+//! Where a script comes from and where the output goes: a `Source` and a `Sink`, in memory and over
+//! std's `Read` and
 //! `Write`.
-//! Bytes, a reader or a writer come in; calls that move some bytes at a time go out, each of which may fail.
-//! A call fails only where its count of faults rose. Counts never fall, and stand at 2^64 - 1. Where the bytes left or held
-//! are told, a failed call leaves them as they were.
+//! Bytes, a reader or a writer come in; calls that move some bytes at a time go out, each of which
+//! may fail. A call fails only where its count of faults rose. Counts never fall, and stand at 2^64
+//! - 1. Where the bytes left or held are told, a failed call leaves them as they were.
 #![tactic(auto)]
 
 mod memory;

@@ -1,8 +1,10 @@
 //! A source and a sink in memory. Each fails at the calls that it was told to fail at.
-ghost use Rattle.std.specs.Prelude.{◌<◌, ◌≤◌, ◌≡◌, ◌⊎◌, ◌-◌, ◌↔◌, [], Some, true, IsTrue, IsOk, IsErr, IfOk, OnErr, Contains, length, min};
+ghost use Rattle.std.specs.Prelude.{◌<◌, ◌≤◌, ◌≡◌, ◌⊎◌, ◌-◌, ◌↔◌, [], Some, true, IsTrue, IsOk};
+ghost use Rattle.std.specs.Prelude.{IsErr, IfOk, OnErr, Contains, length, min};
 ghost use Rattle.std.specs.Io.{ReadsAtMost};
 ghost use Rattle.std.specs.Io.KnownBytes.{ReadConsumes, WriteAppends};
-ghost use Rattle.ncq_outside.specs.Causes.{HasCause, Counts, CountsFault, IsFull, TakesSome, one_more};
+ghost use Rattle.ncq_outside.specs.Causes.{HasCause, Counts, CountsFault, IsFull, TakesSome};
+ghost use Rattle.ncq_outside.specs.Causes.{one_more};
 ghost use Rattle.ncq_outside.specs.States.{none_fails, sure_room};
 
 use crate::piece::give;
@@ -48,7 +50,8 @@ impl Model for MemorySource {
       given = s.given;
     } };
 
-    ghost invariant = { λ s. (s.at ≤ length s.bytes) × (0 < s.piece) × (s.failing ≡ [] → s.faults ≡ 0) };
+    ghost invariant = { λ s. (s.at ≤ length s.bytes) × (0 < s.piece)
+        × (s.failing ≡ [] → s.faults ≡ 0) };
 }
 
 /// A source of these bytes, which gives at most `piece` of them, 1 or more, in a call.
@@ -177,10 +180,12 @@ impl MemorySink {
         self.held.as_slice()
     }
 
-    /// How many calls failed: some, where no call was told to fail, only once it holds as many bytes as it has room for.
+    /// How many calls failed: some, where no call was told to fail, only once it holds as many
+    /// bytes as it has room for.
     pub fn faults(&self) -> u64
         ensures count { result ≡ self.now.faults }
-        ensures full { self.now.failing ≡ [] → 0 < self.now.faults → self.now.room ≤ length self.now.held }
+        ensures full { self.now.failing ≡ [] → 0 < self.now.faults
+            → self.now.room ≤ length self.now.held }
     {
         self.faults
     }
@@ -201,8 +206,10 @@ impl Sink for MemorySink {
         ensures stays { sure_room self.new ≡ sure_room self.old }
         ensures full { OnErr result (IsFull (sure_room self.old) (Some self.new.held)) }
         ensures fails { IsErr result
-            ↔ (Contains self.old.failing (one_more self.old.calls) ⊎ (self.old.room ≤ length self.old.held)) }
-        ensures takes { IfOk result (λ n. n ≡ min (length buf.now) (self.old.room - length self.old.held)) }
+            ↔ (Contains self.old.failing (one_more self.old.calls)
+            ⊎ (self.old.room ≤ length self.old.held)) }
+        ensures takes { IfOk result (λ n.
+            n ≡ min (length buf.now) (self.old.room - length self.old.held)) }
         ensures faults { CountsFault self.old.faults self.new.faults result }
         ensures calls { self.new.calls ≡ one_more self.old.calls }
         ensures keeps { (self.new.room ≡ self.old.room) × (self.new.failing ≡ self.old.failing) }

@@ -9,8 +9,8 @@ fn rest_of(from: &[u8], at: usize) -> &[u8]
     &from[at..]
 }
 
-/// Copies the next bytes of `from`, those from `at` on, to the front of `to`. It gives their number:
-/// at most `most`, and 0 only where `from` ends at `at`.
+/// Copies the next bytes of `from`, those from `at` on, to the front of `to`. It gives their
+/// number: at most `most`, and 0 only where `from` ends at `at`.
 pub(crate) fn give(from: &[u8], at: usize, to: &mut [u8], most: usize) -> usize
     requires within { at ≤ length from.now }
     requires room { 0 < length to.old }

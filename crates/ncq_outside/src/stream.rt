@@ -49,7 +49,8 @@ impl<R: Read> Source for StdSource<R> {
     fn read(&mut self, buf: &mut [u8]) -> Result<usize, Failed>
         requires { 0 < length buf.old }
         ensures bound { ReadsAtMost result buf.new }
-        ensures bytes { ReadConsumes (R.remaining self.old.reader) (R.remaining self.new.reader) result buf.new }
+        ensures bytes { ReadConsumes (R.remaining self.old.reader)
+            (R.remaining self.new.reader) result buf.new }
         ensures given { Counts self.old.given self.new.given result }
         ensures cause { HasCause self.old.faults self.new.faults result }
         ensures faults { CountsFault self.old.faults self.new.faults result }
@@ -67,9 +68,10 @@ impl<R: Read> Source for StdSource<R> {
     }
 }
 
-/// A sink over any writer, which is flushed after each write. A write that takes nothing is a fault.
-/// It tells no bytes, since a flush may fail after the writer took some.
-/// That it flushes is tested, and no clause says it: a clause knows what the writer took, and not where that went.
+/// A sink over any writer, which is flushed after each write. A write that takes nothing is a
+/// fault. It tells no bytes, since a flush may fail after the writer took some.
+/// That it flushes is tested, and no clause says it: a clause knows what the writer took, and not
+/// where that went.
 #[derive(Drop)]
 pub struct StdSink<W> {
     inner: W,

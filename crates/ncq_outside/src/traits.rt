@@ -5,7 +5,8 @@ ghost use Rattle.std.specs.Io.{ReadsAtMost};
 ghost use Rattle.std.specs.Io.KnownBytes.{ReadConsumes, WriteAppends};
 ghost use Rattle.ncq_outside.specs.Causes.{HasCause, Counts, TakesSome, IsFull};
 
-/// A read or a write failed, and the count of faults rose. No byte was moved, so far as the bytes are told.
+/// A read or a write failed, and the count of faults rose. No byte was moved, so far as the bytes
+/// are told.
 #[derive(Clone, Copy, Debug, PartialEq, Eq)]
 pub struct Failed;
 
@@ -23,9 +24,9 @@ pub trait Source {
     /// Whether it never fails. This never changes.
     ghost is_sure: { Self → Bool };
 
-    /// Puts the next bytes at the front of `buf`, which is not empty, and gives their number, at most `buf.len()`.
-    /// It is 0 only at the end of the bytes. `Failed` comes only where the count of faults rose; the bytes left are then
-    /// as they were.
+    /// Puts the next bytes at the front of `buf`, which is not empty, and gives their number, at
+    /// most `buf.len()`. It is 0 only at the end of the bytes. `Failed` comes only where the count
+    /// of faults rose; the bytes left are then as they were.
     fn read(&mut self, buf: &mut [u8]) -> Result<usize, Failed>
         requires { 0 < length buf.old }
         ensures bound { ReadsAtMost result buf.new }
@@ -47,9 +48,10 @@ pub trait Sink {
     /// How many bytes it is sure to hold; 0 where nothing is sure. This never changes.
     ghost sure: { Self → ℕ };
 
-    /// Takes bytes from the front of `buf`, which is not empty, and gives their number, 1 to `buf.len()`.
-    /// `Failed` comes only where the count of faults rose. Where the bytes held are told, they are then as they were, and
-    /// no fewer than it is sure to hold.
+    /// Takes bytes from the front of `buf`, which is not empty, and gives their number, 1 to
+    /// `buf.len()`.
+    /// `Failed` comes only where the count of faults rose. Where the bytes held are told, they are
+    /// then as they were, and no fewer than it is sure to hold.
     fn write(&mut self, buf: &[u8]) -> Result<usize, Failed>
         requires { 0 < length buf.now }
         ensures bound { TakesSome result buf.now }

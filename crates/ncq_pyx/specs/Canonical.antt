@@ -20,9 +20,11 @@ attribute_line a = 65 ∷ (a.name ++ 32 ∷ escaped a.value)
 abbrev pub text_lines : List ℕ → List (List ℕ)
 text_lines text = (45 ∷ escaped text) ∷ []
 
--- the opening line, the attributes, the lines of the children, which are given, and the closing line
+-- the opening line, the attributes, the lines of the children, which are given, and the closing
+-- line
 abbrev pub element_lines : List ℕ → List Attribute → List (Node × List (List ℕ)) → List (List ℕ)
-element_lines name attributes below = (40 ∷ name) ∷ (map attribute_line attributes ++ (flat_map (λ p. p.1) below ++ (41 ∷ name) ∷ []))
+element_lines name attributes below = (40 ∷ name)
+    ∷ (map attribute_line attributes ++ (flat_map (λ p. p.1) below ++ (41 ∷ name) ∷ []))
 
 -- the lines of a node
 abbrev pub node_lines : Node → List (List ℕ)
@@ -39,7 +41,8 @@ pyx forest = bytes_of_lines (canonical forest)
 -- attribute names that are PYX names, and none twice
 abbrev pub are_good : List Attribute → List Attribute → Bool
 are_good given [] = true
-are_good given (a ∷ more) = is_pyx_name a.name && not (has_name given a.name) && are_good (given ++ a ∷ []) more
+are_good given (a ∷ more) = is_pyx_name a.name && not (has_name given a.name)
+    && are_good (given ++ a ∷ []) more
 
 -- of a text
 abbrev pub text_is_good : List ℕ → Bool
@@ -47,7 +50,8 @@ text_is_good text = true
 
 -- of an element whose children are given, each with whether it is good
 abbrev pub element_is_good : List ℕ → List Attribute → List (Node × Bool) → Bool
-element_is_good name attributes below = is_pyx_name name && are_good [] attributes && list_all (λ p. p.1) below
+element_is_good name attributes below = is_pyx_name name && are_good [] attributes
+    && list_all (λ p. p.1) below
 
 -- all names are PYX names, and no element has two attributes of one name
 abbrev pub is_good : Node → Bool
@@ -80,7 +84,8 @@ text_is_named text = true
 
 -- of an element whose children are given, each with whether its names are PYX names
 abbrev pub element_is_named : List ℕ → List Attribute → List (Node × Bool) → Bool
-element_is_named name attributes below = is_pyx_name name && list_all has_good_name attributes && list_all (λ p. p.1) below
+element_is_named name attributes below = is_pyx_name name && list_all has_good_name attributes
+    && list_all (λ p. p.1) below
 
 -- all names are PYX names
 abbrev pub is_named : Node → Bool

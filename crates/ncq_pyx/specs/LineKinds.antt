@@ -1,5 +1,6 @@
 -- What one line of a block is.
-use Rattle.std.specs.Prelude.{ℕ, Bool, ◌&&◌, ◌||◌, not, ◌==◌, nat_eq, List, [], ◌∷◌, ◌+◌, take, drop, Option, Some, None, if◌then◌else◌}
+use Rattle.std.specs.Prelude.{ℕ, Bool, ◌&&◌, ◌||◌, not, ◌==◌, nat_eq, List, [], ◌∷◌, ◌+◌, take}
+use Rattle.std.specs.Prelude.{drop, Option, Some, None, if◌then◌else◌}
 use Rattle.std.specs.List.{list_all, prefix_len}
 use Rattle.std.specs.BTreeSet.{BTreeSet, contains}
 use Rattle.std.specs.Cmp.Lexicographic.{slice_cmp}
@@ -37,7 +38,8 @@ abbrev pub give_of : Option (List Attribute) → List ℕ → Option Turn
 give_of None text = None
 give_of (Some given) text =
     if is_pyx_name (name_part text) && not (has_name given (name_part text))
-    then Some (Give (record { name = name_part text; value = unescaped (value_part text) })) else None
+    then Some (Give (record { name = name_part text; value = unescaped (value_part text) }))
+    else None
 
 -- character data, inside an element or, if it is white space, outside
 abbrev pub say_of : Option (List ℕ) → List ℕ → Option Turn
@@ -58,8 +60,8 @@ erase_of (Some name) text = None
 abbrev pub is_skipped : ℕ → Bool
 is_skipped b = (b == 63) || (b == 67) || (b == 68) || (b == 78) || (b == 85)
 
--- what a line is, by its first byte, behind the innermost open tag with this name, if there is one, and with these
--- attributes, if more may stand here
+-- what a line is, by its first byte, behind the innermost open tag with this name, if there is one,
+-- and with these attributes, if more may stand here
 abbrev pub turn_at : Option (List ℕ) → Option (List Attribute) → List ℕ → Option Turn
 turn_at innermost given [] = Some Nothing
 turn_at innermost given (b ∷ text) =

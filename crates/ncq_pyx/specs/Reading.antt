@@ -1,5 +1,6 @@
 -- What a reader holds, against what the lines spell. Only the crate's private clauses cite it.
-use Rattle.std.specs.Prelude.{◌≡◌, ◌≤◌, ◌<◌, ◌+◌, ℕ, Bool, true, false, List, [], ◌∷◌, ◌++◌, map, reverse, Option, Some, None, Result, Ok, Err, vec_len}
+use Rattle.std.specs.Prelude.{◌≡◌, ◌≤◌, ◌<◌, ◌+◌, ℕ, Bool, true, false, List, [], ◌∷◌, ◌++◌, map}
+use Rattle.std.specs.Prelude.{reverse, Option, Some, None, Result, Ok, Err, vec_len}
 use Rattle.std.specs.Option.{option_map}
 use Rattle.ncq_tree.specs.declared.model.Attribute.{Attribute}
 use Rattle.ncq_tree.specs.declared.model.Element.{Element}
@@ -40,7 +41,9 @@ behind frame (content ∷ contents) = record {
 -- all items, from what was read and what is to come
 abbrev pub filled : List OpenElement → List Item → Rest → List Item
 filled [] items rest = items ++ rest.items
-filled (frame ∷ frames) items rest = filled frames items (begun (names_of frames) frame.name (record { contents = behind frame rest.contents; items = rest.items }))
+filled (frame ∷ frames) items rest
+    = filled frames items (begun (names_of frames) frame.name
+    (record { contents = behind frame rest.contents; items = rest.items }))
 
 abbrev pub place_of : Reader → Place
 place_of reader = place_at (frames_of reader) reader.in_tag
@@ -66,21 +69,27 @@ pub record Takes (old new : Reader) (turn : Turn) : Type 0 where
 pub record Places (old new : Reader) (element : Element) : Type 0 where
   pub in_tag : new.in_tag ≡ old.in_tag
   pub names : names_of (frames_of new) ≡ names_of (frames_of old)
-  pub whole : (rest : Rest) → whole_of new rest ≡ whole_of old (begun (names_of (frames_of old)) element.name (record {
-    contents = record { attributes = element.attributes; nodes = element.children } ∷ rest.contents;
-    items = rest.items;
-  }))
+  pub whole : (rest : Rest) → whole_of new rest
+      ≡ whole_of old (begun (names_of (frames_of old)) element.name (record {
+        contents = record { attributes = element.attributes; nodes = element.children } ∷ rest.contents;
+        items = rest.items;
+      }))
 
 -- the reader took the line
 abbrev pub TakesLine : ℕ → Reader → Reader → List ℕ → Type 0
 TakesLine limit old new line = (bound : ℕ) → limit ≤ bound → (lines : List (List ℕ)) →
-    option_map (whole_of old) (spell bound (line ∷ lines) (place_of old)) ≡ option_map (whole_of new) (spell bound lines (place_of new))
+    option_map (whole_of old) (spell bound (line ∷ lines) (place_of old))
+    ≡ option_map (whole_of new) (spell bound lines (place_of new))
 
 -- why the reader took no line
 abbrev pub Refuses : ℕ → Reader → List ℕ → Stop → Type 0
-Refuses limit old line Fault = (bound : ℕ) (lines : List (List ℕ)) → spell bound (line ∷ lines) (place_of old) ≡ None
-Refuses limit old line TooDeep = ((lines : List (List ℕ)) → spell limit (line ∷ lines) (place_of old) ≡ None)
-    × ((bound : ℕ) → limit < bound → (lines : List (List ℕ)) × (rest : Rest) × (spell bound (line ∷ lines) (place_of old) ≡ Some rest))
+Refuses limit old line Fault = (bound : ℕ) (lines : List (List ℕ))
+    → spell bound (line ∷ lines) (place_of old) ≡ None
+Refuses limit old line TooDeep = ((lines : List (List ℕ))
+    → spell limit (line ∷ lines) (place_of old) ≡ None)
+    × ((bound : ℕ) → limit < bound
+    → (lines : List (List ℕ)) × (rest : Rest)
+    × (spell bound (line ∷ lines) (place_of old) ≡ Some rest))
 Refuses limit old line OutOfMemory = Unit {0}
 
 abbrev pub Answers : ℕ → Reader → Reader → List ℕ → Result Unit Stop → Type 0
@@ -101,4 +110,5 @@ Ends reader count (Err why) = (why ≡ errors.BadLine (count + 1)) × (0 < vec_l
 -- the reader stands behind these lines
 abbrev pub Stands : ℕ → List (List ℕ) → Reader → Type 0
 Stands limit done reader = (bound : ℕ) → limit ≤ bound → (lines : List (List ℕ)) →
-    spelled bound (done ++ lines) ≡ option_map (whole_of reader) (spell bound lines (place_of reader))
+    spelled bound (done ++ lines) ≡ option_map (whole_of reader)
+    (spell bound lines (place_of reader))

@@ -1,5 +1,6 @@
 -- What the lines of a block spell, and where its first fault is.
-use Rattle.std.specs.Prelude.{◌≡◌, ◌+◌, ◌<◌, ◌≤◌, ℕ, Bool, true, nat_lt, List, [], ◌∷◌, ◌++◌, length, take, Option, Some, None, Result, Ok, Err, ◌⊎◌, if◌then◌else◌}
+use Rattle.std.specs.Prelude.{◌≡◌, ◌+◌, ◌<◌, ◌≤◌, ℕ, Bool, true, nat_lt, List, [], ◌∷◌, ◌++◌}
+use Rattle.std.specs.Prelude.{length, take, Option, Some, None, Result, Ok, Err, ◌⊎◌, if◌then◌else◌}
 use Rattle.std.specs.Option.{option_map}
 use Rattle.ncq_tree.specs.Normal.{whole_normal}
 use Rattle.ncq_tree.specs.declared.model.Attribute.{Attribute}
@@ -14,8 +15,8 @@ use Rattle.ncq_pyx.specs.declared.error.PyxError.{PyxError}
 use Rattle.ncq_pyx.specs.declared.error.PyxError.TheVariants.{BadLine, TooDeep, OutOfMemory}
 use Rattle.ncq_pyx.specs.LineKinds.{turn_at}
 
--- where a line stands: the names of the open elements, the innermost first, and the attributes of the innermost so far,
--- if more may stand here
+-- where a line stands: the names of the open elements, the innermost first, and the attributes of
+-- the innermost so far, if more may stand here
 pub record Place : Type 0 where
   pub open_names : List (List ℕ)
   pub given : Option (List Attribute)
@@ -56,7 +57,10 @@ one_more (Some given) attribute = Some (given ++ attribute ∷ [])
 abbrev pub moved : Turn → Place → Place
 moved Nothing place = place
 moved (Begin name) place = record { open_names = name ∷ place.open_names; given = Some [] }
-moved (Give attribute) place = record { open_names = place.open_names; given = one_more place.given attribute }
+moved (Give attribute) place = record {
+  open_names = place.open_names;
+  given = one_more place.given attribute;
+}
 moved (Say text) place = record { open_names = place.open_names; given = None }
 moved Finish place = record { open_names = outer place.open_names; given = None }
 moved (Erase key) place = place
@@ -82,12 +86,14 @@ nothing = record { contents = []; items = [] }
 -- the attribute comes first in the innermost element
 abbrev pub with_attribute : Attribute → List Content → List Content
 with_attribute attribute [] = []
-with_attribute attribute (content ∷ contents) = record { attributes = attribute ∷ content.attributes; nodes = content.nodes } ∷ contents
+with_attribute attribute (content ∷ contents)
+    = record { attributes = attribute ∷ content.attributes; nodes = content.nodes } ∷ contents
 
 -- the node comes first in the innermost element
 abbrev pub with_node : Node → List Content → List Content
 with_node node [] = []
-with_node node (content ∷ contents) = record { attributes = content.attributes; nodes = node ∷ content.nodes } ∷ contents
+with_node node (content ∷ contents)
+    = record { attributes = content.attributes; nodes = node ∷ content.nodes } ∷ contents
 
 -- what is to come in the innermost element
 abbrev pub first_content : List Content → Content
@@ -101,20 +107,26 @@ other_contents (content ∷ contents) = contents
 
 -- the element with this name and content
 abbrev pub element_of : List ℕ → Content → Element
-element_of name content = record { name = name; attributes = content.attributes; children = content.nodes }
+element_of name content = record {
+  name = name;
+  attributes = content.attributes;
+  children = content.nodes;
+}
 
 -- a put of an element in normal form
 abbrev pub put : Element → Item
 put element = Put (whole_normal element)
 
--- behind an opening line with these names open round it: what is to come in the innermost element is the element's
+-- behind an opening line with these names open round it: what is to come in the innermost element
+-- is the element's
 abbrev pub begun : List (List ℕ) → List ℕ → Rest → Rest
 begun [] name rest = record {
   contents = [];
   items = put (element_of name (first_content rest.contents)) ∷ rest.items;
 }
 begun (outer ∷ names) name rest = record {
-  contents = with_node (element_node (element_of name (first_content rest.contents))) (other_contents rest.contents);
+  contents = with_node (element_node (element_of name (first_content rest.contents)))
+      (other_contents rest.contents);
   items = rest.items;
 }
 
@@ -122,8 +134,12 @@ begun (outer ∷ names) name rest = record {
 abbrev pub told : Turn → Place → Rest → Rest
 told Nothing place rest = rest
 told (Begin name) place rest = begun place.open_names name rest
-told (Give attribute) place rest = record { contents = with_attribute attribute rest.contents; items = rest.items }
-told (Say text) place rest = record { contents = with_node (Text text) rest.contents; items = rest.items }
+told (Give attribute) place rest
+    = record { contents = with_attribute attribute rest.contents; items = rest.items }
+told (Say text) place rest = record {
+  contents = with_node (Text text) rest.contents;
+  items = rest.items;
+}
 told Finish place rest = record { contents = no_content ∷ rest.contents; items = rest.items }
 told (Erase key) place rest = record { contents = rest.contents; items = Remove key ∷ rest.items }
 
@@ -135,12 +151,15 @@ spell_end (name ∷ names) = None
 -- a turn that is none, or opens too deep an element, ends it
 abbrev pub spell_turn : ℕ → (Place → Option Rest) → Place → Option Turn → Option Rest
 spell_turn limit more place None = None
-spell_turn limit more place (Some found) = if fits limit (length place.open_names) found then option_map (told found place) (more (moved found place)) else None
+spell_turn limit more place (Some found)
+    = if fits limit (length place.open_names) found
+    then option_map (told found place) (more (moved found place)) else None
 
 -- what the lines spell from this place on, with at most so many elements open
 abbrev pub spell : ℕ → List (List ℕ) → Place → Option Rest
 spell limit [] place = spell_end place.open_names
-spell limit (line ∷ lines) place = spell_turn limit (λ p. spell limit lines p) place (turn place line)
+spell limit (line ∷ lines) place
+    = spell_turn limit (λ p. spell limit lines p) place (turn place line)
 
 -- the items that the lines spell
 abbrev pub spelled : ℕ → List (List ℕ) → Option (List Item)
@@ -158,12 +177,14 @@ IsBlock limit lines = (items : List Item) × Spells limit lines items
 abbrev pub CanGoOn : ℕ → List (List ℕ) → Type 0
 CanGoOn limit lines = (more : List (List ℕ)) × IsBlock limit (lines ++ more)
 
--- no continuation of the lines up to this one is a block, but some continuation of those before it; or the lines end
--- inside an element, and this is their number plus 1
+-- no continuation of the lines up to this one is a block, but some continuation of those before it;
+-- or the lines end inside an element, and this is their number plus 1
 abbrev pub EndsAt : ℕ → List (List ℕ) → ℕ → Type 0
-EndsAt limit lines k = ((k < length lines) × ¬ CanGoOn limit (take (k + 1) lines)) ⊎ ((k ≡ length lines) × ¬ IsBlock limit lines)
+EndsAt limit lines k = ((k < length lines) × ¬ CanGoOn limit (take (k + 1) lines))
+    ⊎ ((k ≡ length lines) × ¬ IsBlock limit lines)
 
--- the first fault is at line n, counted from 1: the lines before it can go on to a block, and not with it
+-- the first fault is at line n, counted from 1: the lines before it can go on to a block, and not
+-- with it
 pub record IsFault (limit : ℕ) (lines : List (List ℕ)) (n : ℕ) : Type 0 where
   pub before : ℕ
   pub next : n ≡ before + 1

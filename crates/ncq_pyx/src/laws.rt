@@ -8,7 +8,8 @@ ghost use Rattle.ncq_pyx.specs.declared.item.Item.{Item};
 ghost use Rattle.ncq_pyx.specs.Spells.{Spells, put, Reads, IsAnswer, Gives};
 ghost use Rattle.ncq_pyx.specs.Faults.{block_of};
 ghost use Rattle.ncq_pyx.specs.declared.error.PyxError.{PyxError};
-ghost use Rattle.ncq_pyx.specs.Canonical.{node_lines, canonical, pyx, is_good, is_named, is_proper, item_is_proper, depth};
+ghost use Rattle.ncq_pyx.specs.Canonical.{node_lines, canonical, pyx, is_good, is_named, is_proper};
+ghost use Rattle.ncq_pyx.specs.Canonical.{item_is_proper, depth};
 ghost use Rattle.ncq_tree.specs.Normal.{node_is_normal};
 ghost use Rattle.ncq_pyx.specs.declared.item.Item.TheVariants.{Put};
 ghost use Rattle.ncq_base.specs.Escapes.{escaped, unescaped};
@@ -20,35 +21,45 @@ pub fn escapes_are_undone()
 
 /// Lines spell at most one list of items.
 pub fn spelled_once()
-    ensures { (limit : ℕ) (lines : List (List ℕ)) (a b : List Item) → Spells limit lines a → Spells limit lines b → a ≡ b }
+    ensures { (limit : ℕ) (lines : List (List ℕ)) (a b : List Item) → Spells limit lines a
+        → Spells limit lines b → a ≡ b }
 {}
 
 /// The canonical lines of an element spell the one put of its normal form.
 pub fn written_is_read()
-    ensures { (limit : ℕ) (e : Element) → is_good (element_node e) ≡ true → depth (element_node e) ≤ limit → Spells limit (node_lines (element_node e)) (put e ∷ []) }
+    ensures { (limit : ℕ) (e : Element) → is_good (element_node e) ≡ true
+        → depth (element_node e) ≤ limit → Spells limit (node_lines (element_node e)) (put e ∷ []) }
 {}
 
-/// Forests are equal where their canonical lines are, or the bytes of these, if all their names are PYX names and no
-/// element has two attributes of one name. So it is for proper forests: those that are normal and have PYX names.
+/// Forests are equal where their canonical lines are, or the bytes of these, if all their names are
+/// PYX names and no element has two attributes of one name. So it is for proper forests: those that
+/// are normal and have PYX names.
 pub fn written_once()
-    ensures lines { (a b : List Node) → list_all is_good a ≡ true → list_all is_good b ≡ true → canonical a ≡ canonical b → a ≡ b }
-    ensures bytes { (a b : List Node) → list_all is_good a ≡ true → list_all is_good b ≡ true → pyx a ≡ pyx b → a ≡ b }
-    ensures proper { (a b : List Node) → is_proper a ≡ true → is_proper b ≡ true → pyx a ≡ pyx b → a ≡ b }
+    ensures lines { (a b : List Node) → list_all is_good a ≡ true → list_all is_good b ≡ true
+        → canonical a ≡ canonical b → a ≡ b }
+    ensures bytes { (a b : List Node) → list_all is_good a ≡ true → list_all is_good b ≡ true
+        → pyx a ≡ pyx b → a ≡ b }
+    ensures proper { (a b : List Node) → is_proper a ≡ true → is_proper b ≡ true → pyx a ≡ pyx b
+        → a ≡ b }
 {}
 
 /// The canonical lines of a proper element spell the one put of that element.
 pub fn proper_is_read()
-    ensures { (limit : ℕ) (e : Element) → node_is_normal (element_node e) ≡ true → is_named (element_node e) ≡ true → depth (element_node e) ≤ limit → Spells limit (node_lines (element_node e)) (Put e ∷ []) }
+    ensures { (limit : ℕ) (e : Element) → node_is_normal (element_node e) ≡ true
+        → is_named (element_node e) ≡ true → depth (element_node e) ≤ limit
+        → Spells limit (node_lines (element_node e)) (Put e ∷ []) }
 {}
 
 /// Each element that lines put is proper: it is normal, and all its names are PYX names.
 pub fn spelled_is_proper()
-    ensures { (limit : ℕ) (lines : List (List ℕ)) (items : List Item) → Spells limit lines items → list_all item_is_proper items ≡ true }
+    ensures { (limit : ℕ) (lines : List (List ℕ)) (items : List Item) → Spells limit lines items
+        → list_all item_is_proper items ≡ true }
 {}
 
-/// What `block_of` says of lines is right: the items that they spell, or their first fault. No other answer is, but that
-/// memory ran out.
+/// What `block_of` says of lines is right: the items that they spell, or their first fault. No
+/// other answer is, but that memory ran out.
 pub fn blocks_are_exact()
     ensures right { (limit : ℕ) (lines : List (List ℕ)) → Reads limit lines (block_of limit lines) }
-    ensures only { (limit : ℕ) (lines : List (List ℕ)) (answer : Result (List Item) PyxError) → Reads limit lines answer → Gives answer (block_of limit lines) }
+    ensures only { (limit : ℕ) (lines : List (List ℕ)) (answer : Result (List Item) PyxError)
+        → Reads limit lines answer → Gives answer (block_of limit lines) }
 {}

@@ -1,8 +1,9 @@
 //! Blocks of PYX lines, both ways.
-//! Lines come in and go out as the elements to put and the keys to remove that they spell; a forest comes in and goes
-//! out as its canonical lines.
-//! A block is read exactly where it spells items, or else the first fault is named by its line; each element that
-//! goes out is normal, and the canonical lines of a proper element spell that element again.
+//! Lines come in and go out as the elements to put and the keys to remove that they spell; a forest
+//! comes in and goes out as its canonical lines.
+//! A block is read exactly where it spells items, or else the first fault is named by its line;
+//! each element that goes out is normal, and the canonical lines of a proper element spell that
+//! element again.
 #![tactic(auto)]
 
 mod error;

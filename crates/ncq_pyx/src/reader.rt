@@ -8,7 +8,8 @@ ghost use Rattle.ncq_pyx.specs.Spells.{innermost, fits, Reads, IsAnswer, Gives};
 ghost use Rattle.std.specs.Prelude.{List, Result, true};
 ghost use Rattle.ncq_pyx.specs.declared.item.Item.{Item};
 ghost use Rattle.ncq_pyx.specs.declared.error.PyxError.{PyxError};
-ghost use Rattle.ncq_pyx.specs.Reading.{frames_of, names_of, given_of, ErasesOutside, Takes, Places, Answers, Ends, refusal_of};
+ghost use Rattle.ncq_pyx.specs.Reading.{frames_of, names_of, given_of, ErasesOutside, Takes};
+ghost use Rattle.ncq_pyx.specs.Reading.{Places, Answers, Ends, refusal_of};
 
 use crate::error::PyxError;
 use crate::item::{Item, Items};
@@ -40,7 +41,11 @@ pub(crate) struct Reader {
 impl OpenElement {
     /// The element as it was read.
     fn into_element(self) -> Element
-        ensures { result ≡ record { name = self.name; attributes = self.attributes; children = self.children } }
+        ensures { result ≡ record {
+          name = self.name;
+          attributes = self.attributes;
+          children = self.children;
+        } }
     {
         let OpenElement {
             name,
@@ -186,9 +191,10 @@ fn refusal(why: Stop, line: u64) -> PyxError
 pub const MAX_NESTING: usize = 64;
 
 /// The items that the lines spell, each element proper: in normal form, with PYX names.
-/// `BadLine` comes where the first line after which no continuation is a block is this one, counted from 1; where the
-/// lines end inside an element it is their number plus 1. `TooDeep` comes in its place where that line is good but for
-/// opening an element inside 64 others. `OutOfMemory` is want of memory.
+/// `BadLine` comes where the first line after which no continuation is a block is this one, counted
+/// from 1; where the lines end inside an element it is their number plus 1. `TooDeep` comes in its
+/// place where that line is good but for opening an element inside 64 others. `OutOfMemory` is want
+/// of memory.
 pub fn read_block(alloc: Global, lines: &Lines) -> Result<Items, PyxError>
     ensures reads { Reads max_nesting lines.now result }
     ensures exactly { (answer : Result (List Item) PyxError) →

@@ -1,5 +1,6 @@
 //! The attributes of an open element, beside the set of their names.
-//! Whether a name stands already is asked for each attribute line, so that a tag with many attributes stays cheap.
+//! Whether a name stands already is asked for each attribute line, so that a tag with many
+//! attributes stays cheap.
 ghost use Rattle.std.specs.Prelude.{◌≡◌, ◌∷◌, ◌++◌, [], IfOk};
 ghost use Rattle.ncq_tree.specs.Normal.{has_name};
 

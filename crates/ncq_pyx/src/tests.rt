@@ -36,7 +36,8 @@ fn write_items(items: Items, out: &mut Vec<u8>) -> Result<(), AllocError> {
     Ok(())
 }
 
-/// What the lines spell, as lines that each end by a slash, each byte as a character; or the error and its line.
+/// What the lines spell, as lines that each end by a slash, each byte as a character; or the error
+/// and its line.
 fn answer(alloc: Global, lines: &Lines) -> Result<String, AllocError> {
     match read_block(alloc, lines) {
         Ok(items) => {
@@ -127,7 +128,8 @@ const BRACKETS: [(&str, &str); 45] = [
     ("(a/(b/)b/)a", "(a/(b/)b/)a/"),
     ("(a/(a/)a/)a", "(a/(a/)a/)a/"),
     ("(a/(b/)b/(b/)b/)a", "(a/(b/)b/(b/)b/)a/"),
-    // The name is all behind the bracket; any byte but white space and the backslash can stand in it.
+    // The name is all behind the bracket; any byte but white space and the backslash can stand in
+    // it.
     ("((/)(", "((/)(/"),
     ("()/))", "()/))/"),
     ("(-A?!/)-A?!", "(-A?!/)-A?!/"),
@@ -259,7 +261,8 @@ const TEXTS: [(&str, &str); 46] = [
     ("(a/-x/(b/)b/-y/)a", "(a/-x/(b/)b/-y/)a/"),
     ("(a/-x/(b/-y/)b/-z/)a", "(a/-x/(b/-y/)b/-z/)a/"),
     ("(C/Aid 7/-a/- b/?x/-\\n/)C", "(C/Aid 7/-a b/)C/"),
-    // The four escapes; a backslash before any other byte, or at the end of a line, stands for itself.
+    // The four escapes; a backslash before any other byte, or at the end of a line, stands for
+    // itself.
     ("(a/-b\\tc/)a", "(a/-b\\tc/)a/"),
     ("(a/-b\tc/)a", "(a/-b\\tc/)a/"),
     ("(a/-b\rc/)a", "(a/-b\\rc/)a/"),

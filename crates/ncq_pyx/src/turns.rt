@@ -2,7 +2,8 @@
 ghost use Rattle.std.specs.Prelude.{◌≡◌, ◌+◌, ◌≤◌, length, drop, Some, take};
 ghost use Rattle.std.specs.List.{prefix_len, list_all, list_any};
 ghost use Rattle.std.specs.Option.{option_copied, option_map};
-ghost use Rattle.ncq_pyx.specs.LineKinds.{is_skipped, is_no_blank, turn_at, begin_of, give_of, say_of, finish_of, erase_of};
+ghost use Rattle.ncq_pyx.specs.LineKinds.{is_skipped, is_no_blank, turn_at, begin_of, give_of};
+ghost use Rattle.ncq_pyx.specs.LineKinds.{say_of, finish_of, erase_of};
 ghost use Rattle.ncq_base.specs.Names.{is_space};
 ghost use Rattle.ncq_pyx.specs.Answers.{Turns};
 
@@ -11,8 +12,8 @@ use ncq_base::{Bytes, bytes_of, is_pyx_name, is_space, unescape};
 use ncq_tree::Attribute;
 use std::alloc::{AllocError, Global};
 
-/// What a line does: nothing, open an element of this name, give the innermost an attribute, add a text to it,
-/// close it, or ask for a removal by this key.
+/// What a line does: nothing, open an element of this name, give the innermost an attribute, add a
+/// text to it, close it, or ask for a removal by this key.
 #[derive(Drop)]
 pub(crate) enum Turn {
     Nothing,
@@ -137,14 +138,16 @@ fn erase_of(alloc: Global, innermost: Option<&Bytes>, text: &[u8]) -> Result<Tur
     Ok(Turn::Erase(unescape(alloc, text)?))
 }
 
-/// What a line is behind the innermost open tag with this name, with these attributes if more may stand here.
+/// What a line is behind the innermost open tag with this name, with these attributes if more may
+/// stand here.
 pub(crate) fn turn_of(
     alloc: Global,
     innermost: Option<&Bytes>,
     given: Option<&TagAttributes>,
     line: &[u8],
 ) -> Result<Turn, Stop>
-    ensures { Turns result (turn_at (option_copied innermost.entry) (option_copied given.entry) line.now) }
+    ensures { Turns result (turn_at (option_copied innermost.entry)
+        (option_copied given.entry) line.now) }
 {
     let Some((first, text)) = line.split_first() else {
         return Ok(Turn::Nothing);

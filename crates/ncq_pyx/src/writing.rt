@@ -8,7 +8,8 @@ use ncq_base::write_escaped;
 use ncq_tree::{Attribute, Element, Forest, Node};
 use std::alloc::AllocError;
 
-/// Appends the canonical lines of the forest, each ended by LF: for a text `-` and the escaped text; for an element
+/// Appends the canonical lines of the forest, each ended by LF: for a text `-` and the escaped
+/// text; for an element
 /// `(name`, then `Aname value` for each attribute, the lines of the children and `)name`.
 /// The only error is want of memory, and then `out` is as before.
 pub fn write_forest(forest: &Forest, out: &mut Vec<u8>) -> Result<(), AllocError>
@@ -55,7 +56,8 @@ fn write_nodes(forest: &Forest, out: &mut Vec<u8>) -> Result<(), AllocError>
 #[cycle(writing)]
 #[tactic(auto, using(crate::proofs::LineLaws::lines_are))]
 fn write_node(node: &Node, out: &mut Vec<u8>) -> Result<(), AllocError>
-    ensures ok { OnOk result (out.new.items ≡ out.old.items ++ bytes_of_lines (node_lines node.now)) }
+    ensures ok { OnOk result (out.new.items ≡ out.old.items
+        ++ bytes_of_lines (node_lines node.now)) }
     ensures front { take (length out.old.items) out.new.items ≡ out.old.items }
 {
     match node {
@@ -103,7 +105,8 @@ pub fn write_name(mark: u8, name: &[u8], out: &mut Vec<u8>) -> Result<(), AllocE
 /// Appends a line for each attribute; what was there stays in front.
 #[tactic(auto, using(crate::proofs::LineLaws::lines_are))]
 pub fn write_attributes(attributes: &[Attribute], out: &mut Vec<u8>) -> Result<(), AllocError>
-    ensures ok { OnOk result (out.new.items ≡ out.old.items ++ bytes_of_lines (map attribute_line attributes.now)) }
+    ensures ok { OnOk result (out.new.items ≡ out.old.items
+        ++ bytes_of_lines (map attribute_line attributes.now)) }
     ensures front { take (length out.old.items) out.new.items ≡ out.old.items }
 {
     for attribute in attributes {
@@ -114,7 +117,8 @@ pub fn write_attributes(attributes: &[Attribute], out: &mut Vec<u8>) -> Result<(
 
 /// Appends the line of an attribute; what was there stays in front.
 fn write_attribute(attribute: &Attribute, out: &mut Vec<u8>) -> Result<(), AllocError>
-    ensures ok { OnOk result (out.new.items ≡ out.old.items ++ ended (attribute_line attribute.now)) }
+    ensures ok { OnOk result (out.new.items ≡ out.old.items
+        ++ ended (attribute_line attribute.now)) }
     ensures front { take (length out.old.items) out.new.items ≡ out.old.items }
 {
     out.push(b'A')?;

@@ -1,11 +1,13 @@
 -- The lines of a script, as commands with their blocks.
-use Rattle.std.specs.Prelude.{◌==◌, ◌&&◌, ◌||◌, ℕ, Bool, true, false, not, map, List, [], ◌∷◌, Some, None, if◌then◌else◌}
+use Rattle.std.specs.Prelude.{◌==◌, ◌&&◌, ◌||◌, ℕ, Bool, true, false, not, map, List, [], ◌∷◌, Some}
+use Rattle.std.specs.Prelude.{None, if◌then◌else◌}
 use Rattle.std.specs.List.{filter, before_first, list_any}
 use Rattle.ncq_script.specs.Lines.{LineText, lines, whole_lines}
 use Rattle.ncq_script.specs.Words.{begins}
 use Rattle.ncq_script.specs.declared.command_lines.CommandLines.{CommandLines}
 use Rattle.ncq_script.specs.declared.word.Keyword.{Keyword}
-use Rattle.ncq_script.specs.declared.word.Keyword.TheVariants.{Source, Delta, Create, Delete, Clock, Report, Unknown}
+use Rattle.ncq_script.specs.declared.word.Keyword.TheVariants.{Source, Delta, Create, Delete, Clock}
+use Rattle.ncq_script.specs.declared.word.Keyword.TheVariants.{Report, Unknown}
 
 -- exactly `.`
 abbrev pub is_dot : List ℕ → Bool
@@ -45,19 +47,30 @@ with_block keyword head block closed = record {
   closed = closed;
 }
 
--- the command that the line begins, with the lines behind it: its block is those before the first `.`, and it is
--- closed if there is one
+-- the command that the line begins, with the lines behind it: its block is those before the first
+-- `.`, and it is closed if there is one
 abbrev pub command_of : Keyword → LineText → List LineText → CommandLines
 command_of keyword head more =
     if opens_block keyword
     then with_block keyword head (before_first is_end more) (list_any is_end more)
-    else record { keyword = keyword; head = head.bytes; block = []; long = head.long; closed = true }
+    else record {
+      keyword = keyword;
+      head = head.bytes;
+      block = [];
+      long = head.long;
+      closed = true;
+    }
 
 -- the commands of the lines: inside a block no line begins one, up to the block's end
 abbrev pub commands_of_lines : Bool → List LineText → List CommandLines
 commands_of_lines inside [] = []
 commands_of_lines true (line ∷ more) = commands_of_lines (not (is_end line)) more
-commands_of_lines false (line ∷ more) = elim (begins line.bytes) [ None ↦ commands_of_lines false more | Some keyword ↦ command_of keyword line more ∷ commands_of_lines (opens_block keyword) more ]
+commands_of_lines false (line ∷ more)
+    = elim (begins line.bytes) [
+      | None ↦ commands_of_lines false more
+      | Some keyword ↦ command_of keyword line more
+          ∷ commands_of_lines (opens_block keyword) more
+    ]
 
 -- the commands of a script
 unfoldable pub commands : ℕ → List ℕ → List CommandLines
@@ -72,4 +85,5 @@ whole_commands limit bytes = filter is_closed (commands_of_lines false (whole_li
 
 -- the commands that can be told: all of them once the end is marked
 abbrev pub known_commands : ℕ → Bool → List ℕ → List CommandLines
-known_commands limit finished bytes = if finished then commands limit bytes else whole_commands limit bytes
+known_commands limit finished bytes = if finished then commands limit bytes
+    else whole_commands limit bytes

@@ -1,5 +1,6 @@
 -- What the lines of a command say by their form.
-use Rattle.std.specs.Prelude.{◌==◌, ◌||◌, ◌&&◌, ℕ, Bool, not, List, [], ◌∷◌, ◌++◌, Option, Some, None, if◌then◌else◌, nat_le, nat_lt, length, codes}
+use Rattle.std.specs.Prelude.{◌==◌, ◌||◌, ◌&&◌, ℕ, Bool, not, List, [], ◌∷◌, ◌++◌, Option, Some}
+use Rattle.std.specs.Prelude.{None, if◌then◌else◌, nat_le, nat_lt, length, codes}
 use Rattle.std.specs.List.{list_all, flat_map}
 use Rattle.std.specs.Str.{str_eq_ignore_ascii_case}
 use Rattle.ncq_base.specs.Names.{is_pyx_name}
@@ -11,7 +12,8 @@ is_source_byte b = not (b == 34 || b == 92 || b == 44 || b == 40 || b == 41)
 
 -- 1 to 255 such bytes
 abbrev pub is_source_name : List ℕ → Bool
-is_source_name text = nat_lt 0 (length text) && nat_le (length text) 255 && list_all is_source_byte text
+is_source_name text = nat_lt 0 (length text) && nat_le (length text) 255
+    && list_all is_source_byte text
 
 -- the one word behind the first: `delta <word>`
 abbrev pub one_argument : List (List ℕ) → Option (List ℕ)
@@ -27,7 +29,9 @@ pub record SourceWords : Type 0 where
 -- `source <name> root <root> key <rule>`
 abbrev pub source_form : List (List ℕ) → Option SourceWords
 source_form (first ∷ name ∷ root_word ∷ root ∷ key_word ∷ rule ∷ []) =
-    if str_eq_ignore_ascii_case root_word (codes "root") && str_eq_ignore_ascii_case key_word (codes "key") && is_source_name name && is_pyx_name root
+    if str_eq_ignore_ascii_case root_word (codes "root")
+    && str_eq_ignore_ascii_case key_word (codes "key") && is_source_name name
+    && is_pyx_name root
     then Some (record { name = name; root = root; rule = rule })
     else None
 source_form _ = None

@@ -9,9 +9,13 @@ pub record LineText : Type 0 where
   pub bytes : List ℕ
   pub long : Bool
 
--- the line of what stands between two line feeds: one carriage return at its end is dropped, and what is longer than the limit is cut there and marked long
+-- the line of what stands between two line feeds: one carriage return at its end is dropped, and
+-- what is longer than the limit is cut there and marked long
 abbrev pub line_at : ℕ → List ℕ → LineText
-line_at limit part = record { bytes = take limit (strip_carriage_return part); long = nat_lt limit (length (strip_carriage_return part)) }
+line_at limit part = record {
+  bytes = take limit (strip_carriage_return part);
+  long = nat_lt limit (length (strip_carriage_return part));
+}
 
 -- what stands behind the last line feed is a line if it is not empty
 abbrev pub last_line : ℕ → List ℕ → List LineText

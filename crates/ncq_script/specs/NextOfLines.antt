@@ -1,12 +1,14 @@
 -- What a reader of lines has next.
-use Rattle.std.specs.Prelude.{◌≡◌, ◌+◌, ◌<◌, ◌≤◌, ◌⊎◌, ◌++◌, ◌∷◌, [], ℕ, true, false, List, length, take, drop}
+use Rattle.std.specs.Prelude.{◌≡◌, ◌+◌, ◌<◌, ◌≤◌, ◌⊎◌, ◌++◌, ◌∷◌, [], ℕ, true, false, List, length}
+use Rattle.std.specs.Prelude.{take, drop}
 use Rattle.ncq_base.specs.Lines.{IsClean}
 use Rattle.ncq_script.specs.Lines.{known_lines}
 use Rattle.ncq_script.specs.LineReading.{LineState, FollowsLines}
 use Rattle.ncq_script.specs.declared.line.Found.{Found}
 use Rattle.ncq_script.specs.declared.line.Found.TheVariants.{Line, Wanting, End}
 
--- a line feed stands behind so many bytes; or none are ahead, the end was marked, and something is kept
+-- a line feed stands behind so many bytes; or none are ahead, the end was marked, and something is
+-- kept
 abbrev pub EndsLine : LineState → ℕ → Type 0
 EndsLine reader len =
     (reader.ahead ≡ take len reader.ahead ++ 10 ∷ drop (len + 1) reader.ahead)

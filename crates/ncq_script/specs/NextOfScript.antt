@@ -1,5 +1,6 @@
 -- What a reader of a script gives next.
-use Rattle.std.specs.Prelude.{◌≡◌, ◌+◌, ◌<◌, ℕ, true, false, List, Option, Some, None, length, slice_get}
+use Rattle.std.specs.Prelude.{◌≡◌, ◌+◌, ◌<◌, ℕ, true, false, List, Option, Some, None, length}
+use Rattle.std.specs.Prelude.{slice_get}
 use Rattle.ncq_script.specs.LineReading.{IsLean}
 use Rattle.ncq_script.specs.NextOfCommands.{held, size}
 use Rattle.ncq_script.specs.Reading.{CommandState}
@@ -13,12 +14,19 @@ use Rattle.ncq_script.specs.declared.script_reader.Next.TheVariants.{Command, Wa
 
 -- of the bytes pushed, with so many commands given before, this is next
 abbrev pub IsNextCommand : ScriptState → ScriptState → List ℕ → ℕ → Next → Type 0
-IsNextCommand old new pushed count (Command command) = (slice_get (known_script (limit_of old) (is_finished old) pushed) count ≡ Some command) × FollowsScript new pushed (count + 1)
-IsNextCommand old new pushed count Wanting = (is_finished old ≡ false) × (length (known_script (limit_of old) (is_finished old) pushed) ≡ count) × FollowsScript new pushed count
-IsNextCommand old new pushed count End = (is_finished old ≡ true) × (length (known_script (limit_of old) (is_finished old) pushed) ≡ count) × FollowsScript new pushed count
+IsNextCommand old new pushed count (Command command)
+    = (slice_get (known_script (limit_of old) (is_finished old) pushed) count ≡ Some command)
+    × FollowsScript new pushed (count + 1)
+IsNextCommand old new pushed count Wanting = (is_finished old ≡ false)
+    × (length (known_script (limit_of old) (is_finished old) pushed) ≡ count)
+    × FollowsScript new pushed count
+IsNextCommand old new pushed count End = (is_finished old ≡ true)
+    × (length (known_script (limit_of old) (is_finished old) pushed) ≡ count)
+    × FollowsScript new pushed count
 
--- where no further command is whole, no command waits, the pieces are gone, and no more is kept than the lines of the
--- command whose block is open and, of a line that is not whole, the limit and one byte
+-- where no further command is whole, no command waits, the pieces are gone, and no more is kept
+-- than the lines of the command whose block is open and, of a line that is not whole, the limit and
+-- one byte
 abbrev pub KeepsLittle : ScriptState → Next → Type 0
 KeepsLittle new (Command command) = Unit {0}
 KeepsLittle new Wanting = (new.waiting ≡ None) × IsLean new.reader.lines

@@ -1,5 +1,6 @@
 -- A command whose block is open. Only the crate's private clauses cite it.
-use Rattle.std.specs.Prelude.{◌≡◌, Bool, false, ◌∷◌, [], ◌++◌, ◌||◌, List, true, Option, Some, None, IfSome}
+use Rattle.std.specs.Prelude.{◌≡◌, Bool, false, ◌∷◌, [], ◌++◌, ◌||◌, List, true, Option, Some, None}
+use Rattle.std.specs.Prelude.{IfSome}
 use Rattle.std.specs.List.{before_first, list_any}
 use Rattle.std.specs.Option.{option_to_list}
 use Rattle.ncq_script.specs.Lines.{LineText}
@@ -9,7 +10,13 @@ use Rattle.ncq_script.specs.declared.command_lines.OpenCommand.{OpenCommand}
 
 -- the command, were its block to stay open
 abbrev pub lines_so_far : OpenCommand → CommandLines
-lines_so_far command = record { keyword = command.keyword; head = command.head; block = command.block; long = command.long; closed = false }
+lines_so_far command = record {
+  keyword = command.keyword;
+  head = command.head;
+  block = command.block;
+  long = command.long;
+  closed = false;
+}
 
 -- the same, where there is one
 abbrev pub opened : Option OpenCommand → Option CommandLines
@@ -18,7 +25,10 @@ opened (Some command) = Some (lines_so_far command)
 
 -- a line more in its block
 abbrev pub joined : LineText → CommandLines → CommandLines
-joined line command = record command { block = command.block ++ line.bytes ∷ []; long = command.long || line.long }
+joined line command = record command {
+  block = command.block ++ line.bytes ∷ [];
+  long = command.long || line.long;
+}
 
 -- its block ends, or the script does
 abbrev pub ended : Bool → CommandLines → CommandLines
@@ -34,7 +44,9 @@ commands_behind (Some command) rest = record command {
 } ∷ commands_of_lines true rest
 
 -- a line makes this of what is open, and ends this command
-pub record Ends (before : Option CommandLines) (line : LineText) (command : Option CommandLines) (after : Option CommandLines) : Type 0 where
-  pub given : (rest : List LineText) → commands_behind before (line ∷ rest) ≡ option_to_list command ++ commands_behind after rest
+pub record Ends (before : Option CommandLines) (line : LineText) (command : Option CommandLines)
+    (after : Option CommandLines) : Type 0 where
+  pub given : (rest : List LineText)
+      → commands_behind before (line ∷ rest) ≡ option_to_list command ++ commands_behind after rest
   pub closed : IfSome command (λ c. c.closed ≡ true)
   pub none : IfSome command (λ _. after ≡ None)

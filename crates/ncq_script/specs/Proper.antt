@@ -4,7 +4,8 @@ use Rattle.std.specs.List.{list_all}
 use Rattle.ncq_pyx.specs.Canonical.{item_is_proper}
 use Rattle.ncq_xmlql.specs.WellFormed.{IsWellFormed}
 use Rattle.ncq_script.specs.declared.command.Command.{Command}
-use Rattle.ncq_script.specs.declared.command.Command.TheVariants.{Declare, Delta, Create, Delete, Clock, Report, Malformed}
+use Rattle.ncq_script.specs.declared.command.Command.TheVariants.{Declare, Delta, Create, Delete}
+use Rattle.ncq_script.specs.declared.command.Command.TheVariants.{Clock, Report, Malformed}
 use Rattle.ncq_script.specs.declared.script_reader.Next.{Next}
 use Rattle.ncq_script.specs.declared.script_reader.Next.TheVariants as next
 

@@ -1,5 +1,6 @@
 -- What the lines of a command say, or the first refusal of reading.
-use Rattle.std.specs.Prelude.{◌==◌, ℕ, Bool, List, [], ◌∷◌, Option, Some, None, Result, Ok, Err, if◌then◌else◌, nat_le, length, map, option_map}
+use Rattle.std.specs.Prelude.{◌==◌, ℕ, Bool, List, [], ◌∷◌, Option, Some, None, Result, Ok, Err}
+use Rattle.std.specs.Prelude.{if◌then◌else◌, nat_le, length, map, option_map}
 use Rattle.std.specs.Option.{option_and_then}
 use Rattle.ncq_base.specs.Names.{is_pyx_name}
 use Rattle.ncq_base.specs.Numbers.{read_u64}
@@ -21,7 +22,8 @@ use Rattle.ncq_script.specs.declared.command_lines.CommandLines.{CommandLines}
 use Rattle.ncq_script.specs.declared.word.Keyword.{Keyword}
 use Rattle.ncq_script.specs.declared.word.Keyword.TheVariants as keyword
 use Rattle.ncq_script.specs.declared.command.Command.{Command}
-use Rattle.ncq_script.specs.declared.command.Command.TheVariants.{Declare, Delta, Create, Delete, Clock, Report, Malformed}
+use Rattle.ncq_script.specs.declared.command.Command.TheVariants.{Declare, Delta, Create, Delete}
+use Rattle.ncq_script.specs.declared.command.Command.TheVariants.{Clock, Report, Malformed}
 use Rattle.ncq_script.specs.declared.refusal.Refusal.TheVariants as refusal
 
 -- the key rule that a word writes: `@<attribute>` or `<tag>`
@@ -34,7 +36,9 @@ rule_of (b ∷ name) =
 
 -- `source <name> root <tag> key <rule>`
 abbrev pub declare_of : List (List ℕ) → Option Command
-declare_of line_words = option_and_then (λ form. option_map (λ key. Declare form.name form.root key) (rule_of form.rule)) (source_form line_words)
+declare_of line_words = option_and_then
+    (λ form. option_map (λ key. Declare form.name form.root key) (rule_of form.rule))
+    (source_form line_words)
 
 -- `clock <n>`
 abbrev pub clock_of : List (List ℕ) → Option Command
@@ -59,7 +63,8 @@ delta_of source (Err OutOfMemory) = Malformed refusal.Command
 -- `delta <source>` with its block
 abbrev pub delta_form : Option (List ℕ) → CommandLines → Command
 delta_form None lines = Malformed refusal.Command
-delta_form (Some source) lines = if_closed lines.closed (delta_of source (block_of max_nesting lines.block))
+delta_form (Some source) lines
+    = if_closed lines.closed (delta_of source (block_of max_nesting lines.block))
 
 -- a create of what its text says, or why it says nothing; a text never says that memory ran out
 abbrev pub create_of : Result Statement StatementError → Command
@@ -72,10 +77,12 @@ create_of (Err statement_error.OutOfMemory) = Malformed refusal.Query
 abbrev pub form_of : Keyword → CommandLines → Command
 form_of keyword.Source lines = or_refused (declare_of (words lines.head))
 form_of keyword.Delta lines = delta_form (one_argument (words lines.head)) lines
-form_of keyword.Create lines = if_closed lines.closed (create_of (statement_of (statement_text lines)))
+form_of keyword.Create lines = if_closed lines.closed
+    (create_of (statement_of (statement_text lines)))
 form_of keyword.Delete lines = or_refused (option_map Delete (one_argument (words lines.head)))
 form_of keyword.Clock lines = or_refused (clock_of (words lines.head))
-form_of keyword.Report lines = if nat_le (length (words lines.head)) 1 then Report else Malformed refusal.Command
+form_of keyword.Report lines = if nat_le (length (words lines.head)) 1 then Report
+    else Malformed refusal.Command
 form_of keyword.Unknown lines = Malformed refusal.Command
 
 -- what the lines of a command say, or the first refusal of reading

@@ -57,4 +57,5 @@ shown refusal.Unbuilt = []
 
 -- `<k> refused <number> <word>`, and the shown value
 abbrev pub refused_text : ℕ → Refusal → List ℕ
-refused_text k refusal = decimal k ++ codes " refused " ++ word_of refusal ++ shown refusal ++ codes "\n"
+refused_text k refusal = decimal k ++ codes " refused " ++ word_of refusal ++ shown refusal
+    ++ codes "\n"

@@ -14,4 +14,5 @@ whole_script limit bytes = map read (whole_commands limit bytes)
 
 -- what those say that can be told: all of them once the end is marked
 abbrev pub known_script : ℕ → Bool → List ℕ → List Command
-known_script limit finished bytes = if finished then script limit bytes else whole_script limit bytes
+known_script limit finished bytes = if finished then script limit bytes
+    else whole_script limit bytes

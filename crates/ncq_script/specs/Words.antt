@@ -1,9 +1,11 @@
 -- The words of a line, and the command that a line begins.
-use Rattle.std.specs.Prelude.{◌≡◌, ◌==◌, ◌||◌, ℕ, Bool, true, false, List, [], ◌∷◌, Option, Some, None, if◌then◌else◌, codes}
+use Rattle.std.specs.Prelude.{◌≡◌, ◌==◌, ◌||◌, ℕ, Bool, true, false, List, [], ◌∷◌, Option, Some}
+use Rattle.std.specs.Prelude.{None, if◌then◌else◌, codes}
 use Rattle.std.specs.List.{filter, slice_split}
 use Rattle.std.specs.Str.{str_eq_ignore_ascii_case}
 use Rattle.ncq_script.specs.declared.word.Keyword.{Keyword}
-use Rattle.ncq_script.specs.declared.word.Keyword.TheVariants.{Source, Delta, Create, Delete, Clock, Report, Unknown}
+use Rattle.ncq_script.specs.declared.word.Keyword.TheVariants.{Source, Delta, Create, Delete, Clock}
+use Rattle.ncq_script.specs.declared.word.Keyword.TheVariants.{Report, Unknown}
 
 -- space, tab and carriage return part words
 abbrev pub is_blank : ℕ → Bool

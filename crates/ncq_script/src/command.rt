@@ -1,11 +1,13 @@
 //! What the lines of a command say, or the first refusal of reading.
-ghost use Rattle.std.specs.Prelude.{◌≡◌, if◌then◌else◌, length, nat_le, None, Some, IfOk, MatchOption, option_map};
+ghost use Rattle.std.specs.Prelude.{◌≡◌, if◌then◌else◌, length, nat_le, None, Some, IfOk};
+ghost use Rattle.std.specs.Prelude.{MatchOption, option_map};
 ghost use Rattle.std.specs.Option.{option_and_then};
 ghost use Rattle.ncq_base.specs.Numbers.{read_u64};
 ghost use Rattle.ncq_pyx.specs.Faults.{block_of, max_nesting};
 ghost use Rattle.ncq_xmlql.specs.Answered.{statement_of};
 ghost use Rattle.ncq_script.specs.Words.{words};
-ghost use Rattle.ncq_script.specs.Reads.{rule_of, declare_of, clock_of, if_closed, delta_of, delta_form, create_of, form_of, or_refused, read};
+ghost use Rattle.ncq_script.specs.Reads.{rule_of, declare_of, clock_of, if_closed, delta_of};
+ghost use Rattle.ncq_script.specs.Reads.{delta_form, create_of, form_of, or_refused, read};
 ghost use Rattle.ncq_script.specs.Forms.{one_argument};
 ghost use Rattle.ncq_script.specs.Proper.{IsProperCommand};
 
@@ -62,10 +64,10 @@ pub enum Command {
     },
 }
 
-/// What the lines of a command say, or the first refusal of reading: 15 `line` where a line is long; else 1 where the
-/// line has not its form; else 16 where the block has no end; for a delta then 5 or 15 `nesting` at the first faulty line,
-/// and for a create 10 or 15 with the limit that its text exceeds.
-/// The error is want of memory.
+/// What the lines of a command say, or the first refusal of reading: 15 `line` where a line is
+/// long; else 1 where the line has not its form; else 16 where the block has no end; for a delta
+/// then 5 or 15 `nesting` at the first faulty line, and for a create 10 or 15 with the limit that
+/// its text exceeds. The error is want of memory.
 pub(crate) fn read(alloc: Global, lines: &CommandLines) -> Result<Command, AllocError>
     ensures said { IfOk result (λ command. command ≡ read lines.now) }
     ensures proper { IfOk result (λ command. IsProperCommand command) }
@@ -130,7 +132,8 @@ fn rule_of(alloc: Global, text: &[u8]) -> Result<Option<Key>, AllocError>
 }
 
 fn delta_form(alloc: Global, head: &[u8], lines: &CommandLines) -> Result<Command, AllocError>
-    ensures said { IfOk result (λ command. command ≡ delta_form (one_argument (words head.now)) lines.now) }
+    ensures said { IfOk result (λ command.
+        command ≡ delta_form (one_argument (words head.now)) lines.now) }
     ensures proper { IfOk result (λ command. IsProperCommand command) }
 {
     let Some(source) = one_argument(head) else {
@@ -144,7 +147,8 @@ fn delta_form(alloc: Global, head: &[u8], lines: &CommandLines) -> Result<Comman
 
 /// The delta that a block says.
 fn delta_of(alloc: Global, source: &[u8], block: &Lines) -> Result<Command, AllocError>
-    ensures said { IfOk result (λ command. command ≡ delta_of source.now (block_of max_nesting block.now)) }
+    ensures said { IfOk result (λ command.
+        command ≡ delta_of source.now (block_of max_nesting block.now)) }
     ensures proper { IfOk result (λ command. IsProperCommand command) }
 {
     match read_block(alloc, block) {
@@ -185,7 +189,8 @@ fn create_of(alloc: Global, text: &[u8]) -> Result<Command, AllocError>
 }
 
 fn delete_form(alloc: Global, head: &[u8]) -> Result<Command, AllocError>
-    ensures { IfOk result (λ command. command ≡ or_refused (option_map Command.Delete (one_argument (words head.now)))) }
+    ensures { IfOk result (λ command.
+        command ≡ or_refused (option_map Command.Delete (one_argument (words head.now)))) }
 {
     match one_argument(head) {
         Some(name) => Ok(Command::Delete {
@@ -211,7 +216,8 @@ fn clock_of(head: &[u8]) -> Option<u64>
 }
 
 fn report_form(head: &[u8]) -> Command
-    ensures { result ≡ (if nat_le (length (words head.now)) 1 then Command.Report else Command.Malformed Refusal.Command) }
+    ensures { result ≡ (if nat_le (length (words head.now)) 1 then Command.Report
+        else Command.Malformed Refusal.Command) }
 {
     if has_one_word(head) {
         Command::Report

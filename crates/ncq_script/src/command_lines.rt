@@ -1,5 +1,6 @@
 //! The lines of a script, cut into commands with their blocks.
-ghost use Rattle.std.specs.Prelude.{◌≡◌, ◌++◌, ◌∷◌, List, None, Some, true, IfOk, OnOk, OnErr, IfSome, option_map};
+ghost use Rattle.std.specs.Prelude.{◌≡◌, ◌++◌, ◌∷◌, List, None, Some, true, IfOk, OnOk, OnErr};
+ghost use Rattle.std.specs.Prelude.{IfSome, option_map};
 ghost use Rattle.std.specs.Option.{option_to_list};
 ghost use Rattle.ncq_base.specs.Lines.{IsClean};
 ghost use Rattle.ncq_script.specs.Lines.{LineText};

@@ -1,5 +1,6 @@
 //! The commands of a script that comes in pieces.
-ghost use Rattle.std.specs.Prelude.{◌≡◌, ◌<◌, ◌^◌, ◌++◌, ℕ, List, [], true, false, IfOk, OnOk, OnErr};
+ghost use Rattle.std.specs.Prelude.{◌≡◌, ◌<◌, ◌^◌, ◌++◌, ℕ, List, [], true, false, IfOk, OnOk};
+ghost use Rattle.std.specs.Prelude.{OnErr};
 ghost use Rattle.ncq_script.specs.OpenCommands.{opened};
 ghost use Rattle.ncq_script.specs.Reading.{CommandState, Follows};
 ghost use Rattle.ncq_script.specs.NextOfCommands.{IsNext, Falls, LeavesLittle};
@@ -22,8 +23,9 @@ pub(crate) enum NextCommand {
 
 /// The commands of bytes that are pushed piece by piece.
 ///
-/// Where `next` is called up to `Wanting` after each `push`, nothing is kept but the lines of a command
-/// whose block is open and the front of a line that is not whole; pieces pushed without it are kept until then.
+/// Where `next` is called up to `Wanting` after each `push`, nothing is kept but the lines of a
+/// command whose block is open and the front of a line that is not whole; pieces pushed without it
+/// are kept until then.
 #[derive(Drop)]
 pub(crate) struct CommandReader {
     alloc: Global,
@@ -55,7 +57,8 @@ impl CommandReader {
     /// Takes the next piece. Where memory runs out, the reader is as before.
     pub fn push(&mut self, piece: &[u8]) -> Result<(), AllocError>
         requires { self.old.lines.finished ≡ false }
-        ensures ok { OnOk result ((pushed : List ℕ) (count : ℕ) → Follows self.old pushed count → Follows self.new (pushed ++ piece.now) count) }
+        ensures ok { OnOk result ((pushed : List ℕ) (count : ℕ) → Follows self.old pushed count
+            → Follows self.new (pushed ++ piece.now) count) }
         ensures err { OnErr result (self.new ≡ self.old) }
         ensures limit { self.new.lines.limit ≡ self.old.lines.limit }
         ensures open { self.new.lines.finished ≡ false }
@@ -65,17 +68,21 @@ impl CommandReader {
 
     /// Marks the end.
     pub fn finish(&mut self)
-        ensures follows { (pushed : List ℕ) (count : ℕ) → Follows self.old pushed count → Follows self.new pushed count }
+        ensures follows { (pushed : List ℕ) (count : ℕ) → Follows self.old pushed count
+            → Follows self.new pushed count }
         ensures limit { self.new.lines.limit ≡ self.old.lines.limit }
         ensures closed { self.new.lines.finished ≡ true }
     {
         self.lines.finish();
     }
 
-    /// The next command of the bytes that were pushed. Where memory runs out no command is lost: a later call gives it.
+    /// The next command of the bytes that were pushed. Where memory runs out no command is lost: a
+    /// later call gives it.
     pub fn next(&mut self) -> Result<NextCommand, AllocError>
-        ensures next { IfOk result (λ next. (pushed : List ℕ) (count : ℕ) → Follows self.old pushed count → IsNext self.old self.new pushed count next) }
-        ensures err { OnErr result ((pushed : List ℕ) (count : ℕ) → Follows self.old pushed count → Follows self.new pushed count) }
+        ensures next { IfOk result (λ next. (pushed : List ℕ) (count : ℕ)
+            → Follows self.old pushed count → IsNext self.old self.new pushed count next) }
+        ensures err { OnErr result ((pushed : List ℕ) (count : ℕ) → Follows self.old pushed count
+            → Follows self.new pushed count) }
         ensures falls { IfOk result (λ next. Falls self.old self.new next) }
         ensures little { IfOk result (λ next. LeavesLittle self.new next) }
         ensures limit { self.new.lines.limit ≡ self.old.lines.limit }
@@ -91,11 +98,16 @@ fn next_command(
     lines: &mut LineReader,
     current: &mut Option<OpenCommand>,
 ) -> Result<NextCommand, AllocError>
-    ensures next { IfOk result (λ next. (pushed : List ℕ) (count : ℕ) → Follows (record { lines = lines.old; current = opened current.old }) pushed count →
-        IsNext (record { lines = lines.old; current = opened current.old }) (record { lines = lines.new; current = opened current.new }) pushed count next) }
-    ensures err { OnErr result ((pushed : List ℕ) (count : ℕ) → Follows (record { lines = lines.old; current = opened current.old }) pushed count →
+    ensures next { IfOk result (λ next. (pushed : List ℕ) (count : ℕ)
+        → Follows (record { lines = lines.old; current = opened current.old }) pushed count →
+        IsNext (record { lines = lines.old; current = opened current.old })
+        (record { lines = lines.new; current = opened current.new }) pushed count next) }
+    ensures err { OnErr result ((pushed : List ℕ) (count : ℕ)
+        → Follows (record { lines = lines.old; current = opened current.old }) pushed count →
         Follows (record { lines = lines.new; current = opened current.new }) pushed count) }
-    ensures falls { IfOk result (λ next. Falls (record { lines = lines.old; current = opened current.old }) (record { lines = lines.new; current = opened current.new }) next) }
+    ensures falls { IfOk result (λ next. Falls
+        (record { lines = lines.old; current = opened current.old })
+        (record { lines = lines.new; current = opened current.new }) next) }
     ensures little { IfOk result (λ next. LeavesLittle
         (record { lines = lines.new; current = opened current.new }) next) }
     ensures limit { lines.new.limit ≡ lines.old.limit }

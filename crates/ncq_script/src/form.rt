@@ -2,14 +2,16 @@
 ghost use Rattle.std.specs.Prelude.{◌≡◌, None, Some, IfOk, MatchOption};
 ghost use Rattle.std.specs.List.{list_all};
 ghost use Rattle.ncq_script.specs.Words.{words};
-ghost use Rattle.ncq_script.specs.Forms.{is_source_byte, is_source_name, one_argument, source_form, statement_text};
+ghost use Rattle.ncq_script.specs.Forms.{is_source_byte, is_source_name, one_argument, source_form};
+ghost use Rattle.ncq_script.specs.Forms.{statement_text};
 
 use crate::command_lines::CommandLines;
 use crate::word::{next_word, same_word};
 use ncq_base::is_pyx_name;
 use std::alloc::{AllocError, Global};
 
-/// Whether a source may be called so: 1 to 255 bytes, none of them a quotation mark, backslash, comma or parenthesis.
+/// Whether a source may be called so: 1 to 255 bytes, none of them a quotation mark, backslash,
+/// comma or parenthesis.
 pub(crate) fn is_source_name(text: &[u8]) -> bool
     ensures { result ≡ is_source_name text.now }
 {
@@ -30,7 +32,8 @@ fn is_source_byte(b: u8) -> bool
 
 /// The one word behind the first, as in `delta <word>`; none where there are fewer words or more.
 pub(crate) fn one_argument(head: &[u8]) -> Option<&[u8]>
-    ensures { MatchOption result (one_argument (words head.now) ≡ None) (λ word. one_argument (words head.now) ≡ Some word.now) }
+    ensures { MatchOption result (one_argument (words head.now) ≡ None)
+        (λ word. one_argument (words head.now) ≡ Some word.now) }
 {
     let (_, rest) = next_word(head)?;
     let (word, rest) = next_word(rest)?;
@@ -52,11 +55,12 @@ pub(crate) struct SourceForm<'a> {
 }
 
 /// What a line `source <name> root <root> key <rule>` says; none where it has another form.
-/// It has exactly six words, `root` and `key` in any case of letters; the name is one of a source, and the root a name of elements.
-/// The rule is any word.
+/// It has exactly six words, `root` and `key` in any case of letters; the name is one of a source,
+/// and the root a name of elements. The rule is any word.
 pub(crate) fn source_form(head: &[u8]) -> Option<SourceForm<'_>>
     ensures { MatchOption result (source_form (words head.now) ≡ None)
-        (λ form. source_form (words head.now) ≡ Some (record { name = form.name.now; root = form.root.now; rule = form.rule.now })) }
+        (λ form. source_form (words head.now)
+        ≡ Some (record { name = form.name.now; root = form.root.now; rule = form.rule.now })) }
 {
     let (_, rest) = next_word(head)?;
     let (name, rest) = next_word(rest)?;

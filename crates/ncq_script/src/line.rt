@@ -1,5 +1,6 @@
 //! The lines of a script that comes in pieces.
-ghost use Rattle.std.specs.Prelude.{◌≡◌, ◌<◌, ◌≤◌, ◌+◌, ◌++◌, ◌^◌, [], ℕ, List, false, true, IfOk, OnOk, OnErr, length, drop, take, vec_len};
+ghost use Rattle.std.specs.Prelude.{◌≡◌, ◌<◌, ◌≤◌, ◌+◌, ◌++◌, ◌^◌, [], ℕ, List, false, true, IfOk};
+ghost use Rattle.std.specs.Prelude.{OnOk, OnErr, length, drop, take, vec_len};
 ghost use Rattle.std.specs.Str.Lines.{strip_carriage_return};
 ghost use Rattle.ncq_base.specs.Lines.{IsClean};
 ghost use Rattle.ncq_script.specs.Lines.{line_at};
@@ -9,11 +10,13 @@ use ncq_base::first_line;
 use std::alloc::{AllocError, Global};
 use std::marker::Model;
 
-// Keeps more bytes of the line that is not whole, as far as they matter: one byte beyond the limit may be a carriage return.
+// Keeps more bytes of the line that is not whole, as far as they matter: one byte beyond the limit
+// may be a carriage return.
 fn keep(kept: &mut Vec<u8>, over: &mut bool, more: &[u8], limit: usize) -> Result<(), AllocError>
     requires small { limit < 2 ^ 63 }
     requires few { vec_len kept.old ≤ limit + 1 }
-    ensures ok { OnOk result ((part : List ℕ) → IsKept limit kept.old.items over.old part → IsKept limit kept.new.items over.new (part ++ more.now)) }
+    ensures ok { OnOk result ((part : List ℕ) → IsKept limit kept.old.items over.old part
+        → IsKept limit kept.new.items over.new (part ++ more.now)) }
     ensures err { OnErr result ((kept.new.items ≡ kept.old.items) × (over.new ≡ over.old)) }
     ensures few { vec_len kept.new ≤ limit + 1 }
     ensures clean { IsClean kept.old.items → IsClean more.now → IsClean kept.new.items }
@@ -81,9 +84,10 @@ pub(crate) enum Found {
 
 /// The lines of bytes that are pushed piece by piece.
 ///
-/// A line that stands whole in the pieces is lent and not copied. What is left of them without a line feed joins the
-/// line that is not whole, of which no more is kept than the limit and one byte, and the pieces go. So where `find` is
-/// called up to `Wanting` after each `push`, nothing of the earlier pieces is kept but that line.
+/// A line that stands whole in the pieces is lent and not copied. What is left of them without a
+/// line feed joins the line that is not whole, of which no more is kept than the limit and one
+/// byte, and the pieces go. So where `find` is called up to `Wanting` after each `push`, nothing of
+/// the earlier pieces is kept but that line.
 #[derive(Drop)]
 pub(crate) struct LineReader {
     limit: usize,
@@ -112,7 +116,8 @@ impl Model for LineReader {
     } };
 
     // The pieces go as soon as all of them was looked at: else less than their length was.
-    ghost invariant = { λ r. (r.limit < 2 ^ 62) × (vec_len r.kept ≤ r.limit + 1) × (r.at ≤ vec_len r.pending - 1) × IsClean r.kept.items };
+    ghost invariant = { λ r. (r.limit < 2 ^ 62) × (vec_len r.kept ≤ r.limit + 1)
+        × (r.at ≤ vec_len r.pending - 1) × IsClean r.kept.items };
 }
 
 impl LineReader {
@@ -138,7 +143,8 @@ impl LineReader {
     /// Takes the next piece. Where memory runs out, the reader is as before.
     pub fn push(&mut self, piece: &[u8]) -> Result<(), AllocError>
         requires { self.old.finished ≡ false }
-        ensures ok { OnOk result ((pushed : List ℕ) (count : ℕ) → FollowsLines self.old pushed count → FollowsLines self.new (pushed ++ piece.now) count) }
+        ensures ok { OnOk result ((pushed : List ℕ) (count : ℕ) → FollowsLines self.old pushed count
+            → FollowsLines self.new (pushed ++ piece.now) count) }
         ensures err { OnErr result (self.new ≡ self.old) }
         ensures limit { self.new.limit ≡ self.old.limit }
         ensures open { self.new.finished ≡ false }
@@ -149,21 +155,25 @@ impl LineReader {
 
     /// Marks the end.
     pub fn finish(&mut self)
-        ensures follows { (pushed : List ℕ) (count : ℕ) → FollowsLines self.old pushed count → FollowsLines self.new pushed count }
+        ensures follows { (pushed : List ℕ) (count : ℕ) → FollowsLines self.old pushed count
+            → FollowsLines self.new pushed count }
         ensures limit { self.new.limit ≡ self.old.limit }
         ensures closed { self.new.finished ≡ true }
     {
         self.finished = true;
     }
 
-    /// Looks for the next line of the bytes that were pushed. Where memory runs out, the reader is as before.
+    /// Looks for the next line of the bytes that were pushed. Where memory runs out, the reader is
+    /// as before.
     pub fn find(&mut self) -> Result<Found, AllocError>
         ensures found { IfOk result (λ found. (pushed : List ℕ) (count : ℕ) →
             FollowsLines self.old pushed count → IsFound self.old self.new pushed count found) }
-        ensures ready { IfOk result (λ found. (len : ℕ) → found ≡ Found.Line len → IsReady self.new len) }
+        ensures ready { IfOk result (λ found. (len : ℕ) → found ≡ Found.Line len
+            → IsReady self.new len) }
         ensures lean { IfOk result (λ found. found ≡ Found.Wanting → IsLean self.new) }
         ensures err { OnErr result (self.new ≡ self.old) }
-        ensures less { length self.new.kept + length self.new.ahead ≤ length self.old.kept + length self.old.ahead }
+        ensures less { length self.new.kept + length self.new.ahead
+            ≤ length self.old.kept + length self.old.ahead }
         ensures limit { self.new.limit ≡ self.old.limit }
         ensures finished { self.new.finished ≡ self.old.finished }
     {
@@ -196,7 +206,8 @@ impl LineReader {
     pub fn line(&self, len: usize) -> (&[u8], bool)
         requires { IsReady self.now len }
         ensures line { (part : List ℕ) → IsKept self.now.limit self.now.kept self.now.over part →
-            record { bytes = result.0.now; long = result.1 } ≡ line_at self.now.limit (part ++ take len self.now.ahead) }
+            record { bytes = result.0.now; long = result.1 }
+            ≡ line_at self.now.limit (part ++ take len self.now.ahead) }
         ensures clean { IsClean result.0.now }
     {
         if self.kept.is_empty() {

@@ -44,7 +44,8 @@ pub enum Refusal {
     Unbuilt,
 }
 
-/// Appends the line `<k> refused <number> <word>`, with the shown value where there is one. After want of memory `out` is as before.
+/// Appends the line `<k> refused <number> <word>`, with the shown value where there is one. After
+/// want of memory `out` is as before.
 pub fn write_refused(k: u64, refusal: &Refusal, out: &mut Vec<u8>) -> Result<(), AllocError>
     ensures ok { OnOk result (out.new.items ≡ out.old.items ++ refused_text k refusal.now) }
     ensures err { OnErr result (out.new.items ≡ out.old.items) }
@@ -94,7 +95,8 @@ fn word_of(refusal: &Refusal) -> &[u8]
     }
 }
 
-/// Appends a space and the value that a refusal shows, where it shows one; what was there stays in front.
+/// Appends a space and the value that a refusal shows, where it shows one; what was there stays in
+/// front.
 fn write_shown(refusal: &Refusal, out: &mut Vec<u8>) -> Result<(), AllocError>
     ensures ok { OnOk result (out.new.items ≡ out.old.items ++ shown refusal.now) }
     ensures front { take (length out.old.items) out.new.items ≡ out.old.items }

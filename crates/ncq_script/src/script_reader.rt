@@ -1,11 +1,14 @@
 //! The commands of a script that comes in pieces, each as what it says.
-ghost use Rattle.std.specs.Prelude.{◌≡◌, ◌<◌, ◌^◌, ◌++◌, ℕ, List, [], None, Some, true, false, IfOk, OnOk, OnErr};
+ghost use Rattle.std.specs.Prelude.{◌≡◌, ◌<◌, ◌^◌, ◌++◌, ℕ, List, [], None, Some, true, false};
+ghost use Rattle.std.specs.Prelude.{IfOk, OnOk, OnErr};
 ghost use Rattle.ncq_script.specs.NextOfCommands.{IsNext, LeavesLittle};
 ghost use Rattle.ncq_script.specs.Reading.{Follows};
 ghost use Rattle.ncq_script.specs.Proper.{GivesProper};
 ghost use Rattle.ncq_script.specs.Reads.{read};
-ghost use Rattle.ncq_script.specs.ScriptReading.{ScriptState, FollowsScript, FollowsWith, limit_of, is_finished};
-ghost use Rattle.ncq_script.specs.NextOfScript.{IsNextCommand, KeepsLittle, ScriptFalls, LinesTaken};
+ghost use Rattle.ncq_script.specs.ScriptReading.{ScriptState, FollowsScript, FollowsWith, limit_of};
+ghost use Rattle.ncq_script.specs.ScriptReading.{is_finished};
+ghost use Rattle.ncq_script.specs.NextOfScript.{IsNextCommand, KeepsLittle, ScriptFalls};
+ghost use Rattle.ncq_script.specs.NextOfScript.{LinesTaken};
 
 use crate::command::{Command, read};
 use crate::command_lines::CommandLines;
@@ -26,8 +29,9 @@ pub enum Next {
 
 /// The commands of a script whose bytes are pushed piece by piece.
 ///
-/// Where `next` is called up to `Wanting` after each `push`, nothing is kept but the lines of a command
-/// whose block is open and the front of a line that is not whole; pieces pushed without it are kept until then.
+/// Where `next` is called up to `Wanting` after each `push`, nothing is kept but the lines of a
+/// command whose block is open and the front of a line that is not whole; pieces pushed without it
+/// are kept until then.
 #[derive(Drop)]
 pub struct ScriptReader {
     alloc: Global,
@@ -60,7 +64,9 @@ impl ScriptReader {
     /// Takes the next piece. Where memory runs out, the reader is as before.
     pub fn push(&mut self, piece: &[u8]) -> Result<(), AllocError>
         requires { is_finished self.old ≡ false }
-        ensures ok { OnOk result ((pushed : List ℕ) (count : ℕ) → FollowsScript self.old pushed count → FollowsScript self.new (pushed ++ piece.now) count) }
+        ensures ok { OnOk result ((pushed : List ℕ) (count : ℕ)
+            → FollowsScript self.old pushed count
+            → FollowsScript self.new (pushed ++ piece.now) count) }
         ensures err { OnErr result (self.new ≡ self.old) }
         ensures limit { limit_of self.new ≡ limit_of self.old }
         ensures open { is_finished self.new ≡ false }
@@ -70,19 +76,23 @@ impl ScriptReader {
 
     /// Marks the end.
     pub fn finish(&mut self)
-        ensures follows { (pushed : List ℕ) (count : ℕ) → FollowsScript self.old pushed count → FollowsScript self.new pushed count }
+        ensures follows { (pushed : List ℕ) (count : ℕ) → FollowsScript self.old pushed count
+            → FollowsScript self.new pushed count }
         ensures limit { limit_of self.new ≡ limit_of self.old }
         ensures closed { is_finished self.new ≡ true }
     {
         self.reader.finish();
     }
 
-    /// The next command of the bytes that were pushed: of those that are whole, and of all of them once the end is marked.
-    /// Where memory runs out no command is lost: a later call gives it.
+    /// The next command of the bytes that were pushed: of those that are whole, and of all of them
+    /// once the end is marked. Where memory runs out no command is lost: a later call gives it.
     pub fn next(&mut self) -> Result<Next, AllocError>
-        ensures next { IfOk result (λ next. (pushed : List ℕ) (count : ℕ) → FollowsScript self.old pushed count → IsNextCommand self.old self.new pushed count next) }
+        ensures next { IfOk result (λ next. (pushed : List ℕ) (count : ℕ)
+            → FollowsScript self.old pushed count
+            → IsNextCommand self.old self.new pushed count next) }
         ensures proper { IfOk result GivesProper }
-        ensures err { OnErr result ((pushed : List ℕ) (count : ℕ) → FollowsScript self.old pushed count → FollowsScript self.new pushed count) }
+        ensures err { OnErr result ((pushed : List ℕ) (count : ℕ)
+            → FollowsScript self.old pushed count → FollowsScript self.new pushed count) }
         ensures falls { IfOk result (λ next. ScriptFalls self.old self.new next) }
         ensures little { IfOk result (λ next. KeepsLittle self.new next) }
         ensures limit { limit_of self.new ≡ limit_of self.old }
@@ -98,14 +108,19 @@ fn next_read(
     reader: &mut CommandReader,
     waiting: &mut Option<CommandLines>,
 ) -> Result<Next, AllocError>
-    ensures next { IfOk result (λ next. (pushed : List ℕ) (count : ℕ) → FollowsScript (record { reader = reader.old; waiting = waiting.old }) pushed count →
-        IsNextCommand (record { reader = reader.old; waiting = waiting.old }) (record { reader = reader.new; waiting = waiting.new }) pushed count next) }
-    ensures err { OnErr result ((pushed : List ℕ) (count : ℕ) → FollowsScript (record { reader = reader.old; waiting = waiting.old }) pushed count →
+    ensures next { IfOk result (λ next. (pushed : List ℕ) (count : ℕ)
+        → FollowsScript (record { reader = reader.old; waiting = waiting.old }) pushed count →
+        IsNextCommand (record { reader = reader.old; waiting = waiting.old })
+        (record { reader = reader.new; waiting = waiting.new }) pushed count next) }
+    ensures err { OnErr result ((pushed : List ℕ) (count : ℕ)
+        → FollowsScript (record { reader = reader.old; waiting = waiting.old }) pushed count →
         FollowsScript (record { reader = reader.new; waiting = waiting.new }) pushed count) }
     ensures proper { IfOk result GivesProper }
     ensures little { IfOk result (λ next. KeepsLittle
         (record { reader = reader.new; waiting = waiting.new }) next) }
-    ensures falls { IfOk result (λ next. ScriptFalls (record { reader = reader.old; waiting = waiting.old }) (record { reader = reader.new; waiting = waiting.new }) next) }
+    ensures falls { IfOk result (λ next. ScriptFalls
+        (record { reader = reader.old; waiting = waiting.old })
+        (record { reader = reader.new; waiting = waiting.new }) next) }
     ensures limit { reader.new.lines.limit ≡ reader.old.lines.limit }
     ensures finished { reader.new.lines.finished ≡ reader.old.lines.finished }
 {
@@ -121,8 +136,11 @@ fn next_lines(
     reader: &mut CommandReader,
     waiting: &mut Option<CommandLines>,
 ) -> Result<NextCommand, AllocError>
-    ensures next { IfOk result (λ next. (pushed : List ℕ) (count : ℕ) → FollowsWith reader.old waiting.old pushed count → IsNext reader.old reader.new pushed count next) }
-    ensures err { OnErr result ((pushed : List ℕ) (count : ℕ) → FollowsWith reader.old waiting.old pushed count → Follows reader.new pushed count) }
+    ensures next { IfOk result (λ next. (pushed : List ℕ) (count : ℕ)
+        → FollowsWith reader.old waiting.old pushed count
+        → IsNext reader.old reader.new pushed count next) }
+    ensures err { OnErr result ((pushed : List ℕ) (count : ℕ)
+        → FollowsWith reader.old waiting.old pushed count → Follows reader.new pushed count) }
     ensures falls { IfOk result (λ next. LinesTaken reader.old waiting.old reader.new next) }
     ensures little { IfOk result (λ next. LeavesLittle reader.new next) }
     ensures none { waiting.new ≡ None }

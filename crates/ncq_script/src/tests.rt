@@ -26,8 +26,8 @@ fn letter(keyword: Keyword) -> u8 {
     }
 }
 
-// A command as a text: its letter, its lines, each ended by a bar, `~` where one was longer than the limit, and `!`
-// where its block is open.
+// A command as a text: its letter, its lines, each ended by a bar, `~` where one was longer than
+// the limit, and `!` where its block is open.
 fn show_command(out: &mut Vec<u8>, command: &CommandLines) -> Result<(), AllocError> {
     out.push(letter(command.keyword))?;
     out.extend_from_slice(command.head.as_slice())?;
@@ -101,7 +101,8 @@ fn lines_are_cut_at_line_feeds_and_at_the_limit(rt: HostRuntime) -> Result<(), F
         (b"report\r\r\n", b"Rreport\r|"),
         (b"\rreport\n", b"R\rreport|"),
         (b"re\rport\n", b"Ure\rport|"),
-        // A line of 12 bytes is whole, one of 13 is cut; a carriage return at the end does not count.
+        // A line of 12 bytes is whole, one of 13 is cut; a carriage return at the end does not
+        // count.
         (b"clock 123456\n", b"Kclock 123456|"),
         (b"clock 123456\r\n", b"Kclock 123456|"),
         (b"clock 123456", b"Kclock 123456|"),
@@ -174,7 +175,8 @@ fn a_block_ends_with_a_line_that_is_exactly_a_dot(rt: HostRuntime) -> Result<(),
     Ok(())
 }
 
-// What is told before the end is marked: no line without its line feed, and no block without its end.
+// What is told before the end is marked: no line without its line feed, and no block without its
+// end.
 #[test]
 fn an_open_block_is_given_at_the_end_alone(rt: HostRuntime) -> Result<(), Fail> {
     let alloc = rt.alloc();

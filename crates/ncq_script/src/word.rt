@@ -1,7 +1,8 @@
 //! The words of a line, and the command that a line begins.
 ghost use Rattle.std.specs.Prelude.{◌≡◌, [], ◌∷◌, ◌≤◌, length, take, drop, All, MatchOption, false};
 ghost use Rattle.std.specs.Str.{str_eq_ignore_ascii_case};
-ghost use Rattle.ncq_script.specs.Words.{is_blank, words, keyword_of, begins, is_comment, StartsWord, StartsBlank};
+ghost use Rattle.ncq_script.specs.Words.{is_blank, words, keyword_of, begins, is_comment};
+ghost use Rattle.ncq_script.specs.Words.{StartsWord, StartsBlank};
 
 /// What a command is called: its first word, in any case of letters.
 #[derive(Clone, Copy, Debug, PartialEq, Eq)]
@@ -40,7 +41,8 @@ fn skip_blanks(text: &[u8]) -> &[u8]
 /// The first word of a text, and what stands behind it; none where the text has no word.
 /// Spaces, tabs and carriage returns part words; every other byte belongs to one.
 pub(crate) fn next_word(text: &[u8]) -> Option<(&[u8], &[u8])>
-    ensures { MatchOption result (words text.now ≡ []) (λ parts. words text.now ≡ parts.0.now ∷ words parts.1.now) }
+    ensures { MatchOption result (words text.now ≡ [])
+        (λ parts. words text.now ≡ parts.0.now ∷ words parts.1.now) }
 {
     let text = skip_blanks(text);
     if text.is_empty() {
@@ -89,7 +91,8 @@ pub(crate) fn keyword_of(word: &[u8]) -> Keyword
     }
 }
 
-/// The command that a line outside a block begins: none where it has no word, or where its first word begins with `#`.
+/// The command that a line outside a block begins: none where it has no word, or where its first
+/// word begins with `#`.
 pub(crate) fn begins(text: &[u8]) -> Option<Keyword>
     ensures { result ≡ begins text.now }
 {

@@ -13,4 +13,6 @@ pub record ChangeState : Type 0 where
 
 -- how a change is written as a value
 abbrev pub change_code : Coded ChangeState
-change_code = code_by (SourceId × List Entry) (coded× id_row.coded (coded_list entry_row.coded)) (λ c. (c.source, c.entries)) (λ p. record { source = p.0; entries = p.1 }) (λ _. refl)
+change_code = code_by (SourceId × List Entry) (coded× id_row.coded (coded_list entry_row.coded))
+    (λ c. (c.source, c.entries))
+    (λ p. record { source = p.0; entries = p.1 }) (λ _. refl)

@@ -3,7 +3,8 @@ use Rattle.std.specs.Prelude.{◌≡◌, ℕ, ◌+◌, Ok, Err, List, [], ◌∷
 use Rattle.std.specs.FinMap.{get, insert, remove}
 use Rattle.std.specs.declared.result.Result.{Result}
 use Rattle.ncq_source.specs.declared.change.ChangeError.{ChangeError}
-use Rattle.ncq_source.specs.declared.change.ChangeError.TheVariants.{BadKey, NoSuchKey, NoSource, OutOfMemory}
+use Rattle.ncq_source.specs.declared.change.ChangeError.TheVariants.{BadKey, NoSuchKey, NoSource}
+use Rattle.ncq_source.specs.declared.change.ChangeError.TheVariants.{OutOfMemory}
 use Rattle.ncq_tree.specs.declared.model.Element.{Element}
 use Rattle.ncq_base.specs.Keys.{weight}
 use Rattle.ncq_source.specs.Held.{Kept, with_at}
@@ -42,12 +43,14 @@ pub data Trial (A : Type 0) : Type 0 where
 -- the entry of a put under this key, with what the key held; without a key there is none
 abbrev pub put_entry : ℕ → Kept → Option (List ℕ) → Element → Trial Entry
 put_entry position kept None element = NoKey position
-put_entry position kept (Some key) element = Good (record { key = key; before = get kept key; after = Some element })
+put_entry position kept (Some key) element
+    = Good (record { key = key; before = get kept key; after = Some element })
 
 -- the entry of a removal of a key that held this; where it held nothing there is none
 abbrev pub gone_entry : ℕ → List ℕ → Option Element → Trial Entry
 gone_entry position key None = NotThere position
-gone_entry position key (Some element) = Good (record { key = key; before = Some element; after = None })
+gone_entry position key (Some element)
+    = Good (record { key = key; before = Some element; after = None })
 
 -- the entry of one item
 abbrev pub entry_of : Key → ℕ → Kept → Item → Trial Entry
@@ -66,11 +69,13 @@ next (Good entry) more = behind entry (more entry)
 next (NoKey position) more = NoKey position
 next (NotThere position) more = NotThere position
 
--- the entries of items, each with what its key holds after the items before it; the first item that cannot be applied decides
+-- the entries of items, each with what its key holds after the items before it; the first item that
+-- cannot be applied decides
 abbrev pub prepared : Key → ℕ → Kept → List Item → Trial (List Entry)
 prepared rule position kept [] = Good []
 prepared rule position kept (item ∷ items) =
-    next (entry_of rule position kept item) (λ entry. prepared rule (position + 1) (with_at kept entry.key entry.after) items)
+    next (entry_of rule position kept item)
+    (λ entry. prepared rule (position + 1) (with_at kept entry.key entry.after) items)
 
 -- what an answer tells of a trial
 abbrev pub Tells : {A : Type 0} → Result A ChangeError → Trial A → Type 0
@@ -88,7 +93,8 @@ front (entry ∷ entries) trial = behind entry (front entries trial)
 -- each entry says what its key held after the entries before it
 abbrev pub Chains : Kept → List Entry → Type 0
 Chains kept [] = Unit {0}
-Chains kept (entry ∷ entries) = (entry.before ≡ get kept entry.key) × Chains (with_at kept entry.key entry.after) entries
+Chains kept (entry ∷ entries) = (entry.before ≡ get kept entry.key)
+    × Chains (with_at kept entry.key entry.after) entries
 
 -- the sum of f over the elements that the entries put
 abbrev pub gains : (Element → ℕ) → List Entry → ℕ

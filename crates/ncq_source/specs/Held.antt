@@ -14,7 +14,9 @@ pub record Held : Type 0 where
 
 -- how they are written as a value
 abbrev pub held_code : Coded Held
-held_code = code_by (List (List ℕ × Element) × ℕ) (coded× (coded_list (coded× (coded_list coded_ℕ) element_row.coded)) coded_ℕ) (λ h. (h.pairs, h.room)) (λ p. record { pairs = p.0; room = p.1 }) (λ _. refl)
+held_code = code_by (List (List ℕ × Element) × ℕ)
+    (coded× (coded_list (coded× (coded_list coded_ℕ) element_row.coded)) coded_ℕ)
+    (λ h. (h.pairs, h.room)) (λ p. record { pairs = p.0; room = p.1 }) (λ _. refl)
 
 -- elements by their keys
 abbrev pub Kept : Type 0

@@ -20,7 +20,8 @@ no_strings text = []
 
 -- the string value of an element of this name
 abbrev pub value_if_named : List ℕ → List ℕ → List Attribute → List (Node × Strings) → Strings
-value_if_named wanted name attributes below = if bytes_eq wanted name then string_value (map (λ p. p.0) below) ∷ [] else []
+value_if_named wanted name attributes below
+    = if bytes_eq wanted name then string_value (map (λ p. p.0) below) ∷ [] else []
 
 -- the string values of a node that is an element of this name
 abbrev pub child_keys : List ℕ → Node → Strings
@@ -28,7 +29,8 @@ child_keys wanted = by_nodes no_strings (value_if_named wanted)
 
 -- the value of an attribute of this name
 abbrev pub attribute_keys : List ℕ → Attribute → Strings
-attribute_keys wanted attribute = if bytes_eq wanted attribute.name then attribute.value ∷ [] else []
+attribute_keys wanted attribute = if bytes_eq wanted attribute.name then attribute.value ∷ []
+    else []
 
 -- a value that is not empty
 abbrev pub not_empty : List ℕ → Option (List ℕ)

@@ -24,4 +24,5 @@ PutsProper (entry ∷ entries) = IfSome entry.after IsProper × PutsProper entri
 
 -- each element of each source is proper
 abbrev pub IsProperStore : StoreState → Type 0
-IsProperStore store = (at : ℕ) (source : Source) → slice_get store.sources at ≡ Some source → HoldsProper source.elements
+IsProperStore store = (at : ℕ) (source : Source) → slice_get store.sources at ≡ Some source
+    → HoldsProper source.elements

@@ -1,10 +1,12 @@
 -- A store, as callers see it.
-use Rattle.std.specs.Prelude.{◌≡◌, ℕ, ◌+◌, ◌<◌, ◌≤◌, List, [], ◌∷◌, ◌++◌, map, length, slice_get, slice_set, Option, Some, refl, position, Ok, Err}
+use Rattle.std.specs.Prelude.{◌≡◌, ℕ, ◌+◌, ◌<◌, ◌≤◌, List, [], ◌∷◌, ◌++◌, map, length, slice_get}
+use Rattle.std.specs.Prelude.{slice_set, Option, Some, refl, position, Ok, Err}
 use Rattle.std.specs.Coded.{Coded, code_by, coded×, coded_ℕ, coded_list}
 use Rattle.std.specs.declared.result.Result.{Result}
 use Rattle.std.specs.Str.{bytes_eq}
 use Rattle.ncq_source.specs.declared.change.ChangeError.{ChangeError}
-use Rattle.ncq_source.specs.declared.change.ChangeError.TheVariants.{BadKey, NoSuchKey, NoSource, OutOfMemory}
+use Rattle.ncq_source.specs.declared.change.ChangeError.TheVariants.{BadKey, NoSuchKey, NoSource}
+use Rattle.ncq_source.specs.declared.change.ChangeError.TheVariants.{OutOfMemory}
 use Rattle.ncq_source.specs.declared.change.Entry.{Entry}
 use Rattle.ncq_source.specs.declared.change.SourceId.{SourceId}
 use Rattle.ncq_source.specs.declared.key.Key.{Key}
@@ -42,7 +44,8 @@ At store id Holds = (source : Source) → slice_get store.sources id.0 ≡ Some 
 -- a source came behind the others, which are as they were but for their room
 pub record Declares (old new : StoreState) (name root : List ℕ) (key : Key) : Type 0 where
   pub changes : new.changes ≡ old.changes
-  pub sources : map without_room new.sources ≡ map without_room old.sources ++ declared name root key ∷ []
+  pub sources : map without_room new.sources ≡ map without_room old.sources
+      ++ declared name root key ∷ []
 
 -- nothing changed but the room of sources
 pub record IsAlike (old new : StoreState) : Type 0 where
@@ -57,7 +60,8 @@ HasRoom store change = At store change.source (λ source. length change.entries 
 pub record IsCommitted (old : StoreState) (change : ChangeState) (new : StoreState) : Type 0 where
   pub changes : new.changes ≡ old.changes + 1
   pub sources : At old change.source (λ s.
-      (t : Source) × (new.sources ≡ slice_set old.sources change.source.0 t) × Follows s t change.entries new.changes)
+      (t : Source) × (new.sources ≡ slice_set old.sources change.source.0 t)
+      × Follows s t change.entries new.changes)
 
 -- what an answer tells of the trial of a change to the source at this place
 abbrev pub TellsChange : Result ChangeState ChangeError → ℕ → Trial (List Entry) → Type 0

@@ -13,8 +13,9 @@ use Rattle.ncq_source.specs.contracts.key.Key.{the_row as key_row}
 use Rattle.ncq_source.specs.Changes.{after}
 use Rattle.ncq_source.specs.Held.{map_of, Kept, kept_code}
 
--- a source: its name, the tag of its root, the rule of its keys, its elements by their keys, and the number of its last change;
--- the order in which the elements are shown, and how many more of them need no memory
+-- a source: its name, the tag of its root, the rule of its keys, its elements by their keys, and
+-- the number of its last change; the order in which the elements are shown, and how many more of
+-- them need no memory
 pub record Source : Type 0 where
   pub name : List ℕ
   pub root : List ℕ
@@ -30,8 +31,10 @@ Parts = List ℕ × (List ℕ × (Key × (Kept × (ℕ × (List (List ℕ × Ele
 
 abbrev pub source_code : Coded Source
 source_code = code_by Parts
-    (coded× (coded_list coded_ℕ) (coded× (coded_list coded_ℕ) (coded× key_row.coded (coded× kept_code
-    (coded× coded_ℕ (coded× (coded_list (coded× (coded_list coded_ℕ) element_row.coded)) coded_ℕ))))))
+    (coded× (coded_list coded_ℕ) (coded× (coded_list coded_ℕ)
+    (coded× key_row.coded (coded× kept_code
+    (coded× coded_ℕ (coded× (coded_list (coded× (coded_list coded_ℕ) element_row.coded))
+    coded_ℕ))))))
     (λ s. (s.name, (s.root, (s.key, (s.elements, (s.last, (s.shown, s.room)))))))
     (λ p. record {
       name = p.0;
@@ -51,7 +54,15 @@ pub record ShowsEach (source : Source) : Type 0 where
 
 -- a source that was declared and not changed yet
 abbrev pub declared : List ℕ → List ℕ → Key → Source
-declared name root key = record { name = name; root = root; key = key; elements = empty; last = 0; shown = []; room = 0 }
+declared name root key = record {
+  name = name;
+  root = root;
+  key = key;
+  elements = empty;
+  last = 0;
+  shown = [];
+  room = 0;
+}
 
 -- a source, but for its room
 abbrev pub without_room : Source → Source

@@ -7,8 +7,9 @@ use std::alloc::{AllocError, Global};
 use std::marker::Model;
 use thiserror::Error;
 
-/// What one item does to its key: the element that the key holds after the items before it, if any, and the element
-/// that it holds after the item, if any. A put has an `after`, which is proper where the item is; a removal has a
+/// What one item does to its key: the element that the key holds after the items before it, if any,
+/// and the element that it holds after the item, if any. A put has an `after`, which is proper
+/// where the item is; a removal has a
 /// `before` and no `after`.
 #[derive(Drop)]
 pub struct Entry {
@@ -24,8 +25,8 @@ pub type Entries = Sequence<Entry>;
 #[derive(Clone, Copy, Debug, PartialEq, Eq)]
 pub struct SourceId(pub usize);
 
-/// What items do to a source, prepared: the source, and one entry for each item. `Store::prepare` makes it, and contracts
-/// see it as the two.
+/// What items do to a source, prepared: the source, and one entry for each item. `Store::prepare`
+/// makes it, and contracts see it as the two.
 #[derive(Drop)]
 pub struct Change {
     source: SourceId,
@@ -77,12 +78,12 @@ pub enum ChangeError {
     /// No source has the name.
     #[error("no such source")]
     NoSource,
-    /// The item at the position is the first that cannot be applied: it puts an element that has not exactly one key
-    /// value that is not empty.
+    /// The item at the position is the first that cannot be applied: it puts an element that has
+    /// not exactly one key value that is not empty.
     #[error("item {position} has no key")]
     BadKey { position: u64 },
-    /// The item at the position is the first that cannot be applied: it removes a key that holds no element after the
-    /// items before it.
+    /// The item at the position is the first that cannot be applied: it removes a key that holds no
+    /// element after the items before it.
     #[error("item {position} removes a key that is not there")]
     NoSuchKey { position: u64 },
     /// Memory ran out; this may come at any call.

@@ -8,8 +8,9 @@ use ncq_base::{Bytes, Copied};
 use ncq_tree::{Attribute, Element, Node, string_value};
 use std::alloc::{AllocError, Global};
 
-/// Where the key of an element stands: it is the string value of its one direct child of this name, or the value of its
-/// attribute of this name, left as it is. Names are compared byte by byte; the element's own tag is free.
+/// Where the key of an element stands: it is the string value of its one direct child of this name,
+/// or the value of its attribute of this name, left as it is. Names are compared byte by byte; the
+/// element's own tag is free.
 #[derive(Debug, Drop)]
 pub enum Key {
     /// The one direct child of this name.
@@ -18,7 +19,8 @@ pub enum Key {
     Attribute(Bytes),
 }
 
-/// The element's one key value: none exactly where it has no key value, or two or more, be they equal, or an empty one.
+/// The element's one key value: none exactly where it has no key value, or two or more, be they
+/// equal, or an empty one.
 pub fn key_of(alloc: Global, rule: &Key, element: &Element) -> Result<Option<Bytes>, AllocError>
     ensures { IfOk result (λ key. key ≡ key_of rule.now element.now) }
 {

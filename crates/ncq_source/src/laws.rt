@@ -1,5 +1,6 @@
 //! Laws of changes, keys and stores: each function's contract is the law, and it does nothing.
-ghost use Rattle.std.specs.Prelude.{◌≡◌, ◌≢◌, ◌<◌, ◌↔◌, ◌++◌, ℕ, Bool, List, Some, None, length, map, slice_get};
+ghost use Rattle.std.specs.Prelude.{◌≡◌, ◌≢◌, ◌<◌, ◌↔◌, ◌++◌, ℕ, Bool, List, Some, None, length};
+ghost use Rattle.std.specs.Prelude.{map, slice_get};
 ghost use Rattle.std.specs.List.{Contains};
 ghost use Rattle.std.specs.FinMap.{get, entries};
 ghost use Rattle.ncq_base.specs.Keys.{times};
@@ -19,8 +20,9 @@ pub fn entries_are_the_fold()
         → (after kept es ≡ store_after rule kept items) × Chains kept es }
 {}
 
-/// A change that was prepared, given room and committed leaves its source with the elements after the items, and every
-/// other source as it was; items taken in two changes lead where they lead in one.
+/// A change that was prepared, given room and committed leaves its source with the elements after
+/// the items, and every other source as it was; items taken in two changes lead where they lead in
+/// one.
 pub fn changes_are_the_fold()
     ensures applied { (store ready done : StoreState) (change : ChangeState) (items : List Item)
         (s t : Source) → slice_get store.sources change.source.0 ≡ Some s
@@ -37,9 +39,9 @@ pub fn changes_are_the_fold()
         ≡ store_after rule (store_after rule kept first) second }
 {}
 
-/// The elements that a source shows are those of its map, each key's once: a key holds an element exactly where the two
-/// are shown, and every test passes as often among the one as among the other. A name is not found exactly where no
-/// source has it.
+/// The elements that a source shows are those of its map, each key's once: a key holds an element
+/// exactly where the two are shown, and every test passes as often among the one as among the
+/// other. A name is not found exactly where no source has it.
 pub fn stores_show_their_sources()
     ensures pairs { (source : Source) → ShowsEach source → (key : List ℕ) (element : Element)
         → get source.elements key ≡ Some element ↔ Contains source.shown (key, element) }

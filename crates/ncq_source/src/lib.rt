@@ -1,9 +1,9 @@
 //! Declared sources: for each its elements by their keys, and the number of its last change.
-//! Items to put and to remove come in, and go out as a prepared change: an entry for each item with what its key held
-//! and holds, or the first item that cannot be applied.
-//! A change is prepared, given room and committed. Preparing and giving room change no element; the commit takes no memory
-//! and cannot be refused. So each source is the fold of the changes committed to it, item by item, and a refused change
-//! leaves no trace.
+//! Items to put and to remove come in, and go out as a prepared change: an entry for each item with
+//! what its key held and holds, or the first item that cannot be applied.
+//! A change is prepared, given room and committed. Preparing and giving room change no element; the
+//! commit takes no memory and cannot be refused. So each source is the fold of the changes
+//! committed to it, item by item, and a refused change leaves no trace.
 //! Names are unique, and an element stands under the key that the rule of its source gave it.
 #![tactic(auto)]
 

@@ -15,8 +15,8 @@ use ncq_pyx::{Item, Items};
 use ncq_tree::Element;
 use std::alloc::{AllocError, Global};
 
-/// One entry for each item, in order, or the first item that cannot be applied, seen through the items before it.
-/// No element of the source is looked at but those under the keys of the items.
+/// One entry for each item, in order, or the first item that cannot be applied, seen through the
+/// items before it. No element of the source is looked at but those under the keys of the items.
 pub(crate) fn prepare(
     alloc: Global,
     rule: &Key,

@@ -1,5 +1,6 @@
 //! The store: sources that are declared, looked at and changed.
-ghost use Rattle.std.specs.Prelude.{◌≡◌, ◌<◌, ◌-◌, ◌^◌, ◌↔◌, [], length, map, slice_get, Some, None, Err, IfOk, OnOk, OnErr, IsSome, true};
+ghost use Rattle.std.specs.Prelude.{◌≡◌, ◌<◌, ◌-◌, ◌^◌, ◌↔◌, [], length, map, slice_get, Some};
+ghost use Rattle.std.specs.Prelude.{None, Err, IfOk, OnOk, OnErr, IsSome, true};
 ghost use Rattle.std.specs.Option.{option_map};
 ghost use Rattle.std.specs.List.{list_all};
 ghost use Rattle.ncq_pyx.specs.Canonical.{item_is_proper};
@@ -8,7 +9,8 @@ ghost use Rattle.ncq_source.specs.Keys.{key_of};
 ghost use Rattle.ncq_source.specs.Prepared.{IsPrepared};
 ghost use Rattle.ncq_source.specs.Proper.{IsProper, IsProperStore, PutsProper};
 ghost use Rattle.ncq_source.specs.Stores.{ShowsEach};
-ghost use Rattle.ncq_source.specs.StoreStates.{At, Declares, HasRoom, IsAlike, IsCommitted, IsDeclared, TellsChange, found};
+ghost use Rattle.ncq_source.specs.StoreStates.{At, Declares, HasRoom, IsAlike, IsCommitted};
+ghost use Rattle.ncq_source.specs.StoreStates.{IsDeclared, TellsChange, found};
 ghost use Rattle.ncq_source.specs.Views.{source_of};
 
 use crate::change::{Change, ChangeError, SourceId};
@@ -25,9 +27,10 @@ use std::hash::RandomState;
 use std::marker::Model;
 use thiserror::Error;
 
-/// The declared sources in the order of declaration, and the number of changes that were committed to all of them
-/// together. Contracts see it as the two, and each source as a record: its name, its root, its key, its elements by their
-/// keys, its last change, the order in which its elements are shown, and its room.
+/// The declared sources in the order of declaration, and the number of changes that were committed
+/// to all of them together. Contracts see it as the two, and each source as a record: its name, its
+/// root, its key, its elements by their keys, its last change, the order in which its elements are
+/// shown, and its room.
 #[derive(Drop)]
 pub struct Store {
     names: Names,
@@ -72,8 +75,8 @@ impl From<AllocError> for DeclareError {
 }
 
 impl Store {
-    /// A store without sources and without changes. Its maps place keys by the seed, so that nobody who does not know it
-    /// can choose names and keys that fall together.
+    /// A store without sources and without changes. Its maps place keys by the seed, so that nobody
+    /// who does not know it can choose names and keys that fall together.
     pub fn new(alloc: Global, seed: RandomState) -> Store
         ensures empty { result ≡ record { sources = []; changes = 0 } }
         ensures proper { IsProperStore result }
@@ -107,8 +110,9 @@ impl Store {
         Some(SourceId(self.names.find(name)?))
     }
 
-    /// Declares a source without elements, whose last change is 0; it comes behind the others. `Exists` comes exactly where the
-    /// name is declared already. After an error the store is as it was.
+    /// Declares a source without elements, whose last change is 0; it comes behind the others.
+    /// `Exists` comes exactly where the name is declared already. After an error the store is as it
+    /// was.
     pub fn declare(
         &mut self,
         alloc: Global,
@@ -162,8 +166,8 @@ impl Store {
         &self.source(id).root
     }
 
-    /// The key of an element by the rule of the source: none exactly where it has not exactly one key value that is not empty.
-    /// The element need not be one of the source.
+    /// The key of an element by the rule of the source: none exactly where it has not exactly one
+    /// key value that is not empty. The element need not be one of the source.
     pub fn key_of(
         &self,
         alloc: Global,
@@ -193,8 +197,9 @@ impl Store {
         self.source(id).elements.len()
     }
 
-    /// The element at a place below the size, in an order of the store's own: from 0 to the size less 1 each element is
-    /// shown once. A commit may change the order. Where all elements of the store are proper, it is proper.
+    /// The element at a place below the size, in an order of the store's own: from 0 to the size
+    /// less 1 each element is shown once. A commit may change the order. Where all elements of the
+    /// store are proper, it is proper.
     pub fn element(&self, id: SourceId, at: usize) -> &Element
         requires id { IsDeclared self.now id }
         requires at { At self.now id (λ s. at < length s.shown) }
@@ -207,11 +212,12 @@ impl Store {
         elements.at(at)
     }
 
-    /// What the items do to the source of this name, without doing it: one entry for each item, with what its key holds
-    /// before and after. `NoSource` comes exactly where the name is not declared. Else the first item that cannot be applied,
-    /// seen through the items before it, decides: `BadKey` for a put whose element has not exactly one key value that is
-    /// not empty, `NoSuchKey` for a removal of a key that holds no element there. Positions count from 1. It keeps the
-    /// elements and keys of the items.
+    /// What the items do to the source of this name, without doing it: one entry for each item,
+    /// with what its key holds before and after. `NoSource` comes exactly where the name is not
+    /// declared. Else the first item that cannot be applied, seen through the items before it,
+    /// decides: `BadKey` for a put whose element has not exactly one key value that is not empty,
+    /// `NoSuchKey` for a removal of a key that holds no element there. Positions count from 1. It
+    /// keeps the elements and keys of the items.
     pub fn prepare(&self, alloc: Global, name: &[u8], items: Items) -> Result<Change, ChangeError>
         ensures declared { IfOk result (λ change. IsDeclared self.now change.source) }
         ensures source { IfOk result (λ change. found self.now name.now ≡ Some change.source.0) }
@@ -233,8 +239,9 @@ impl Store {
         Ok(Change::new(source, entries))
     }
 
-    /// Gives the change's source room for the elements that the change puts, so that its commit takes no memory. No element,
-    /// number or other source changes; after an error there may be more room than before, or not.
+    /// Gives the change's source room for the elements that the change puts, so that its commit
+    /// takes no memory. No element, number or other source changes; after an error there may be
+    /// more room than before, or not.
     pub fn reserve(&mut self, change: &Change) -> Result<(), AllocError>
         requires { IsDeclared self.old change.now.source }
         ensures same { IsAlike self.old self.new }
@@ -246,8 +253,8 @@ impl Store {
         self.sources[source.0].reserve(additional)
     }
 
-    /// Applies the entries of a change in order, counts the change, and makes its number the source's last. Every other source
-    /// stays as it was. It takes no memory and cannot be refused.
+    /// Applies the entries of a change in order, counts the change, and makes its number the
+    /// source's last. Every other source stays as it was. It takes no memory and cannot be refused.
     pub fn commit(&mut self, change: Change)
         requires declared { IsDeclared self.old change.source }
         requires room { HasRoom self.old change }

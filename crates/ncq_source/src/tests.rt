@@ -54,8 +54,8 @@ fn declare(
     }
 }
 
-/// A store with the sources `quotes` and `companies`, whose key is the child `Symbol`, and `c`, whose key is the
-/// attribute `id`.
+/// A store with the sources `quotes` and `companies`, whose key is the child `Symbol`, and `c`,
+/// whose key is the attribute `id`.
 fn sources(alloc: Global, seed: RandomState) -> Result<Store, AllocError> {
     let mut store = Store::new(alloc, seed);
     let _new = declare(
@@ -76,7 +76,8 @@ fn sources(alloc: Global, seed: RandomState) -> Result<Store, AllocError> {
     Ok(store)
 }
 
-/// The change that the lines ask for, prepared, given room and committed: its number, or why there is none.
+/// The change that the lines ask for, prepared, given room and committed: its number, or why there
+/// is none.
 fn deliver(alloc: Global, store: &mut Store, name: &str, text: &str) -> Result<String, AllocError> {
     if store.changes() == u64::MAX {
         return Err(AllocError);
@@ -294,7 +295,8 @@ fn an_element_is_shown_as_it_was_put(rt: HostRuntime) -> Result<(), Fail> {
     Ok(())
 }
 
-/// Three items of one key, and the string values that it has before and after each; a bar where it holds nothing.
+/// Three items of one key, and the string values that it has before and after each; a bar where it
+/// holds nothing.
 const SEEN: (&str, &[(&str, &str)]) = (
     "(Q/(Symbol/-A/)Symbol/)Q/(Q/(Symbol/-A/)Symbol/-2/)Q/!A",
     &[("|", "A"), ("A", "A 2"), ("A 2", "|")],

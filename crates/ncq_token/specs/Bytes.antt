@@ -1,5 +1,6 @@
 -- The runs of bytes that tokens are made of, and the texts in quotation marks.
-use Rattle.std.specs.Prelude.{ℕ, ◌+◌, Bool, false, ◌&&◌, ◌||◌, not, ◌==◌, if◌then◌else◌, List, [], ◌∷◌, Option, Some, None, option_map}
+use Rattle.std.specs.Prelude.{ℕ, ◌+◌, Bool, false, ◌&&◌, ◌||◌, not, ◌==◌, if◌then◌else◌, List, []}
+use Rattle.std.specs.Prelude.{◌∷◌, Option, Some, None, option_map}
 use Rattle.std.specs.List.{prefix_len}
 use Rattle.std.specs.Char.{is_ascii_digit}
 use Rattle.ncq_base.specs.Names.{is_space, is_name_start, is_name_byte, is_variable_start}
@@ -10,7 +11,8 @@ is_variable_byte b = is_variable_start b || is_ascii_digit b
 
 -- no white space and none of `<`, `>`, `=`, `"`, `$`, `,`
 abbrev pub is_word_byte : ℕ → Bool
-is_word_byte b = not (is_space b || (b == 60) || (b == 62) || (b == 61) || (b == 34) || (b == 36) || (b == 44))
+is_word_byte b = not (is_space b || (b == 60) || (b == 62) || (b == 61) || (b == 34) || (b == 36)
+    || (b == 44))
 
 -- the byte stands in front
 abbrev pub starts_with : ℕ → List ℕ → Bool
@@ -30,7 +32,8 @@ variable_len (b ∷ bytes) = if is_variable_start b then 1 + prefix_len is_varia
 -- the length of the longest word at the front, or 0: a `!` directly before `=` ends it
 abbrev pub word_len : List ℕ → ℕ
 word_len [] = 0
-word_len (b ∷ bytes) = if is_word_byte b && not ((b == 33) && starts_with 61 bytes) then 1 + word_len bytes else 0
+word_len (b ∷ bytes) =
+    if is_word_byte b && not ((b == 33) && starts_with 61 bytes) then 1 + word_len bytes else 0
 
 -- a byte in front of a quoted text
 abbrev pub with_byte : ℕ → Option (List ℕ × List ℕ) → Option (List ℕ × List ℕ)
@@ -39,7 +42,8 @@ with_byte b found = option_map (λ p. (b ∷ p.0, p.1)) found
 -- the next byte of a quoted text, and what stands behind it
 abbrev pub quoted_byte : ℕ → List ℕ → ℕ × List ℕ
 quoted_byte b [] = (b, [])
-quoted_byte b (c ∷ bytes) = if (b == 92) && ((c == 34) || (c == 92)) then (c, bytes) else (b, c ∷ bytes)
+quoted_byte b (c ∷ bytes) = if (b == 92) && ((c == 34) || (c == 92)) then (c, bytes)
+    else (b, c ∷ bytes)
 
 -- the value of a quoted text behind its first quotation mark, and what stands behind its last
 unfoldable pub quoted_at : List ℕ → Option (List ℕ × List ℕ)

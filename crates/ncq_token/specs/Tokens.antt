@@ -1,8 +1,12 @@
 -- The tokens of a text: what stands at the front, row by row, and one behind the other.
-use Rattle.std.specs.Prelude.{◌≡◌, ◌++◌, ℕ, zero, suc, ◌+◌, ◌-◌, Bool, true, false, ◌&&◌, ◌==◌, nat_lt, if◌then◌else◌, List, [], ◌∷◌, take, length, ◌≤◌, ◌<◌, Option, Some, None, option_map, Result, Ok, Err}
+use Rattle.std.specs.Prelude.{◌≡◌, ◌++◌, ℕ, zero, suc, ◌+◌, ◌-◌, Bool, true, false, ◌&&◌, ◌==◌}
+use Rattle.std.specs.Prelude.{nat_lt, if◌then◌else◌, List, [], ◌∷◌, take, length, ◌≤◌, ◌<◌, Option}
+use Rattle.std.specs.Prelude.{Some, None, option_map, Result, Ok, Err}
 use Rattle.ncq_base.specs.declared.atom.Op.TheVariants.{Eq, Ne, Lt, Le, Gt, Ge}
 use Rattle.ncq_token.specs.declared.token.Token.{Token}
-use Rattle.ncq_token.specs.declared.token.Token.TheVariants.{TagStart, TagEnd, TagClose, EmptyClose, Name, Variable, Quoted, Word, Cmp, Comma}
+use Rattle.ncq_token.specs.declared.token.Token.TheVariants.{TagStart, TagEnd, TagClose, EmptyClose}
+use Rattle.ncq_token.specs.declared.token.Token.TheVariants.{Name, Variable, Quoted, Word, Cmp}
+use Rattle.ncq_token.specs.declared.token.Token.TheVariants.{Comma}
 use Rattle.ncq_token.specs.declared.token.TokenError.{TokenError}
 use Rattle.ncq_token.specs.declared.token.TokenError.TheVariants.{OutOfMemory, BadByte}
 use Rattle.ncq_base.specs.Names.{is_space, is_name_start}
@@ -27,7 +31,8 @@ less_at bytes =
 
 -- behind `$`
 abbrev pub variable_at : List ℕ → Found
-variable_at bytes = let n = variable_len bytes in if nat_lt 0 n then Some (Variable (take n bytes), 1 + n) else None
+variable_at bytes = let n = variable_len bytes
+    in if nat_lt 0 n then Some (Variable (take n bytes), 1 + n) else None
 
 -- behind `"`
 abbrev pub text_at : List ℕ → Found
@@ -97,7 +102,8 @@ abbrev pub with_front : List Token → Read → Read
 with_front front (Ok tokens) = Ok (front ++ tokens)
 with_front front (Err at) = Err at
 
--- The tokens from a byte on, or the place where none stands. The first `skip` bytes are of the token before.
+-- The tokens from a byte on, or the place where none stands. The first `skip` bytes are of the
+-- token before.
 unfoldable pub tokens_from : Bool → ℕ → ℕ → List ℕ → Read
 tokens_from inside at skip [] = Ok []
 tokens_from inside at (suc skip) (b ∷ bytes) = tokens_from inside (at + 1) skip bytes
@@ -105,7 +111,8 @@ tokens_from inside at zero (b ∷ bytes) =
     if is_space b then tokens_from inside (at + 1) 0 bytes
     else (elim (token_at inside (b ∷ bytes)) [
       | None ↦ Err at
-      | Some found ↦ with_front (found.0 ∷ []) (tokens_from (inside_after inside found.0) (at + 1) (found.1 - 1) bytes)
+      | Some found ↦ with_front (found.0 ∷ [])
+          (tokens_from (inside_after inside found.0) (at + 1) (found.1 - 1) bytes)
     ])
 
 -- the tokens of a text, or the offset where no token stands

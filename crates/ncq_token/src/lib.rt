@@ -1,7 +1,7 @@
 //! The tokens of a statement.
-//! A statement's text comes in as bytes. Its tokens go out in their order, or the offset where none stands.
-//! At each place the longest token is taken; inside a tag other tokens stand than outside one.
-//! No clause says when memory runs out: a body could still answer so at any text.
+//! A statement's text comes in as bytes. Its tokens go out in their order, or the offset where none
+//! stands. At each place the longest token is taken; inside a tag other tokens stand than outside
+//! one. No clause says when memory runs out: a body could still answer so at any text.
 #![tactic(auto)]
 
 mod laws;

@@ -23,7 +23,8 @@ fn quoted_byte(first: u8, after: &[u8]) -> (u8, &[u8])
 
 /// The value of a quoted text behind its first quotation mark, and what stands behind its last.
 pub(crate) fn quoted_at(alloc: Global, bytes: &[u8]) -> Result<Option<(Bytes, &[u8])>, AllocError>
-    ensures value { IfOk result (λ found. option_map (λ p. (p.0, p.1.now)) found ≡ quoted_at bytes.now) }
+    ensures value { IfOk result (λ found. option_map (λ p. (p.0, p.1.now)) found
+        ≡ quoted_at bytes.now) }
     ensures within { IfOk result (λ found. IfSome found (λ p. length p.1.now < length bytes.now)) }
 {
     let mut value = Vec::new(alloc);

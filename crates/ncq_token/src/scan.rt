@@ -1,7 +1,8 @@
 //! How long the names and words at the front of a text are.
 ghost use Rattle.std.specs.Prelude.{◌≡◌, ◌≤◌, ◌<◌, length, take, drop, IsTrue};
 ghost use Rattle.ncq_base.specs.Names.{is_name_byte};
-ghost use Rattle.ncq_token.specs.Bytes.{is_variable_byte, is_word_byte, starts_with, name_len, variable_len, word_len};
+ghost use Rattle.ncq_token.specs.Bytes.{is_variable_byte, is_word_byte, starts_with, name_len};
+ghost use Rattle.ncq_token.specs.Bytes.{variable_len, word_len};
 ghost use Rattle.std.specs.List.{prefix_len};
 
 use ncq_base::{is_name_byte, is_name_start, is_space, is_variable_start};

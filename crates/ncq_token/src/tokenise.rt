@@ -1,7 +1,10 @@
 //! The token at the front of a text, and the tokens one after the other.
-ghost use Rattle.std.specs.Prelude.{◌≡◌, ◌↔◌, ◌≤◌, ◌<◌, ◌+◌, ℕ, List, false, true, Ok, Err, length, IfOk, IfSome, OnOk};
+ghost use Rattle.std.specs.Prelude.{◌≡◌, ◌↔◌, ◌≤◌, ◌<◌, ◌+◌, ℕ, List, false, true, Ok, Err, length};
+ghost use Rattle.std.specs.Prelude.{IfOk, IfSome, OnOk};
 ghost use Rattle.ncq_token.specs.declared.token.Token.{Token};
-ghost use Rattle.ncq_token.specs.Tokens.{Gives, tokens_of, token_at, outside_at, inside_at, inside_after, less_at, variable_at, text_at, word_at, name_at, starts_name, IsWithin};
+ghost use Rattle.ncq_token.specs.Tokens.{Gives, tokens_of, token_at, outside_at, inside_at};
+ghost use Rattle.ncq_token.specs.Tokens.{inside_after, less_at, variable_at, text_at, word_at};
+ghost use Rattle.ncq_token.specs.Tokens.{name_at, starts_name, IsWithin};
 
 use crate::quoted::quoted_at;
 use crate::scan::{front_of, name_len, rest_of, starts_with, variable_len, word_len};
@@ -150,9 +153,11 @@ fn inside_after(inside: bool, token: &Token) -> bool
 
 /// The tokens of a statement's text, in their order.
 ///
-/// The text begins outside a tag. White space between tokens is skipped, and the longest token is taken.
-/// `BadByte` comes exactly where no token stands at the offset `at`, counted from 0, behind the tokens before it:
-/// at a byte that begins none, a `$` without the name of a variable, or a quotation mark that is not closed.
+/// The text begins outside a tag. White space between tokens is skipped, and the longest token is
+/// taken.
+/// `BadByte` comes exactly where no token stands at the offset `at`, counted from 0, behind the
+/// tokens before it: at a byte that begins none, a `$` without the name of a variable, or a
+/// quotation mark that is not closed.
 pub fn tokens(alloc: Global, text: &[u8]) -> Result<TokenItems, TokenError>
     ensures exact { Gives result (tokens_of text.now) }
 {

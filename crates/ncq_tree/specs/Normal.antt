@@ -1,5 +1,7 @@
 -- Normal forests, and the normal form of a forest.
-use Rattle.std.specs.Prelude.{ℕ, ◌-◌, Bool, true, false, ◌&&◌, not, nat_eq, nat_lt, if◌then◌else◌, List, [], ◌∷◌, ◌++◌, take, drop, length, map, slice_index, Option, Some, None}
+use Rattle.std.specs.Prelude.{ℕ, ◌-◌, Bool, true, false, ◌&&◌, not, nat_eq, nat_lt, if◌then◌else◌}
+use Rattle.std.specs.Prelude.{List, [], ◌∷◌, ◌++◌, take, drop, length, map, slice_index, Option}
+use Rattle.std.specs.Prelude.{Some, None}
 use Rattle.std.specs.List.{list_all, list_any, prefix_len, suffix_len}
 use Rattle.std.specs.Ordering.{nat_cmp, is_lt}
 use Rattle.std.specs.Cmp.Lexicographic.{slice_cmp}
@@ -13,7 +15,8 @@ use Rattle.ncq_tree.specs.Nodes.{by_nodes}
 
 -- not empty, and no white space at its ends
 abbrev pub is_trim : List ℕ → Bool
-is_trim text = nat_lt 0 (length text) && not (is_space (slice_index text 0)) && not (is_space (slice_index text (length text - 1)))
+is_trim text = nat_lt 0 (length text) && not (is_space (slice_index text 0))
+    && not (is_space (slice_index text (length text - 1)))
 
 -- whether the node is a text
 abbrev pub is_text : Node → Bool
@@ -23,7 +26,8 @@ is_text (Element' name attributes shape row) = false
 -- no two texts are adjacent, and the first is none behind a text
 abbrev pub are_apart_behind : Bool → List Node → Bool
 are_apart_behind text [] = true
-are_apart_behind text (node ∷ more) = not (text && is_text node) && are_apart_behind (is_text node) more
+are_apart_behind text (node ∷ more) = not (text && is_text node)
+    && are_apart_behind (is_text node) more
 
 -- no two texts are adjacent
 abbrev pub are_apart : List Node → Bool
@@ -37,7 +41,8 @@ is_before (Some last) name = is_lt (slice_cmp nat_cmp last name)
 -- each name stands before the next, and the first behind this name, where there is one
 abbrev pub are_rising_behind : Option (List ℕ) → List Attribute → Bool
 are_rising_behind last [] = true
-are_rising_behind last (attribute ∷ more) = is_before last attribute.name && are_rising_behind (Some attribute.name) more
+are_rising_behind last (attribute ∷ more) = is_before last attribute.name
+    && are_rising_behind (Some attribute.name) more
 
 -- sorted by name, and no name twice
 abbrev pub are_rising : List Attribute → Bool
@@ -45,7 +50,8 @@ are_rising = are_rising_behind None
 
 -- an element whose children are given, each with whether it is normal
 abbrev pub element_is_normal : List ℕ → List Attribute → List (Node × Bool) → Bool
-element_is_normal name attributes below = are_rising attributes && (are_apart (map (λ p. p.0) below) && list_all (λ p. p.1) below)
+element_is_normal name attributes below = are_rising attributes
+    && (are_apart (map (λ p. p.0) below) && list_all (λ p. p.1) below)
 
 -- a text that is trimmed, or an element that is normal at every depth
 abbrev pub node_is_normal : Node → Bool
@@ -57,7 +63,8 @@ is_normal forest = are_apart forest && list_all node_is_normal forest
 
 -- white space taken off both ends
 abbrev pub trimmed : List ℕ → List ℕ
-trimmed text = let front = drop (prefix_len is_space text) text in take (length front - suffix_len is_space front) front
+trimmed text = let front = drop (prefix_len is_space text) text
+    in take (length front - suffix_len is_space front) front
 
 -- the one text, or nothing in place of an empty one
 abbrev pub text_nodes : List ℕ → List Node
@@ -82,7 +89,8 @@ not_before name attribute = not (is_lt (slice_cmp nat_cmp name attribute.name))
 -- the attribute put in front of the first whose name is greater
 abbrev pub insert_by_name : Attribute → List Attribute → List Attribute
 insert_by_name a [] = a ∷ []
-insert_by_name a (b ∷ more) = if not_before a.name b then b ∷ insert_by_name a more else a ∷ b ∷ more
+insert_by_name a (b ∷ more) = if not_before a.name b then b ∷ insert_by_name a more
+    else a ∷ b ∷ more
 
 -- the attributes put one by one into those that are sorted already
 abbrev pub sorted_onto : List Attribute → List Attribute → List Attribute
@@ -96,7 +104,11 @@ sorted = sorted_onto []
 -- an element with its attributes sorted and its children in normal form
 abbrev pub normal_element : List ℕ → List Attribute → List (Node × Node) → Node
 normal_element name attributes below =
-    Element (record { name = name; attributes = sorted attributes; children = tidy (map (λ p. p.1) below) })
+    Element (record {
+      name = name;
+      attributes = sorted attributes;
+      children = tidy (map (λ p. p.1) below);
+    })
 
 -- a text as it is, or the normal form of an element
 abbrev pub normal_of : Node → Node
@@ -108,7 +120,11 @@ normal forest = tidy (map normal_of forest)
 
 -- the normal form of an element
 abbrev pub whole_normal : one_element.Element → one_element.Element
-whole_normal e = record { name = e.name; attributes = sorted e.attributes; children = normal e.children }
+whole_normal e = record {
+  name = e.name;
+  attributes = sorted e.attributes;
+  children = normal e.children;
+}
 
 -- one of the attributes has this name
 abbrev pub has_name : List Attribute → List ℕ → Bool

@@ -6,8 +6,8 @@ ghost use Rattle.ncq_tree.specs.Normal.{is_trim, are_apart, are_rising, is_norma
 use crate::model::{Attribute, Forest, Node};
 use ncq_base::{Bytes, is_space};
 
-/// Whether the forest is normal at every depth: attributes rise by name, no two texts are adjacent, and each text
-/// is non-empty with no white space at its ends.
+/// Whether the forest is normal at every depth: attributes rise by name, no two texts are adjacent,
+/// and each text is non-empty with no white space at its ends.
 #[cycle(normal)]
 pub fn is_normal(forest: &Forest) -> bool
     ensures { result ≡ is_normal forest.now }

@@ -16,7 +16,8 @@ pub fn normal_stays()
 
 /// The law of `normal`: where no element has two attributes of one name, the normal form is normal.
 pub fn normal_is_made()
-    ensures { (forest : List Node) → list_all node_is_distinct forest ≡ true → is_normal (normal forest) ≡ true }
+    ensures { (forest : List Node) → list_all node_is_distinct forest ≡ true
+        → is_normal (normal forest) ≡ true }
 {}
 
 /// The law of `order`: it is total, and it answers `Equal` for equal forests alone.

@@ -1,7 +1,8 @@
-//! Documents as trees: texts and elements with attributes, their normal form and their string value.
-//! What comes in are forests of any kind, as a block of lines spells them; what goes out are their normal forms,
-//! copies, the joined texts, and how two of them are ordered.
-//! Two forests are equal exactly where contracts see the same nodes, and a normal forest is its own normal form.
+//! Documents as trees: texts and elements with attributes, their normal form and their string
+//! value. What comes in are forests of any kind, as a block of lines spells them; what goes out are
+//! their normal forms, copies, the joined texts, and how two of them are ordered.
+//! Two forests are equal exactly where contracts see the same nodes, and a normal forest is its own
+//! normal form.
 //! `is_same` may as well be asked the other way round: equality is symmetric.
 #![tactic(auto)]
 

@@ -1,7 +1,8 @@
 //! Nodes, elements and attributes.
 use ncq_base::{Bytes, Sequence};
 
-/// An attribute of an element: a name and a value, each any bytes. They are ordered by name, then by value.
+/// An attribute of an element: a name and a value, each any bytes. They are ordered by name, then
+/// by value.
 #[derive(Debug, PartialEq, Eq, PartialOrd, Ord, Hash, Drop)]
 pub struct Attribute {
     pub name: Bytes,
@@ -19,7 +20,8 @@ pub enum Node {
     Element(Element),
 }
 
-/// An element with its tag, its attributes and its children. They are ordered by these three in turn.
+/// An element with its tag, its attributes and its children. They are ordered by these three in
+/// turn.
 #[cycle(tree)]
 #[derive(PartialEq, Eq, PartialOrd, Ord, Hash, Drop)]
 pub struct Element {

@@ -2,7 +2,8 @@
 ghost use Rattle.std.specs.Prelude.{◌≡◌, List, ◌∷◌, ◌++◌, ◌≤◌, length, true, IfOk, OnOk};
 ghost use Rattle.ncq_tree.specs.declared.model.Node.{Node};
 ghost use Rattle.ncq_base.specs.Names.{is_space};
-ghost use Rattle.ncq_tree.specs.Normal.{is_normal, normal, normal_of, tidy_behind, trimmed, text_nodes, sorted, whole_normal, node_is_distinct};
+ghost use Rattle.ncq_tree.specs.Normal.{is_normal, normal, normal_of, tidy_behind, trimmed};
+ghost use Rattle.ncq_tree.specs.Normal.{text_nodes, sorted, whole_normal, node_is_distinct};
 ghost use Rattle.ncq_tree.specs.declared.model.Node.TheVariants.{Element as element_node};
 ghost use Rattle.std.specs.List.{list_all, prefix_len, suffix_len};
 
@@ -10,9 +11,10 @@ use crate::model::{Attributes, Element, Forest, Node};
 use ncq_base::{Bytes, bytes_of, is_space};
 use std::alloc::{AllocError, Global};
 
-/// The normal form: at every depth the attributes sorted by name, adjacent texts merged with nothing
-/// between them, white space taken off the ends of each merged text, and empty texts dropped. Values
-/// of attributes stay. What is normal already is moved. The only error is want of memory.
+/// The normal form: at every depth the attributes sorted by name, adjacent texts merged with
+/// nothing between them, white space taken off the ends of each merged text, and empty texts
+/// dropped. Values of attributes stay. What is normal already is moved. The only error is want of
+/// memory.
 #[cycle(normalize)]
 pub fn normal(alloc: Global, forest: Forest) -> Result<Forest, AllocError>
     ensures { IfOk result (λ f. f ≡ normal forest) }

@@ -6,8 +6,8 @@ use crate::model::{Forest, Node};
 use ncq_base::{Bytes, Copied};
 use std::alloc::{AllocError, Global};
 
-/// The texts of the forest in document order, joined by one space; an element without text adds none.
-/// One text is its own string value. The only error is want of memory.
+/// The texts of the forest in document order, joined by one space; an element without text adds
+/// none. One text is its own string value. The only error is want of memory.
 pub fn string_value(alloc: Global, forest: &Forest) -> Result<Bytes, AllocError>
     ensures { IfOk result (λ b. b ≡ string_value forest.now) }
 {
@@ -22,10 +22,12 @@ pub fn string_value(alloc: Global, forest: &Forest) -> Result<Bytes, AllocError>
     Ok(Bytes::from_vec(out))
 }
 
-/// Appends the texts of the forest, behind other texts or not, and tells whether any text stands there now.
+/// Appends the texts of the forest, behind other texts or not, and tells whether any text stands
+/// there now.
 #[cycle(texts)]
 fn append_forest(forest: &Forest, mut behind: bool, out: &mut Vec<u8>) -> Result<bool, AllocError>
-    ensures bytes { IfOk result (λ r. out.new.items ≡ out.old.items ++ following behind (texts forest.now)) }
+    ensures bytes { IfOk result (λ r. out.new.items ≡ out.old.items
+        ++ following behind (texts forest.now)) }
     ensures behind { IfOk result (λ r. r ≡ has_text behind (texts forest.now)) }
 {
     for node in forest.as_slice() {
@@ -38,7 +40,8 @@ fn append_forest(forest: &Forest, mut behind: bool, out: &mut Vec<u8>) -> Result
 #[cycle(texts)]
 #[tactic(auto, using(crate::proofs::Texts::texts_are))]
 fn append_node(node: &Node, behind: bool, out: &mut Vec<u8>) -> Result<bool, AllocError>
-    ensures bytes { IfOk result (λ r. out.new.items ≡ out.old.items ++ following behind (texts_of node.now)) }
+    ensures bytes { IfOk result (λ r. out.new.items ≡ out.old.items
+        ++ following behind (texts_of node.now)) }
     ensures behind { IfOk result (λ r. r ≡ has_text behind (texts_of node.now)) }
 {
     match node {

@@ -1,5 +1,6 @@
 -- Reading the items of a query: matches and conditions.
-use Rattle.std.specs.Prelude.{ℕ, Bool, true, false, ◌||◌, not, if◌then◌else◌, List, [], ◌∷◌, Some, None, codes}
+use Rattle.std.specs.Prelude.{ℕ, Bool, true, false, ◌||◌, not, if◌then◌else◌, List, [], ◌∷◌, Some}
+use Rattle.std.specs.Prelude.{None, codes}
 use Rattle.ncq_base.specs.declared.atom.Op.{Op}
 use Rattle.ncq_token.specs.declared.token.Token.{Token}
 use Rattle.ncq_token.specs.declared.token.Token.TheVariants.{Variable, Quoted, Word, Cmp, Comma}
@@ -8,7 +9,8 @@ use Rattle.ncq_xmlql.specs.declared.model.Operand.TheVariants as operand
 use Rattle.ncq_xmlql.specs.declared.model.Pattern.{Pattern}
 use Rattle.ncq_xmlql.specs.declared.model.QueryItem.{QueryItem}
 use Rattle.ncq_xmlql.specs.declared.model.QueryItem.TheVariants.{Match, Condition}
-use Rattle.ncq_xmlql.specs.Reading.{Read, ◌>>=◌, is_keyword, checked, tag_at, end_close_at, end_at, starts_tag, many, pattern_at}
+use Rattle.ncq_xmlql.specs.Reading.{Read, ◌>>=◌, is_keyword, checked, tag_at, end_close_at, end_at}
+use Rattle.ncq_xmlql.specs.Reading.{starts_tag, many, pattern_at}
 
 abbrev pub literal_at : List Token → Read (List ℕ)
 literal_at ((Quoted text) ∷ rest) = Some (text, rest)
@@ -54,7 +56,8 @@ condition_at tokens = do
   left ← operand_at tokens
   op ← op_at left.1
   right ← operand_at op.1
-  checked (is_variable left.0 || is_variable right.0) (Some (Condition left.0 op.0 right.0, right.1))
+  checked (is_variable left.0 || is_variable right.0)
+      (Some (Condition left.0 op.0 right.0, right.1))
 
 abbrev pub item_at : ℕ → List Token → Read QueryItem
 item_at depth tokens = if starts_tag tokens then match_at depth tokens else condition_at tokens

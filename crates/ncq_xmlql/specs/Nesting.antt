@@ -3,7 +3,8 @@ use Rattle.std.specs.Prelude.{◌+◌, ◌-◌, max, ℕ, List, [], ◌∷◌}
 use Rattle.ncq_token.specs.declared.token.Token.{Token}
 use Rattle.ncq_token.specs.declared.token.Token.TheVariants.{TagStart, TagEnd, EmptyClose}
 
--- how deep it is behind a token: a tag that begins adds 1, the end of one takes 1 away, never below 0
+-- how deep it is behind a token: a tag that begins adds 1, the end of one takes 1 away, never below
+-- 0
 abbrev pub depth_after : ℕ → Token → ℕ
 depth_after n TagStart = n + 1
 depth_after n EmptyClose = n - 1

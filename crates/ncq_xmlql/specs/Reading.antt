@@ -1,11 +1,15 @@
--- Reading patterns from the front of a token list. The code reads by these; the grammar is apart from them.
-use Rattle.std.specs.Prelude.{◌≡◌, ◌++◌, ℕ, zero, suc, Bool, true, false, ◌&&◌, not, if◌then◌else◌, List, [], ◌∷◌, length, map, Option, Some, None, Result, Ok, Err, codes}
+-- Reading patterns from the front of a token list. The code reads by these; the grammar is apart
+-- from them.
+use Rattle.std.specs.Prelude.{◌≡◌, ◌++◌, ℕ, zero, suc, Bool, true, false, ◌&&◌, not, if◌then◌else◌}
+use Rattle.std.specs.Prelude.{List, [], ◌∷◌, length, map, Option, Some, None, Result, Ok, Err}
+use Rattle.std.specs.Prelude.{codes}
 use Rattle.std.specs.List.{list_any}
 use Rattle.std.specs.Option.{option_and_then}
 use Rattle.std.specs.Str.{bytes_eq, str_eq_ignore_ascii_case}
 use Rattle.ncq_base.specs.declared.atom.Op.TheVariants.{Eq}
 use Rattle.ncq_token.specs.declared.token.Token.{Token}
-use Rattle.ncq_token.specs.declared.token.Token.TheVariants.{TagStart, TagEnd, TagClose, EmptyClose, Name, Variable, Quoted, Word, Cmp}
+use Rattle.ncq_token.specs.declared.token.Token.TheVariants.{TagStart, TagEnd, TagClose, EmptyClose}
+use Rattle.ncq_token.specs.declared.token.Token.TheVariants.{Name, Variable, Quoted, Word, Cmp}
 use Rattle.ncq_xmlql.specs.declared.model.Operand.{Operand}
 use Rattle.ncq_xmlql.specs.declared.model.Operand.TheVariants as operand
 use Rattle.ncq_xmlql.specs.declared.model.PatternAttribute.{PatternAttribute}
@@ -50,13 +54,17 @@ value_at ((Cmp Eq) ∷ (Quoted text) ∷ rest) = Some (operand.Literal text, res
 value_at ((Cmp Eq) ∷ (Variable x) ∷ rest) = Some (operand.Variable x, rest)
 value_at tokens = None
 
-abbrev pub with_attribute : List ℕ → Operand → Read (List PatternAttribute) → Read (List PatternAttribute)
-with_attribute name value more = more >>= λ m. Some (record { name = name; value = value } ∷ m.0, m.1)
+abbrev pub with_attribute : List ℕ → Operand → Read (List PatternAttribute)
+    → Read (List PatternAttribute)
+with_attribute name value more
+    = more >>= λ m. Some (record { name = name; value = value } ∷ m.0, m.1)
 
 -- the attributes, up to what is no name
 unfoldable pub attributes_at : List Token → Read (List PatternAttribute)
-attributes_at ((Name name) ∷ (Cmp Eq) ∷ (Quoted text) ∷ rest) = with_attribute name (operand.Literal text) (attributes_at rest)
-attributes_at ((Name name) ∷ (Cmp Eq) ∷ (Variable x) ∷ rest) = with_attribute name (operand.Variable x) (attributes_at rest)
+attributes_at ((Name name) ∷ (Cmp Eq) ∷ (Quoted text) ∷ rest)
+    = with_attribute name (operand.Literal text) (attributes_at rest)
+attributes_at ((Name name) ∷ (Cmp Eq) ∷ (Variable x) ∷ rest)
+    = with_attribute name (operand.Variable x) (attributes_at rest)
 attributes_at ((Name name) ∷ rest) = None
 attributes_at tokens = Some ([], tokens)
 
@@ -119,8 +127,10 @@ end_at tag tokens = None
 
 unfoldable pub suffix_at : List Token → Read Suffix
 suffix_at ((Word word) ∷ rest) =
-    if is_keyword (codes "element_as") word then (variable_at rest >>= λ x. Some (ElementAs x.0, x.1))
-    else (if is_keyword (codes "content_as") word then (variable_at rest >>= λ x. Some (ContentAs x.0, x.1))
+    if is_keyword (codes "element_as") word then
+    (variable_at rest >>= λ x. Some (ElementAs x.0, x.1))
+    else (if is_keyword (codes "content_as") word then
+    (variable_at rest >>= λ x. Some (ContentAs x.0, x.1))
     else Some (Plain, Word word ∷ rest))
 suffix_at tokens = Some (Plain, tokens)
 
@@ -137,27 +147,33 @@ abbrev pub starts_tag : List Token → Bool
 starts_tag (TagStart ∷ rest) = true
 starts_tag tokens = false
 
--- one behind the other, as long as one starts. The number bounds the turns: the count of the tokens is always enough
-unfoldable pub many_in : {A : Type 0} → (List Token → Bool) → (List Token → Read A) → ℕ → List Token → Read (List A)
+-- one behind the other, as long as one starts. The number bounds the turns: the count of the tokens
+-- is always enough
+unfoldable pub many_in : {A : Type 0} → (List Token → Bool) → (List Token → Read A) → ℕ → List Token
+    → Read (List A)
 many_in starts one zero tokens = Some ([], tokens)
 many_in starts one (suc turns) tokens =
     if starts tokens
-    then (one tokens >>= λ first. many_in starts one turns first.1 >>= λ more. Some (first.0 ∷ more.0, more.1))
+    then (one tokens >>= λ first. many_in starts one turns first.1 >>= λ more.
+    Some (first.0 ∷ more.0, more.1))
     else Some ([], tokens)
 
-abbrev pub many : {A : Type 0} → (List Token → Bool) → (List Token → Read A) → List Token → Read (List A)
+abbrev pub many : {A : Type 0} → (List Token → Bool) → (List Token → Read A) → List Token
+    → Read (List A)
 many starts one tokens = many_in starts one (length tokens) tokens
 
 unfoldable pub content_at : (List Token → Read Pattern) → List Token → Read Content
 content_at one ((Variable x) ∷ rest) = Some (Value (operand.Variable x), rest)
 content_at one ((Quoted text) ∷ rest) = Some (Value (operand.Literal text), rest)
-content_at one ((Word word) ∷ rest) = let more = words_at rest in Some (Value (operand.Literal (word ++ more.0)), more.1)
+content_at one ((Word word) ∷ rest) = let more = words_at rest
+    in Some (Value (operand.Literal (word ++ more.0)), more.1)
 content_at one tokens = many starts_tag one tokens >>= λ parts. Some (Parts parts.0, parts.1)
 
 abbrev pub body_at : (List Token → Read Pattern) → Tag → List Token → Read Content
 body_at one opening tokens =
     if opening.is_empty then Some (Parts [], tokens)
-    else (content_at one tokens >>= λ content. end_at opening.name content.1 >>= λ rest. Some (content.0, rest))
+    else (content_at one tokens >>= λ content. end_at opening.name content.1 >>= λ rest.
+    Some (content.0, rest))
 
 -- a pattern, whose parts are read by `one`
 unfoldable pub pattern_of : (List Token → Read Pattern) → List Token → Read Pattern
@@ -165,7 +181,15 @@ pattern_of one tokens = do
   opening ← opening_at tokens
   content ← body_at one opening.0 opening.1
   suffix ← suffix_at content.1
-  Some (record { tag = opening.0.name; attributes = opening.0.attributes; content = content.0; suffix = suffix.0 }, suffix.1)
+  Some (
+    record {
+      tag = opening.0.name;
+      attributes = opening.0.attributes;
+      content = content.0;
+      suffix = suffix.0;
+    },
+    suffix.1,
+  )
 
 -- a pattern, nested no deeper than the number
 unfoldable pub pattern_at : ℕ → List Token → Read Pattern

@@ -22,7 +22,8 @@ pub data IsComma : List Token → List Token → Type 0 where
 -- items [Comma] "construct" top
 pub data IsQuery : List Token → Query → List Token → Type 0 where
   query : {items : List QueryItem} {template : Template} {w : List ℕ} {a b c d : List Token}
-      → IsItems a items b → IsComma b (Word w ∷ c) → IsTrue (is_keyword (codes "construct") w) → IsTop c template d
+      → IsItems a items b → IsComma b (Word w ∷ c) → IsTrue (is_keyword (codes "construct") w)
+      → IsTop c template d
       → IsQuery a (record { items = items; template = template }) d
 
 -- [ Quoted | a Word other than "start", "every", "expire" ]
@@ -33,9 +34,19 @@ pub data IsArgument : List Token → Option (List ℕ) → List Token → Type 0
 
 -- "create" Word "where" items [Comma] "construct" top "do" Word [argument] times
 pub data IsSpelled : List Token → Statement → Type 0 where
-  statement : {create name where_ do_ action : List ℕ} {query : Query} {argument : Option (List ℕ)} {written : Times} {a b c : List Token}
-      → IsTrue (is_keyword (codes "create") create) → IsTrue (is_name name) → IsTrue (is_keyword (codes "where") where_)
+  statement : {create name where_ do_ action : List ℕ} {query : Query} {argument : Option (List ℕ)}
+      {written : Times} {a b c : List Token}
+      → IsTrue (is_keyword (codes "create") create) → IsTrue (is_name name)
+      → IsTrue (is_keyword (codes "where") where_)
       → IsQuery a query (Word do_ ∷ Word action ∷ b) → IsTrue (is_keyword (codes "do") do_)
       → IsArgument b argument c → AreTimes (times None None None) c written
       → IsSpelled (Word create ∷ Word name ∷ Word where_ ∷ a)
-      (record { name = name; query = query; action = lowered action; argument = argument; start = written.start; every = or_zero written.every; expire = written.expire })
+      (record {
+        name = name;
+        query = query;
+        action = lowered action;
+        argument = argument;
+        start = written.start;
+        every = or_zero written.every;
+        expire = written.expire;
+      })

@@ -22,7 +22,8 @@ title_at tokens = None
 
 -- "create", the name and "where"
 abbrev pub head_at : List Token → Read (List ℕ)
-head_at tokens = keyword_at (codes "create") tokens >>= λ a. title_at a >>= λ title. keyword_at (codes "where") title.1 >>= λ b. Some (title.0, b)
+head_at tokens = keyword_at (codes "create") tokens >>= λ a. title_at a >>= λ title.
+    keyword_at (codes "where") title.1 >>= λ b. Some (title.0, b)
 
 -- "construct", behind a comma or without one
 abbrev pub construct_at : List Token → Option (List Token)
@@ -50,7 +51,8 @@ action_at tokens = keyword_at (codes "do") tokens >>= λ a. action_word_at a
 -- the argument, or none
 abbrev pub argument_at : List Token → Read (Option (List ℕ))
 argument_at ((Quoted text) ∷ rest) = Some (Some text, rest)
-argument_at ((Word word) ∷ rest) = if is_time_word word then Some (None, Word word ∷ rest) else Some (Some word, rest)
+argument_at ((Word word) ∷ rest) = if is_time_word word then Some (None, Word word ∷ rest)
+    else Some (Some word, rest)
 argument_at tokens = Some (None, tokens)
 
 -- the written interval, or 0
@@ -65,4 +67,12 @@ statement_at tokens = do
   action ← action_at query.1
   argument ← argument_at action.1
   written ← times_from (times None None None) argument.1
-  Some (record { name = title.0; query = query.0; action = action.0; argument = argument.0; start = written.start; every = or_zero written.every; expire = written.expire })
+  Some (record {
+    name = title.0;
+    query = query.0;
+    action = action.0;
+    argument = argument.0;
+    start = written.start;
+    every = or_zero written.every;
+    expire = written.expire;
+  })

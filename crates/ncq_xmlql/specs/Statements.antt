@@ -7,7 +7,8 @@ use Rattle.ncq_token.specs.Tokens.{tokens_of}
 use Rattle.ncq_xmlql.specs.declared.model.QueryItem.{QueryItem}
 use Rattle.ncq_xmlql.specs.declared.model.Statement.{Statement}
 use Rattle.ncq_xmlql.specs.declared.statement.StatementError.{StatementError}
-use Rattle.ncq_xmlql.specs.declared.statement.StatementError.TheVariants.{NotAStatement, Limit, OutOfMemory}
+use Rattle.ncq_xmlql.specs.declared.statement.StatementError.TheVariants.{NotAStatement, Limit}
+use Rattle.ncq_xmlql.specs.declared.statement.StatementError.TheVariants.{OutOfMemory}
 use Rattle.ncq_xmlql.specs.Nesting.{nest}
 use Rattle.ncq_xmlql.specs.Counts.{arms, slots, conditions}
 use Rattle.ncq_xmlql.specs.StatementGrammar.{IsSpelled}
@@ -42,5 +43,6 @@ abbrev pub Answers : List ℕ → Result Statement StatementError → Type 0
 Answers text (Ok st) = IsStatement text st × IsShallow text × AreWithin st.query.items
 Answers text (Err NotAStatement) = ((st : Statement) → ¬ IsStatement text st) × IsShallow text
 Answers text (Err (Limit limit.Pattern)) = IsDeep text
-Answers text (Err (Limit which)) = (st : Statement) × IsStatement text st × IsShallow text × Exceed st.query.items which
+Answers text (Err (Limit which)) = (st : Statement) × IsStatement text st × IsShallow text
+    × Exceed st.query.items which
 Answers text (Err OutOfMemory) = Unit {0}

@@ -1,5 +1,6 @@
 -- The times of a statement: which are written, and what tokens write them.
-use Rattle.std.specs.Prelude.{◌≡◌, ℕ, Bool, true, false, IsTrue, if◌then◌else◌, List, [], ◌∷◌, Option, Some, None, codes}
+use Rattle.std.specs.Prelude.{◌≡◌, ℕ, Bool, true, false, IsTrue, if◌then◌else◌, List, [], ◌∷◌}
+use Rattle.std.specs.Prelude.{Option, Some, None, codes}
 use Rattle.ncq_base.specs.Numbers.{read_u64}
 use Rattle.ncq_token.specs.declared.token.Token.{Token}
 use Rattle.ncq_token.specs.declared.token.Token.TheVariants.{Word}
@@ -10,19 +11,27 @@ use Rattle.ncq_xmlql.specs.Reading.{Read, ◌>>=◌, checked, is_keyword}
 abbrev pub times : Option ℕ → Option ℕ → Option ℕ → Times
 times start every expire = record { start = start; every = every; expire = expire }
 
--- Behind the times that were written before: { "start" n | "every" n | "expire" n } up to the end, each at most once.
+-- Behind the times that were written before: { "start" n | "every" n | "expire" n } up to the end,
+-- each at most once.
 pub data AreTimes : Times → List Token → Times → Type 0 where
   no_time : {t : Times} → AreTimes t [] t
-  start : {w digits : List ℕ} {n : ℕ} {every expire : Option ℕ} {a : List Token} {t : Times} → IsTrue (is_keyword (codes "start") w) → read_u64 digits ≡ Some n
-      → AreTimes (times (Some n) every expire) a t → AreTimes (times None every expire) (Word w ∷ Word digits ∷ a) t
-  every : {w digits : List ℕ} {n : ℕ} {start expire : Option ℕ} {a : List Token} {t : Times} → IsTrue (is_keyword (codes "every") w) → read_u64 digits ≡ Some n
-      → AreTimes (times start (Some n) expire) a t → AreTimes (times start None expire) (Word w ∷ Word digits ∷ a) t
-  expire : {w digits : List ℕ} {n : ℕ} {start every : Option ℕ} {a : List Token} {t : Times} → IsTrue (is_keyword (codes "expire") w) → read_u64 digits ≡ Some n
-      → AreTimes (times start every (Some n)) a t → AreTimes (times start every None) (Word w ∷ Word digits ∷ a) t
+  start : {w digits : List ℕ} {n : ℕ} {every expire : Option ℕ} {a : List Token} {t : Times}
+      → IsTrue (is_keyword (codes "start") w) → read_u64 digits ≡ Some n
+      → AreTimes (times (Some n) every expire) a t
+      → AreTimes (times None every expire) (Word w ∷ Word digits ∷ a) t
+  every : {w digits : List ℕ} {n : ℕ} {start expire : Option ℕ} {a : List Token} {t : Times}
+      → IsTrue (is_keyword (codes "every") w) → read_u64 digits ≡ Some n
+      → AreTimes (times start (Some n) expire) a t
+      → AreTimes (times start None expire) (Word w ∷ Word digits ∷ a) t
+  expire : {w digits : List ℕ} {n : ℕ} {start every : Option ℕ} {a : List Token} {t : Times}
+      → IsTrue (is_keyword (codes "expire") w) → read_u64 digits ≡ Some n
+      → AreTimes (times start every (Some n)) a t
+      → AreTimes (times start every None) (Word w ∷ Word digits ∷ a) t
 
 -- the word of one of the three
 abbrev pub is_time_word : List ℕ → Bool
-is_time_word w = if is_keyword (codes "start") w then true else (if is_keyword (codes "every") w then true else is_keyword (codes "expire") w)
+is_time_word w = if is_keyword (codes "start") w then true
+    else (if is_keyword (codes "every") w then true else is_keyword (codes "expire") w)
 
 -- not yet written
 abbrev pub is_unset : Option ℕ → Bool
@@ -59,5 +68,6 @@ time_at t tokens = None
 -- the times that all of the tokens write
 unfoldable pub times_from : Times → List Token → Option Times
 times_from t [] = Some t
-times_from t ((Word w) ∷ (Word digits) ∷ rest) = read_u64 digits >>= λ n. with_time w n t >>= λ u. times_from u rest
+times_from t ((Word w) ∷ (Word digits) ∷ rest)
+    = read_u64 digits >>= λ n. with_time w n t >>= λ u. times_from u rest
 times_from t tokens = None

@@ -1,4 +1,5 @@
--- What holds of every statement that is spelled within the limits, whatever its names and texts are.
+-- What holds of every statement that is spelled within the limits, whatever its names and texts
+-- are.
 use Rattle.std.specs.Prelude.{◌≡◌, ◌&&◌, ◌||◌, ℕ, Bool, true, false, List, [], ◌∷◌, map}
 use Rattle.std.specs.List.{list_all}
 use Rattle.ncq_base.specs.Names.{is_pyx_name}
@@ -28,17 +29,21 @@ item_is_whole (Condition left op right) = is_variable left || is_variable right
 abbrev pub names_are_good : List (List ℕ) → Bool
 names_are_good names = list_all is_pyx_name names && all_differ names
 
--- an element has a PYX name, attributes of good names and good content; a variable and a literal are good
+-- an element has a PYX name, attributes of good names and good content; a variable and a literal
+-- are good
 abbrev pub template_layer : Template-F (Template × Bool) → Bool
 template_layer (Variable x) = true
 template_layer (Literal text) = true
-template_layer (Element tag attributes content) = is_pyx_name tag && names_are_good (map (λ a. a.name) attributes) && list_all (λ t. t.1) content
+template_layer (Element tag attributes content) = is_pyx_name tag
+    && names_are_good (map (λ a. a.name) attributes) && list_all (λ t. t.1) content
 
--- at every depth, each element has a PYX name, and so have its attributes, no two of which have one name
+-- at every depth, each element has a PYX name, and so have its attributes, no two of which have one
+-- name
 unfoldable pub template_is_good : Template → Bool
 template_is_good = para-Template Bool template_layer
 
--- The first item is a match, each item is whole, the counts are within the limits, and the template is good.
+-- The first item is a match, each item is whole, the counts are within the limits, and the template
+-- is good.
 pub record IsWellFormed (st : Statement) : Type 0 where
   pub begins : begins_with_match st.query.items ≡ true
   pub items : list_all item_is_whole st.query.items ≡ true

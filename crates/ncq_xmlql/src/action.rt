@@ -2,7 +2,8 @@
 ghost use Rattle.std.specs.Prelude.{◌≡◌, codes, map, IfOk};
 ghost use Rattle.std.specs.Char.{to_ascii_lowercase};
 ghost use Rattle.ncq_xmlql.specs.Reading.{Gives};
-ghost use Rattle.ncq_xmlql.specs.StatementReading.{keyword_at, title_at, head_at, construct_at, lowered, action_word_at, action_at, argument_at};
+ghost use Rattle.ncq_xmlql.specs.StatementReading.{keyword_at, title_at, head_at, construct_at};
+ghost use Rattle.ncq_xmlql.specs.StatementReading.{lowered, action_word_at, action_at, argument_at};
 
 use crate::keyword::is_word;
 use crate::mismatch::Mismatch;

@@ -1,7 +1,8 @@
 //! The arms, slots and conditions of a query. Each count stops at the greatest `usize`.
 ghost use Rattle.std.specs.Prelude.{◌≡◌, ◌-◌, ◌^◌, min};
 ghost use Rattle.std.specs.List.{sum_by};
-ghost use Rattle.ncq_xmlql.specs.Counts.{arms, slots, conditions, suffix_slots, content_slots, pattern_slots};
+ghost use Rattle.ncq_xmlql.specs.Counts.{arms, slots, conditions, suffix_slots, content_slots};
+ghost use Rattle.ncq_xmlql.specs.Counts.{pattern_slots};
 
 use crate::model::{Content, Pattern, QueryItem, Suffix};
 

@@ -1,7 +1,9 @@
 //! The items of a query: matches and conditions.
 ghost use Rattle.std.specs.Prelude.{◌≡◌};
 ghost use Rattle.ncq_xmlql.specs.Reading.{Gives};
-ghost use Rattle.ncq_xmlql.specs.ItemReading.{literal_at, source_at, root_at, match_at, operand_at, op_at, is_variable, has_arm, condition_at, item_at, next_item_at, starts_construct, continues, items_at};
+ghost use Rattle.ncq_xmlql.specs.ItemReading.{literal_at, source_at, root_at, match_at, operand_at};
+ghost use Rattle.ncq_xmlql.specs.ItemReading.{op_at, is_variable, has_arm, condition_at, item_at};
+ghost use Rattle.ncq_xmlql.specs.ItemReading.{next_item_at, starts_construct, continues, items_at};
 
 use crate::keyword::{is_construct, is_in};
 use crate::mismatch::Mismatch;

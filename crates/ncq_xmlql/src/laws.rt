@@ -18,10 +18,12 @@ pub fn answers_are_exact()
 
 /// No other answer to a text is right, but that memory ran out.
 pub fn one_answer()
-    ensures { (text : List ℕ) (answer : Result Statement StatementError) → Answers text answer → GivesStatement answer (statement_of text) }
+    ensures { (text : List ℕ) (answer : Result Statement StatementError) → Answers text answer
+        → GivesStatement answer (statement_of text) }
 {}
 
 /// Every statement that is spelled within the limits is well formed.
 pub fn spelled_is_well_formed()
-    ensures { (text : List ℕ) (st : Statement) → IsStatement text st → AreWithin st.query.items → IsWellFormed st }
+    ensures { (text : List ℕ) (st : Statement) → IsStatement text st → AreWithin st.query.items
+        → IsWellFormed st }
 {}

@@ -1,8 +1,9 @@
 //! The statements of continuous queries.
-//! A statement's text comes in. Its query, action and times go out as a value, or the reason why there is none.
-//! The grammar is a relation between tokens and values, apart from the code; a text spells at most one statement,
-//! and exactly those statements are answered that are spelled within the limits. `statement_of` is the answer to a text.
-//! No clause says when memory runs out: a body could still answer so at any text.
+//! A statement's text comes in. Its query, action and times go out as a value, or the reason why
+//! there is none. The grammar is a relation between tokens and values, apart from the code; a text
+//! spells at most one statement, and exactly those statements are answered that are spelled within
+//! the limits. `statement_of` is the answer to a text. No clause says when memory runs out: a body
+//! could still answer so at any text.
 #![tactic(auto)]
 
 mod action;

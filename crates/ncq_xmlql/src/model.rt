@@ -18,7 +18,8 @@ pub struct PatternAttribute {
 /// The attributes of a pattern, in the order in which they are written.
 pub type PatternAttributes = Sequence<PatternAttribute>;
 
-/// What stands between the tags of a pattern: patterns, or one literal or variable. Empty content is `Parts` without a pattern.
+/// What stands between the tags of a pattern: patterns, or one literal or variable. Empty content
+/// is `Parts` without a pattern.
 #[cycle(pattern)]
 #[derive(Drop)]
 pub enum Content {

@@ -1,7 +1,9 @@
 //! The parts of tags: names, attributes, ends, suffixes and runs of words.
 ghost use Rattle.ncq_token.specs.declared.token.Token.{Token};
 ghost use Rattle.std.specs.Prelude.{List, ℕ, ◌≡◌, ◌++◌, ◌≤◌, ◌<◌, ◌∷◌, [], length, IfOk, OnOk};
-ghost use Rattle.ncq_xmlql.specs.Reading.{Gives, value_at, attributes_at, close_at, name_at, variable_at, tag_at, opening_at, end_close_at, end_at, suffix_at, words_at, with_text};
+ghost use Rattle.ncq_xmlql.specs.Reading.{Gives, value_at, attributes_at, close_at, name_at};
+ghost use Rattle.ncq_xmlql.specs.Reading.{variable_at, tag_at, opening_at, end_close_at, end_at};
+ghost use Rattle.ncq_xmlql.specs.Reading.{suffix_at, words_at, with_text};
 
 use crate::distinct::names_differ;
 use crate::keyword::{is_content_as, is_element_as};
@@ -57,7 +59,8 @@ pub(crate) fn words_at<'a>(
     first: &Bytes,
     tokens: &'a [Token],
 ) -> Result<(Bytes, &'a [Token]), AllocError>
-    ensures { IfOk result (λ x. let found : List ℕ × List Token = (x.0, x.1.now) in found ≡ with_text first.now (words_at tokens.now)) }
+    ensures { IfOk result (λ x. let found : List ℕ × List Token = (x.0, x.1.now)
+        in found ≡ with_text first.now (words_at tokens.now)) }
 {
     let mut text = Vec::from_slice(alloc, first.as_slice())?;
     let mut rest = tokens;

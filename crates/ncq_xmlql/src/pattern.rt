@@ -1,6 +1,7 @@
 //! Patterns, which nest.
 ghost use Rattle.std.specs.Prelude.{◌≡◌, length};
-ghost use Rattle.ncq_xmlql.specs.Reading.{Gives, content_at, body_at, pattern_of, pattern_at, many, starts_tag};
+ghost use Rattle.ncq_xmlql.specs.Reading.{Gives, content_at, body_at, pattern_of, pattern_at, many};
+ghost use Rattle.ncq_xmlql.specs.Reading.{starts_tag};
 
 use crate::mismatch::Mismatch;
 use crate::model::{Content, Operand, Pattern, Patterns};
@@ -62,7 +63,8 @@ fn body_at<'a>(
     opening: &Tag,
     tokens: &'a [Token],
 ) -> Result<(Content, &'a [Token]), Mismatch>
-    ensures { Gives (λ x. (x.0, x.1.now)) result (body_at (pattern_at depth) opening.now tokens.now) }
+    ensures { Gives (λ x. (x.0, x.1.now)) result
+        (body_at (pattern_at depth) opening.now tokens.now) }
 {
     if opening.is_empty {
         return Ok((Content::Parts(Patterns::new(alloc)), tokens));

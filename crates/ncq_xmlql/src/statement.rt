@@ -25,7 +25,8 @@ const MAX_NESTING: usize = 32;
 /// How many patterns may stand directly under roots.
 const MAX_ARMS: usize = 8;
 
-/// How many attributes of patterns, contents that are a literal or a variable, and suffixes there may be.
+/// How many attributes of patterns, contents that are a literal or a variable, and suffixes there
+/// may be.
 const MAX_SLOTS: usize = 64;
 
 /// How many conditions there may be.
@@ -115,9 +116,10 @@ fn parse_tokens(alloc: Global, tokens: &[Token]) -> Result<Statement, StatementE
 
 /// The statement that a text is.
 ///
-/// The first of these that holds decides: `NotAStatement` where the text has no tokens; `Limit` with `Pattern` where its tags
-/// nest deeper than 32; `NotAStatement` where its tokens spell no statement; `Limit` with `Arms` over 8, with `Slots`
-/// over 64, with `Conditions` over 32. Else the answer is the one statement that the text spells, which is well formed.
+/// The first of these that holds decides: `NotAStatement` where the text has no tokens; `Limit`
+/// with `Pattern` where its tags nest deeper than 32; `NotAStatement` where its tokens spell no
+/// statement; `Limit` with `Arms` over 8, with `Slots` over 64, with `Conditions` over 32. Else the
+/// answer is the one statement that the text spells, which is well formed.
 #[tactic(auto, using(crate::proofs::AnswerLaws::given_is_exact), unfolding(crate::specs::Answered::statement_of))]
 pub fn parse_statement(alloc: Global, text: &[u8]) -> Result<Statement, StatementError>
     ensures exact { Answers text.now result }

@@ -1,7 +1,8 @@
 //! Templates, which nest.
 ghost use Rattle.std.specs.Prelude.{◌≡◌, map, length, IfOk};
 ghost use Rattle.ncq_xmlql.specs.Reading.{Gives, many};
-ghost use Rattle.ncq_xmlql.specs.TemplateReading.{template_attribute, starts_part, inside_at, element_of, part_of, part_at, top_at};
+ghost use Rattle.ncq_xmlql.specs.TemplateReading.{template_attribute, starts_part, inside_at};
+ghost use Rattle.ncq_xmlql.specs.TemplateReading.{element_of, part_of, part_at, top_at};
 
 use crate::mismatch::Mismatch;
 use crate::model::{
@@ -12,7 +13,8 @@ use ncq_base::Copied;
 use ncq_token::Token;
 use std::alloc::{AllocError, Global};
 
-/// The template of a query in front, whose elements nest no deeper than `depth`, and the tokens behind it.
+/// The template of a query in front, whose elements nest no deeper than `depth`, and the tokens
+/// behind it.
 #[tactic(auto, unfolding(crate::specs::TemplateReading::top_at))]
 pub(crate) fn top_at(
     alloc: Global,
@@ -55,7 +57,8 @@ fn template_attributes(
     Ok(made)
 }
 
-/// A part of an element's content in front, nested no deeper than `depth`, and the tokens behind it.
+/// A part of an element's content in front, nested no deeper than `depth`, and the tokens behind
+/// it.
 #[cycle(templates)]
 #[tactic(auto, unfolding(crate::specs::TemplateReading::part_at))]
 fn part_at(alloc: Global, depth: usize, tokens: &[Token]) -> Result<(Template, &[Token]), Mismatch>
@@ -120,7 +123,8 @@ fn inside_at<'a>(
     opening: &Tag,
     tokens: &'a [Token],
 ) -> Result<(Templates, &'a [Token]), Mismatch>
-    ensures { Gives (λ x. (x.0, x.1.now)) result (inside_at (part_at depth) opening.now tokens.now) }
+    ensures { Gives (λ x. (x.0, x.1.now)) result
+        (inside_at (part_at depth) opening.now tokens.now) }
 {
     if opening.is_empty {
         return Ok((Templates::new(alloc), tokens));

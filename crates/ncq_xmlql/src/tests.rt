@@ -26,7 +26,8 @@ fn show_operand(out: &mut Vec<u8>, operand: &Operand) -> Result<(), AllocError> 
     }
 }
 
-/// `<tag name=value(parts)>`, or `=value` in place of the parts, with `!e$x` or `!c$x` for a suffix.
+/// `<tag name=value(parts)>`, or `=value` in place of the parts, with `!e$x` or `!c$x` for a
+/// suffix.
 #[cycle(patterns)]
 fn show_pattern(out: &mut Vec<u8>, pattern: &Pattern) -> Result<(), AllocError> {
     show_bytes(out, "<", &pattern.tag, "")?;
@@ -173,7 +174,8 @@ fn answer(alloc: Global, text: &[u8]) -> Result<Vec<u8>, AllocError> {
     Ok(out)
 }
 
-/// Each text and its answer. The head stands before each of the texts, and the shown head before each answer but `none`.
+/// Each text and its answer. The head stands before each of the texts, and the shown head before
+/// each answer but `none`.
 fn expect_behind(
     rt: &impl Abort,
     alloc: Global,

@@ -1,7 +1,8 @@
 //! The times of a statement.
 ghost use Rattle.std.specs.Prelude.{◌≡◌, None};
 ghost use Rattle.ncq_xmlql.specs.Reading.{Gives};
-ghost use Rattle.ncq_xmlql.specs.Times.{times, is_time_word, with_start, with_every, with_expire, with_time, number_at, time_at, times_from};
+ghost use Rattle.ncq_xmlql.specs.Times.{times, is_time_word, with_start, with_every, with_expire};
+ghost use Rattle.ncq_xmlql.specs.Times.{with_time, number_at, time_at, times_from};
 
 use crate::keyword::{is_every, is_expire, is_start};
 use crate::mismatch::Mismatch;

@@ -10,7 +10,8 @@ use std::cmp::Ordering;
 use std::process::Abort;
 use std::test::Fail;
 
-/// A number is an optional sign, 1 to 15 digits, and optionally a point and 1 to 6 digits; it counts millionths.
+/// A number is an optional sign, 1 to 15 digits, and optionally a point and 1 to 6 digits; it
+/// counts millionths.
 const NUMBERS: &[(&str, i128)] = &[
     ("0", 0),
     ("-0", 0),
