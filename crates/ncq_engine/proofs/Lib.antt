@@ -1,0 +1,4 @@
+pub mod Lists
+pub mod HistoryLaws
+pub mod AloneLaws
+pub mod MarkLaws

@@ -1,0 +1,46 @@
+-- The notices of one subscriber, and the commands that are left without the others.
+use Rattle.std.specs.Prelude.{◌≡◌, ℕ, Bool, true, false, not, List, [], ◌∷◌, ◌++◌, Option, Some}
+use Rattle.std.specs.Prelude.{None}
+use Rattle.std.specs.List.{flat_map, filter}
+use Rattle.std.specs.Str.{bytes_eq}
+use Rattle.ncq_script.specs.declared.refusal.Refusal.{Refusal}
+use Rattle.ncq_script.specs.declared.command.Command.{Command}
+use Rattle.ncq_script.specs.declared.command.Command.TheVariants.{Declare, Delta, Create, Delete}
+use Rattle.ncq_script.specs.declared.command.Command.TheVariants.{Clock, Report, Malformed}
+use Rattle.ncq_engine.specs.History.{History, is_named}
+use Rattle.ncq_engine.specs.Notices.{Language, notice_at, told}
+use Rattle.ncq_engine.specs.Output.{first_refusal, after}
+
+-- whether the command is a create or a delete of another name
+abbrev pub is_of_another : List ℕ → Command → Bool
+is_of_another name (Create statement) = not (bytes_eq name statement.name)
+is_of_another name (Delete other) = not (bytes_eq name other)
+is_of_another name command = false
+
+-- the commands without the creates and deletes of other names
+abbrev pub only : List ℕ → List Command → List Command
+only name commands = filter (λ command. not (is_of_another name command)) commands
+
+-- a text where nothing is refused
+abbrev pub unless_refused : Option Refusal → List ℕ → List ℕ
+unless_refused None text = text
+unless_refused (Some why) text = []
+
+module _ (language : Language) where
+  -- the notices in the answer to an accepted command that are of this name
+  abbrev pub notices_of : List ℕ → History → Command → List ℕ
+  notices_of name history command
+      = flat_map (notice_at language history command)
+      (filter (λ fired. is_named name fired.1) (told history command))
+
+  -- the notices of this name in the answers to commands, joined
+  abbrev pub notes : List ℕ → History → List Command → List ℕ
+  notes name history [] = []
+  notes name history (command ∷ more) =
+      unless_refused (first_refusal language history command) (notices_of name history command)
+      ++ notes name (after language history command) more
+
+-- the notices of a name are what they are without the other subscribers
+abbrev pub StandsAlone : Type 0
+StandsAlone = (language : Language) (name : List ℕ) (commands : List Command)
+    → notes language name [] commands ≡ notes language name [] (only name commands)

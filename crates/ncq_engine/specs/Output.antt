@@ -1,0 +1,122 @@
+-- What is written for commands: the answer of each in turn.
+use Rattle.std.specs.Prelude.{ℕ, ◌+◌, Bool, true, false, not, if◌then◌else◌, nat_lt, ◌||◌, List, []}
+use Rattle.std.specs.Prelude.{◌∷◌, ◌++◌, codes, Option, Some, None, decimal}
+use Rattle.std.specs.Option.{is_some, is_none}
+use Rattle.std.specs.List.{flat_map, filter, list_any}
+use Rattle.ncq_callback.specs.declared.notice.Kind.{Kind}
+use Rattle.ncq_callback.specs.declared.notice.Kind.TheVariants.{Print, Count, MailTo}
+use Rattle.ncq_source.specs.Changes.{prepared, Trial}
+use Rattle.ncq_source.specs.Changes.Trial.{Good, NoKey, NotThere}
+use Rattle.ncq_source.specs.declared.change.Entry.{Entry}
+use Rattle.ncq_pyx.specs.declared.item.Item.{Item}
+use Rattle.ncq_xmlql.specs.declared.model.Statement.{Statement}
+use Rattle.ncq_script.specs.Refusals.{refused_text}
+use Rattle.ncq_script.specs.declared.refusal.Refusal.{Refusal}
+use Rattle.ncq_script.specs.declared.refusal.Refusal.TheVariants as refusal
+use Rattle.ncq_script.specs.declared.command.Command.{Command}
+use Rattle.ncq_script.specs.declared.command.Command.TheVariants.{Declare, Delta, Create, Delete}
+use Rattle.ncq_script.specs.declared.command.Command.TheVariants.{Clock, Report, Malformed}
+use Rattle.ncq_event.specs.Instants.{is_past, is_expired}
+use Rattle.ncq_engine.specs.History.{History, Source, now, sources, source_in, Subscription}
+use Rattle.ncq_engine.specs.History.{start_of, timing_of, is_named, live}
+use Rattle.ncq_engine.specs.Notices.{Language, kind_in, notice_at, told}
+
+-- the first of the refusals that stands
+abbrev pub or_else : Option Refusal → Option Refusal → Option Refusal
+or_else None next = next
+or_else (Some why) next = Some why
+
+abbrev pub refused_if : Bool → Refusal → Option Refusal
+refused_if true why = Some why
+refused_if false why = None
+
+-- the refusal of items whose trial is this
+abbrev pub trial_refusal : Trial (List Entry) → Option Refusal
+trial_refusal (Good entries) = None
+trial_refusal (NoKey position) = Some (refusal.Key position)
+trial_refusal (NotThere position) = Some (refusal.NoKey position)
+
+-- the refusal of a delta of this source: the first item that cannot be applied decides
+abbrev pub delta_refusal : List Item → Option Source → Option Refusal
+delta_refusal items None = Some refusal.NoSource
+delta_refusal items (Some source) = trial_refusal (prepared source.key 1 source.elements items)
+
+-- whether the kind is at odds with the argument: `mailto` needs one, `print` and `count` have none
+abbrev pub is_at_odds : Option Kind → Option (List ℕ) → Bool
+is_at_odds None argument = true
+is_at_odds (Some Print) argument = is_some argument
+is_at_odds (Some Count) argument = is_some argument
+is_at_odds (Some MailTo) argument = is_none argument
+
+-- whether the expiry is below the start, which is never below now
+abbrev pub ends_early : Statement → ℕ → Bool
+ends_early statement now = is_past statement.expire (start_of statement.start now)
+
+-- whether a live subscription has the name
+abbrev pub is_taken : List ℕ → History → Bool
+is_taken name history = list_any (is_named name) (live history)
+
+-- the line of a subscription that expires
+abbrev pub expired_line : Subscription → List ℕ
+expired_line s = codes "expired " ++ s.statement.name ++ codes "\n"
+
+-- the lines of the subscriptions that a command ends by their expiry, in the order of their install
+-- numbers
+abbrev pub expired_text : Command → History → List ℕ
+expired_text (Clock instant) history
+    = flat_map expired_line (filter (λ s. is_expired (timing_of s) instant) (live history))
+expired_text command history = []
+
+-- the history with an accepted command; a refused one changes nothing
+abbrev pub with_accepted : History → Command → Option Refusal → History
+with_accepted history command None = command ∷ history
+with_accepted history command (Some why) = history
+
+module _ (language : Language) where
+  -- the first refusal of a command after a history
+  abbrev pub first_refusal : History → Command → Option Refusal
+  first_refusal history (Declare name root key)
+      = refused_if (is_some (source_in name (sources history))) refusal.SourceExists
+  first_refusal history (Delta name items) = delta_refusal items (source_in name (sources history))
+  first_refusal history (Create statement) =
+      or_else (refused_if (is_taken statement.name history) refusal.NameTaken)
+      (or_else (language.binding statement.query (sources history))
+      (or_else (refused_if (is_at_odds
+      (kind_in statement.action language.handlers) statement.argument) refusal.Action)
+      (refused_if (ends_early statement (now history)) refusal.Times)))
+  first_refusal history (Delete name) = refused_if (not (is_taken name history)) refusal.NoName
+  first_refusal history (Clock instant) = refused_if (nat_lt instant (now history)) refusal.Clock
+  first_refusal history Report = Some refusal.Unbuilt
+  first_refusal history (Malformed why) = Some why
+
+  -- the notices of a command, by instant and then by install number
+  abbrev pub notices : History → Command → List ℕ
+  notices history command = flat_map (notice_at language history command) (told history command)
+
+  -- the answer to an accepted command with this number
+  abbrev pub accepted_text : History → ℕ → Command → List ℕ
+  accepted_text history number command =
+      decimal number ++ codes " ok\n" ++ notices history command ++ expired_text command history
+
+  abbrev pub answered : History → ℕ → Command → Option Refusal → List ℕ
+  answered history number command None = accepted_text history number command
+  answered history number command (Some why) = refused_text number why
+
+  -- the answer to the command with this number
+  unfoldable pub output : History → ℕ → Command → List ℕ
+  output history number command = answered history number command (first_refusal history command)
+
+  -- the history after a command: a refused one changes nothing
+  unfoldable pub after : History → Command → History
+  after history command = with_accepted history command (first_refusal history command)
+
+  -- the answers to commands, the first with this number
+  abbrev pub out_of : History → ℕ → List Command → List ℕ
+  out_of history number [] = []
+  out_of history number (command ∷ more) = output history number command
+      ++ out_of (after history command) (number + 1) more
+
+  -- the history after commands
+  abbrev pub history_of : History → List Command → History
+  history_of history [] = history
+  history_of history (command ∷ more) = history_of (after history command) more
