@@ -1,1 +1,4 @@
+pub mod Facts
+pub mod Gathered
+pub mod Labels
 pub mod Texts
