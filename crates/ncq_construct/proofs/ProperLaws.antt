@@ -43,6 +43,18 @@ use Rattle.ncq_plan.proofs.TemplateLaws.{forest_of_element, forest_of_slot, fore
 use Rattle.ncq_construct.specs.Proper.{attributes_are_named, named_layer, row_is_proper}
 use Rattle.ncq_construct.specs.Proper.{template_is_named, value_is_proper}
 
+pub slot_named : (slot : ℕ) → template_is_named (Slot slot) ≡ true
+unfolding template_is_named
+slot_named slot =
+    ap (para-SlotTemplate Bool named_layer) (sym (rolls-Slot slot))
+    ∙ para-roll-SlotTemplate Bool named_layer (SlotLayer slot)
+
+pub text_named : (text : List ℕ) → template_is_named (Text text) ≡ true
+unfolding template_is_named
+text_named text =
+    ap (para-SlotTemplate Bool named_layer) (sym (rolls-Text text))
+    ∙ para-roll-SlotTemplate Bool named_layer (TextLayer text)
+
 pub element_named : (tag : List ℕ) (attributes : List SlotAttribute) (content : List SlotTemplate)
     → template_is_named (ElementTemplate tag attributes content)
     ≡ (is_pyx_name tag && attributes_are_named attributes && list_all template_is_named content)
