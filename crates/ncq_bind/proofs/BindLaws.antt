@@ -1,0 +1,26 @@
+-- What `bind` answers, from what its parts answer.
+use Rattle.std.proofs.Common.{◌≡◌, Bool, true, false, Some, None, refl, sym, subst}
+use Rattle.std.specs.Prelude.{if◌then◌else◌}
+use Rattle.std.specs.List.{list_all}
+use Rattle.ncq_plan.specs.declared.query.NormalQuery.{NormalQuery}
+use Rattle.ncq_plan.specs.WellFormed as formed
+use Rattle.ncq_xmlql.specs.declared.model.Statement.{Statement}
+use Rattle.ncq_xmlql.specs.WellFormed.{IsWellFormed}
+use Rattle.ncq_bind.specs.Answers.{arms_of, places_of}
+use Rattle.ncq_bind.specs.NormalQueries.{normal_query}
+use Rattle.ncq_bind.specs.Bound.{item_is_bound, template_is_bound, query_is_bound}
+use Rattle.ncq_bind.proofs.Bools.{both_true}
+use Rattle.ncq_bind.proofs.FormLaws.{query_formed}
+
+pub bound_some : (b : Bool) (n m : NormalQuery) → Some n ≡ (if b then Some m else None) → (b ≡ true) × (n ≡ m)
+bound_some true n m e = (refl, cc)
+bound_some false n m e = absurd cc
+
+pub bound_none : (b : Bool) (m : NormalQuery) → None ≡ (if b then Some m else None) → b ≡ false
+bound_none true m e = absurd cc
+bound_none false m e = refl
+
+pub statement_formed : (st : Statement) (n : NormalQuery) → IsWellFormed st → query_is_bound st.query ≡ true → n ≡ normal_query st.query → formed.IsWellFormed n
+statement_formed st n whole bound is =
+    let both = both_true (list_all (item_is_bound (places_of (arms_of st.query.items))) st.query.items) (template_is_bound (places_of (arms_of st.query.items)) st.query.template) bound in
+    subst formed.IsWellFormed (sym is) (query_formed st.query whole.begins whole.items whole.within both.0 both.1)
