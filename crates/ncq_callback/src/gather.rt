@@ -5,8 +5,8 @@ ghost use Rattle.ncq_plan.specs.Residuals.{passes, tests_are_within};
 ghost use Rattle.ncq_callback.specs.Gathered.{answer_of, with_row};
 
 use crate::notice::Entries;
-use ncq_bag::SignedBag;
-use ncq_construct::{answer_bytes, passes};
+use crate::row_bag::RowBag;
+use ncq_construct::passes;
 use ncq_plan::{SlotTemplate, Tests};
 use ncq_row::Row;
 use std::alloc::{AllocError, Global};
@@ -15,12 +15,12 @@ use std::marker::Model;
 /// Counts of what rows answer. Contracts see the counts and how many rows were taken.
 #[derive(Drop)]
 pub struct Gather {
-    bag: SignedBag,
+    bag: RowBag,
     takes: u64,
 }
 
 impl Model for Gather {
-    ghost use Rattle.std.specs.Prelude.{◌≤◌};
+    ghost use Rattle.std.specs.Prelude.{◌≤◌, ◌^◌};
     ghost use Rattle.ncq_bag.specs.Counted.{Counted, counted_code};
 
     ghost Value = { Counted };
@@ -29,7 +29,7 @@ impl Model for Gather {
 
     ghost view = { λ g. record { counts = g.bag.counts; adds = g.takes } };
 
-    ghost invariant = { λ g. g.bag.adds ≤ g.takes };
+    ghost invariant = { λ g. (g.bag.adds ≤ g.takes) × (g.takes ≤ 2 ^ 63) };
 }
 
 impl Gather {
@@ -40,7 +40,7 @@ impl Gather {
         ensures { result ≡ no_counts }
     {
         Gather {
-            bag: SignedBag::new(alloc),
+            bag: RowBag::new(alloc),
             takes: 0,
         }
     }
@@ -70,8 +70,7 @@ impl Gather {
         ensures err { OnErr result (self.new ≡ self.old) }
     {
         if passes(tests, row) {
-            let answer = answer_bytes(alloc, template, row)?;
-            self.bag.add(answer, 1, gain)?;
+            self.bag.add(alloc, template, row, gain)?;
         }
         self.takes += 1;
         Ok(())

@@ -8,10 +8,13 @@ mod count;
 mod gather;
 mod handler;
 mod handlers;
+mod last;
 mod laws;
 mod mail;
 mod notice;
 mod print;
+mod row_bag;
+mod sharing;
 #[cfg(test)]
 mod tests;
 mod texts;

@@ -111,13 +111,17 @@ fn rows_that_pass_make_entries(rt: HostRuntime) -> Result<(), Fail> {
         ("a", true),
         ("no", true),
         ("a", true),
+        ("a", true),
+        ("a", false),
         ("c", true),
         ("c", false),
+        ("c", false),
+        ("c", true),
         ("b", true),
         ("b", false),
     ];
     let (some, takes) = gathered(alloc, &come_and_go)?;
-    assert_eq!(rt; takes, 8);
+    assert_eq!(rt; takes, 12);
     assert!(rt; are_entries(&some, &[(true, 2, "-a\n"), (false, 1, "-b\n")]));
     Ok(())
 }
@@ -225,20 +229,10 @@ fn handlers_write_the_text_of_their_kind(rt: HostRuntime) -> Result<(), Fail> {
             mail_notice(argument, notice, out)
         },
     )?;
-    let again: Call = Box::new(
-        alloc,
-        |argument: &[u8], notice: &Notice, out: &mut Vec<u8>| {
-            count_notice(argument, notice, out)
-        },
-    )?;
     let mut handlers = Handlers::new(alloc);
     handlers.add(Handler::new(bytes_of(alloc, b"print")?, Kind::Print, print))?;
     handlers.add(Handler::new(bytes_of(alloc, b"count")?, Kind::Count, count))?;
     handlers.add(Handler::new(bytes_of(alloc, b"mailto")?, Kind::MailTo, mail))?;
-    let second = Handler::new(bytes_of(alloc, b"print")?, Kind::Count, again);
-    assert_eq!(rt; second.name().as_slice(), b"print".as_slice());
-    assert_eq!(rt; second.kind(), Kind::Count);
-    assert_eq!(rt; handlers.add(second), Err(AddError::NameTaken));
     for (name, kind) in [
         ("print", Some(Kind::Print)),
         ("count", Some(Kind::Count)),
@@ -256,5 +250,32 @@ fn handlers_write_the_text_of_their_kind(rt: HostRuntime) -> Result<(), Fail> {
     for row in NOTICES {
         expect_text(&rt, alloc, &handlers, row)?;
     }
+    Ok(())
+}
+
+#[test]
+fn a_name_that_is_taken_is_refused(rt: HostRuntime) -> Result<(), Fail> {
+    let alloc = rt.alloc();
+    let first: Call = Box::new(
+        alloc,
+        |argument: &[u8], notice: &Notice, out: &mut Vec<u8>| {
+            print_notice(argument, notice, out)
+        },
+    )?;
+    let second: Call = Box::new(
+        alloc,
+        |argument: &[u8], notice: &Notice, out: &mut Vec<u8>| {
+            count_notice(argument, notice, out)
+        },
+    )?;
+    let first = Handler::new(bytes_of(alloc, b"print")?, Kind::Print, first);
+    let second = Handler::new(bytes_of(alloc, b"print")?, Kind::Count, second);
+    assert_eq!(rt; second.name().as_slice(), b"print".as_slice());
+    assert_eq!(rt; second.kind(), Kind::Count);
+    let mut handlers = Handlers::new(alloc);
+    handlers.add(first)?;
+    assert_eq!(rt; handlers.add(second), Err(AddError::NameTaken));
+    let row = ("print", "", [].as_slice(), "notice w 5\nend\n");
+    expect_text(&rt, alloc, &handlers, &row)?;
     Ok(())
 }
