@@ -4,3 +4,8 @@ pub mod Notices
 pub mod Output
 pub mod Alone
 pub mod Marks
+pub mod Languages
+pub mod Engines
+pub mod Stands
+pub mod Walks
+pub mod Applies

@@ -7,7 +7,8 @@ pub fn subscribers_are_apart()
     ensures { StandsAlone }
 {}
 
-/// A change-based subscription's mark is the greatest of the number at its first firing and the last changes of its sources.
+/// A change-based subscription's mark is the greatest of the number at its first firing and the
+/// last changes of its sources.
 pub fn marks_follow()
     ensures { MarksFollow }
 {}

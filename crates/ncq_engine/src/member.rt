@@ -1,4 +1,17 @@
 //! A live subscription: what it asks, when it fires, and what it was told of.
+ghost use Rattle.std.specs.Prelude.{◌≡◌, ◌++◌, nat_lt, length, IfOk, OnOk};
+ghost use Rattle.std.specs.List.{list_any, AllByRecursion};
+ghost use Rattle.std.specs.Str.{bytes_eq};
+ghost use Rattle.ncq_bag.specs.Bags.{difference};
+ghost use Rattle.ncq_plan.specs.WellFormed.{arms_width, IsWellFormed};
+ghost use Rattle.ncq_callback.specs.Labels.{labels};
+ghost use Rattle.ncq_callback.specs.Gathered.{answer_of, counts_after};
+ghost use Rattle.ncq_plan.specs.Residuals.{passes};
+ghost use Rattle.ncq_plan.specs.Deltas.{signed};
+ghost use Rattle.ncq_engine.specs.Engines.{answers_in, told_text, rows_over, last_in};
+ghost use Rattle.ncq_engine.specs.Engines.{is_told_change, has_news_in, moved_instant};
+ghost use Rattle.ncq_engine.specs.Engines.{CanFire, HasFired};
+
 use crate::walk::rows_of;
 use ncq_base::{Bytes, Copied, Sequence, Steps};
 use ncq_callback::{Entries, Gather, Handlers, Notice};
@@ -34,7 +47,9 @@ pub(crate) struct Member {
 
 impl Member {
     /// Whether it asks the source of this name.
-    fn asks(&self, source: &[u8]) -> bool {
+    fn asks(&self, source: &[u8]) -> bool
+        ensures { result ≡ list_any (bytes_eq source.now) self.now.sources }
+    {
         self.sources
             .as_slice()
             .iter()
@@ -42,12 +57,16 @@ impl Member {
     }
 
     /// Whether it fires at a change of this source now.
-    pub(crate) fn fires_at_change(&self, source: &[u8], now: u64) -> bool {
+    pub(crate) fn fires_at_change(&self, source: &[u8], now: u64) -> bool
+        ensures { result ≡ is_told_change source.now now self.now }
+    {
         self.timing.every == 0 && self.timing.start <= now && self.asks(source)
     }
 
     /// The instant at which a move of the clock fires it, if any.
-    pub(crate) fn fires_at_move(&self, store: &Store, now: u64, to: u64) -> Option<u64> {
+    pub(crate) fn fires_at_move(&self, store: &Store, now: u64, to: u64) -> Option<u64>
+        ensures { result ≡ moved_instant store.now now to self.now }
+    {
         if !self.has_news(store) {
             return None;
         }
@@ -55,7 +74,9 @@ impl Member {
     }
 
     /// Whether it has not fired yet, or a source of it has changed since.
-    fn has_news(&self, store: &Store) -> bool {
+    fn has_news(&self, store: &Store) -> bool
+        ensures { result ≡ has_news_in store.now self.now.mark self.now.sources }
+    {
         let Some(mark) = self.mark else {
             return true;
         };
@@ -75,7 +96,20 @@ impl Member {
         handlers: &Handlers,
         out: &mut Vec<u8>,
         steps: &mut Steps<L>,
-    ) -> Result<bool, AllocError> {
+    ) -> Result<bool, AllocError>
+        requires can { CanFire (labels handlers.now.items.items (λ h. h.name) (λ h. h.kind))
+            self.old }
+        ensures fired { OnOk result (HasFired store.now self.old self.new) }
+        ensures text { OnOk result (out.new.items ≡ out.old.items
+            ++ told_text (labels handlers.now.items.items (λ h. h.name) (λ h. h.kind))
+            self.old instant (rows_over store.now self.old)) }
+        ensures tells { IfOk result (λ tells. tells
+            ≡ nat_lt 0 (length (told_text
+            (labels handlers.now.items.items (λ h. h.name) (λ h. h.kind))
+            self.old instant (rows_over store.now self.old)))) }
+        ensures can { OnOk result (CanFire
+            (labels handlers.now.items.items (λ h. h.name) (λ h. h.kind)) self.new) }
+    {
         let rows = rows_of(alloc, &self.plan, store, steps)?;
         let entries = difference(alloc, &self.query, self.told.as_slice(), rows.as_slice())?;
         let tells = !entries.as_slice().is_empty();
@@ -95,7 +129,9 @@ impl Member {
 }
 
 /// The number of the last change of the source of this name.
-fn last_change(store: &Store, name: &Bytes) -> u64 {
+fn last_change(store: &Store, name: &Bytes) -> u64
+    ensures { result ≡ last_in store.now name.now }
+{
     match store.find(name.as_slice()) {
         Some(id) => store.last_change(id),
         None => 0,
@@ -108,22 +144,38 @@ fn difference(
     query: &NormalQuery,
     before: &[Row],
     now: &[Row],
-) -> Result<Entries, AllocError> {
+) -> Result<Entries, AllocError>
+    requires formed { IsWellFormed query.now }
+    requires before { AllByRecursion (λ row. length row ≡ arms_width query.now.arms) before.now }
+    requires now { AllByRecursion (λ row. length row ≡ arms_width query.now.arms) now.now }
+    ensures { IfOk result (λ entries.
+        entries ≡ difference (answers_in query.now now.now) (answers_in query.now before.now)) }
+{
     let mut gather = Gather::new(alloc);
     take_all(alloc, query, before, false, &mut gather)?;
     take_all(alloc, query, now, true, &mut gather)?;
     gather.finish(alloc)
 }
 
-/// Takes each of the rows, all as coming or all as going.
+/// Takes each of the rows, all as coming or all as going. More rows than a gather can take do not
+/// fit the memory.
 fn take_all(
     alloc: Global,
     query: &NormalQuery,
     rows: &[Row],
     gain: bool,
     gather: &mut Gather,
-) -> Result<(), AllocError> {
+) -> Result<(), AllocError>
+    requires formed { IsWellFormed query.now }
+    requires rows { AllByRecursion (λ row. length row ≡ arms_width query.now.arms) rows.now }
+    ensures { OnOk result (gather.new.counts
+        ≡ counts_after (passes query.now.residual) (answer_of query.now.template)
+        gather.old.counts (signed gain rows.now)) }
+{
     for row in rows {
+        if gather.takes() >= Gather::MOST_TAKES {
+            return Err(AllocError);
+        }
         gather.take(alloc, &query.residual, &query.template, row, gain)?;
     }
     Ok(())

@@ -1,0 +1,97 @@
+-- What the answer to a command does.
+use Rattle.std.specs.Prelude.{◌≡◌, ◌+◌, ◌++◌, ◌∷◌, ℕ, List, nat_lt, length, codes, decimal, None}
+use Rattle.std.specs.Prelude.{Some, Result, Ok, Err}
+use Rattle.std.specs.Prelude.{Option, slice_get}
+use Rattle.std.specs.Option.{option_map}
+use Rattle.ncq_base.specs.Keys.{times}
+use Rattle.ncq_bind.specs.declared.binding.BindError.{BindError}
+use Rattle.ncq_bind.specs.declared.binding.BindError.TheVariants as binding
+use Rattle.ncq_callback.specs.Labels.{Label}
+use Rattle.ncq_callback.specs.declared.notice.Kind.{Kind}
+use Rattle.ncq_source.specs.declared.change.ChangeError.{ChangeError}
+use Rattle.ncq_source.specs.declared.change.ChangeError.TheVariants as change
+use Rattle.ncq_script.specs.declared.refusal.Refusal.TheVariants as refusal
+use Rattle.ncq_script.specs.declared.command.Command.{Command}
+use Rattle.ncq_script.specs.declared.refusal.Refusal.{Refusal}
+use Rattle.ncq_engine.specs.declared.engine.Applied.{Applied}
+use Rattle.ncq_engine.specs.declared.engine.ApplyError.{ApplyError}
+use Rattle.ncq_engine.specs.declared.engine.ApplyError.TheVariants.{Refused, OutOfMemory}
+use Rattle.ncq_engine.specs.History.{History}
+use Rattle.ncq_engine.specs.Languages.{language_of}
+use Rattle.ncq_engine.specs.Notices.{notice_at, told}
+use Rattle.ncq_engine.specs.Output.{accepted_text, first_refusal, notices}
+use Rattle.ncq_engine.specs.Stands.{EngineState, Stands}
+
+-- the line that begins the answer to an accepted command
+abbrev pub ok_text : ℕ → List ℕ
+ok_text number = decimal number ++ codes " ok\n"
+
+-- the kind of the handler at a place
+abbrev pub kind_at : List Label → ℕ → Option Kind
+kind_at labels at = option_map (λ label. label.1) (slice_get labels at)
+
+-- the line of a subscription that expires
+abbrev pub expired_name : List ℕ → List ℕ
+expired_name name = codes "expired " ++ name ++ codes "\n"
+
+-- the refusal of a change that cannot be prepared; none where memory ran out
+abbrev pub change_refusal : ChangeError → Option Refusal
+change_refusal change.NoSource = Some refusal.NoSource
+change_refusal (change.BadKey position) = Some (refusal.Key position)
+change_refusal (change.NoSuchKey position) = Some (refusal.NoKey position)
+change_refusal change.OutOfMemory = None
+
+-- the refusal of a query that does not bind; none where memory ran out
+abbrev pub query_refusal : BindError → Option Refusal
+query_refusal binding.NoSource = Some refusal.NoSource
+query_refusal binding.RootDiffers = Some refusal.Root
+query_refusal binding.Unbound = Some refusal.Unbound
+query_refusal binding.OutOfMemory = None
+
+abbrev pub error_of : Option Refusal → ApplyError
+error_of None = OutOfMemory
+error_of (Some why) = Refused why
+
+abbrev pub refused_change : ChangeError → ApplyError
+refused_change error = error_of (change_refusal error)
+
+abbrev pub refused_query : BindError → ApplyError
+refused_query error = error_of (query_refusal error)
+
+-- the command is accepted: its answer was appended, and the engine stands for it
+abbrev pub Accepts : EngineState → Command → List ℕ → EngineState → List ℕ → Type 0
+Accepts old command out new out' =
+    (history : History) → Stands old history
+    → (first_refusal (language_of old.labels) history command ≡ None)
+    × (Stands new (command ∷ history)
+    × (out' ≡ out ++ accepted_text (language_of old.labels) history (old.count + 1) command))
+
+-- the command is refused for this, and the engine stands for what it stood for
+abbrev pub Refuses : EngineState → Command → Refusal → EngineState → Type 0
+Refuses old command why new =
+    (history : History) → Stands old history
+    → (first_refusal (language_of old.labels) history command ≡ Some why) × Stands new history
+
+-- where the notices begin and end, and how many there are
+abbrev pub WritesNotices : EngineState → Command → List ℕ → Applied → Type 0
+WritesNotices old command out applied =
+    (history : History) → Stands old history
+    → (applied.from ≡ length out + length (ok_text (old.count + 1)))
+    × ((applied.to
+    ≡ applied.from + length (notices (language_of old.labels) history command))
+    × (applied.notices
+    ≡ times (λ fired. nat_lt 0 (length
+    (notice_at (language_of old.labels) history command fired)))
+    (told history command)))
+
+-- what each answer says
+abbrev pub Applies
+    : EngineState → Command → List ℕ → Result Applied ApplyError → EngineState → List ℕ → Type 0
+Applies old command out (Ok applied) new out' =
+    Accepts old command out new out'
+    × ((new.count ≡ old.count + 1)
+    × ((new.labels ≡ old.labels) × WritesNotices old command out applied))
+Applies old command out (Err (Refused why)) new out' =
+    Refuses old command why new
+    × ((new.count ≡ old.count + 1) × ((new.labels ≡ old.labels) × (out' ≡ out)))
+Applies old command out (Err OutOfMemory) new out' = Unit {0}

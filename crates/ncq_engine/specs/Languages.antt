@@ -1,0 +1,33 @@
+-- The language of this engine: what queries answer, which of them bind, and its handlers.
+use Rattle.std.specs.Prelude.{ℕ, Bool, if◌then◌else◌, List, Option, Some, None}
+use Rattle.std.specs.Option.{option_map}
+use Rattle.ncq_bind.specs.Answers.{answer}
+use Rattle.ncq_bind.specs.Bindings.{Roots, are_declared, have_roots}
+use Rattle.ncq_bind.specs.Bound.{query_is_bound}
+use Rattle.ncq_callback.specs.Labels.{Label}
+use Rattle.ncq_script.specs.declared.refusal.Refusal.{Refusal}
+use Rattle.ncq_script.specs.declared.refusal.Refusal.TheVariants as refusal
+use Rattle.ncq_xmlql.specs.declared.model.Query.{Query}
+use Rattle.ncq_engine.specs.History.{Source, source_in}
+use Rattle.ncq_engine.specs.Notices.{Language}
+
+-- the root of the source of each name
+abbrev pub roots_of : List Source → Roots
+roots_of sources name = option_map (λ source. source.root) (source_in name sources)
+
+-- the first fault of a query: a source that is not declared, a root that is not its source's, a
+-- variable without a place
+abbrev pub binding_refusal : Query → Roots → Option Refusal
+binding_refusal query roots =
+    if are_declared roots query.items
+    then (if have_roots roots query.items
+    then (if query_is_bound query then None else Some refusal.Unbound)
+    else Some refusal.Root)
+    else Some refusal.NoSource
+
+abbrev pub language_of : List Label → Language
+language_of labels = record {
+  answer = answer;
+  binding = λ query sources. binding_refusal query (roots_of sources);
+  handlers = labels;
+}
