@@ -5,3 +5,5 @@ pub mod MarkLaws
 pub mod Worlds
 pub mod NoticeLaws
 pub mod Keeping
+pub mod ToldLaws
+pub mod WalkLaws

@@ -72,7 +72,7 @@ source_is store ss e name =
     ap (source_in name) (sym e) ∙ content_named name store.sources ∙ ap (option_map content_of) (sym (at_place name store.sources))
 
 -- no elements stand in the empty map
-no_entries : map (λ (entry : List ℕ × Element). entry.1) (entries (kept_of None)) ≡ []
+pub no_entries : map (λ (entry : List ℕ × Element). entry.1) (entries (kept_of None)) ≡ []
 no_entries = ap (map (λ (entry : List ℕ × Element). entry.1)) (nil_from_length (entries (kept_of None)) (sym (len-entries (kept_of None)) ∙ len-empty (slice_cmp nat_cmp) Element))
 
 same_elements : (d : Option Declared) → elements_of (option_map content_of d) ≡ map (λ entry. entry.1) (entries (kept_of d))

@@ -112,12 +112,11 @@ told_at labels store m (Some instant) =
 abbrev pub moved_told : List Label → StoreState → ℕ → ℕ → Member → List Told
 moved_told labels store now to m = told_at labels store m (moved_instant store now to m)
 
--- their install numbers rise
+-- each has a greater install number than those before it
 abbrev pub InstallsRise : List Member → Type 0
 InstallsRise [] = Unit {0}
-InstallsRise (m ∷ []) = Unit {0}
-InstallsRise (m ∷ n ∷ more) = (m.install < n.install) × InstallsRise (n ∷ more)
+InstallsRise (m ∷ more) = AllByRecursion (λ n. m.install < n.install) more × InstallsRise more
 
--- and are at most this number
+-- none has an install number above this one
 abbrev pub InstallsAreUpTo : ℕ → List Member → Type 0
 InstallsAreUpTo most members = AllByRecursion (λ m. m.install ≤ most) members

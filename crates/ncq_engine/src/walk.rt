@@ -11,7 +11,7 @@ ghost use Rattle.ncq_plan.specs.WellFormed.{slots_fit};
 ghost use Rattle.ncq_change.specs.Stores.{world_in};
 ghost use Rattle.ncq_engine.specs.Walks.{HasLefts, HasRights};
 
-use ncq_base::{Atom, Bytes, Interval, Steps, in_interval, same};
+use ncq_base::{Atom, Bytes, Interval, Op, Steps, holds, in_interval};
 use ncq_plan::Expr;
 use ncq_row::{Pair, Row, Rows, Shape, match_shape};
 use ncq_source::{SourceId, Store};
@@ -38,7 +38,7 @@ pub(crate) fn rows_of<L: Ledger>(
             constant,
         } => {
             let rows = rows_of(alloc, input.get(), store, steps)?;
-            Ok(Rows::from_vec(with_atom(rows.into_vec(), *slot, constant)))
+            with_atom(alloc, rows, *slot, constant)
         }
         Expr::RangeSel {
             input,
@@ -46,7 +46,7 @@ pub(crate) fn rows_of<L: Ledger>(
             interval,
         } => {
             let rows = rows_of(alloc, input.get(), store, steps)?;
-            Ok(Rows::from_vec(within(rows.into_vec(), *slot, interval)))
+            within(alloc, rows, *slot, interval)
         }
         Expr::Join { left, right, pairs } => {
             let lefts = rows_of(alloc, left.get(), store, steps)?;
@@ -104,23 +104,31 @@ fn append_shown<L: Ledger>(
 }
 
 /// Those rows whose slot has the constant's atom.
-fn with_atom(rows: Vec<Row>, slot: usize, constant: &Atom) -> Vec<Row>
-    requires { All (λ row. slot < length row) rows.items }
-    ensures { result.items ≡ filter (has_atom slot constant.now) rows.items }
+fn with_atom(alloc: Global, rows: Rows, slot: usize, constant: &Atom) -> Result<Rows, AllocError>
+    requires { AllByRecursion (λ row. slot < length row) rows }
+    ensures { IfOk result (λ kept. kept ≡ filter (has_atom slot constant.now) rows) }
 {
-    let mut rows = rows;
-    rows.retain(|row| same(row.atom(slot), constant));
-    rows
+    let mut kept = Rows::new(alloc);
+    for row in rows.into_vec() {
+        if holds(Op::Eq, row.atom(slot), constant) {
+            kept.push(row)?;
+        }
+    }
+    Ok(kept)
 }
 
 /// Those rows whose slot is a number in the interval.
-fn within(rows: Vec<Row>, slot: usize, interval: &Interval) -> Vec<Row>
-    requires { All (λ row. slot < length row) rows.items }
-    ensures { result.items ≡ filter (is_within slot interval.now) rows.items }
+fn within(alloc: Global, rows: Rows, slot: usize, interval: &Interval) -> Result<Rows, AllocError>
+    requires { AllByRecursion (λ row. slot < length row) rows }
+    ensures { IfOk result (λ kept. kept ≡ filter (is_within slot interval.now) rows) }
 {
-    let mut rows = rows;
-    rows.retain(|row| in_interval(interval, row.atom(slot)));
-    rows
+    let mut kept = Rows::new(alloc);
+    for row in rows.into_vec() {
+        if in_interval(interval, row.atom(slot)) {
+            kept.push(row)?;
+        }
+    }
+    Ok(kept)
 }
 
 /// Each left row followed by each right row with which its pairs agree.
@@ -169,7 +177,5 @@ fn agree(left: &Row, right: &Row, pairs: &[Pair]) -> bool
     requires right { HasRights pairs.now right.now }
     ensures { result ≡ agree pairs.now left.now right.now }
 {
-    pairs
-        .iter()
-        .all(|pair| same(left.atom(pair.left), right.atom(pair.right)))
+    pairs.iter().all(|pair| holds(Op::Eq, left.atom(pair.left), right.atom(pair.right)))
 }

@@ -1,0 +1,173 @@
+-- Who fires, in which order, and what they are told: the members against the subscriptions.
+use Rattle.std.proofs.Common.{◌≡◌, ℕ, suc, ◌+◌, ◌<◌, ◌≤◌, Bool, true, false, ◌==◌, ◌||◌, ◌&&◌, not, cond, List, [], ◌∷◌, ◌++◌, map, length, refl, sym, ◌∙◌, ap, arith, true≢false}
+use Rattle.std.specs.Prelude.{Option, Some, None, nat_lt, nat_le, if◌then◌else◌, is_some}
+use Rattle.std.proofs.lemmas.Bool.Decides.{nat_tests}
+use Rattle.std.proofs.lemmas.List.{append-nil}
+use Rattle.std.specs.List.{filter, flat_map, AllByRecursion}
+use Rattle.ncq_base.specs.Keys.{times}
+use Rattle.ncq_callback.specs.Labels.{Label}
+use Rattle.ncq_change.specs.Stores.{world_in}
+use Rattle.ncq_event.specs.declared.firing.Firing.{Firing}
+use Rattle.ncq_event.specs.Orders.{is_before, placed_by, ordered_by}
+use Rattle.ncq_script.specs.declared.command.Command.{Command}
+use Rattle.ncq_script.specs.declared.command.Command.TheVariants.{Declare, Delta, Create, Delete, Clock, Report, Malformed}
+use Rattle.ncq_source.specs.StoreStates.{StoreState}
+use Rattle.ncq_engine.specs.declared.member.Member.{Member}
+use Rattle.ncq_engine.specs.declared.telling.Told.{Told}
+use Rattle.ncq_engine.specs.Engines.{Pairwise, rows_over, told_at, told_text}
+use Rattle.ncq_engine.specs.Firing.{fires}
+use Rattle.ncq_event.specs.Instants.{is_expired}
+use Rattle.ncq_engine.specs.History.{History, Subscription, created, creates, is_named, live, sources, timing_of, world}
+use Rattle.ncq_engine.specs.Languages.{language_of}
+use Rattle.ncq_engine.specs.Notices.{fired_at, firings, notice_at, told, with_new}
+use Rattle.ncq_engine.specs.Stands.{Keeps}
+use Rattle.ncq_engine.proofs.Lists.{each_filter, each_more, each_push, flat_map_append}
+use Rattle.ncq_engine.proofs.HistoryLaws.{Installed, installed}
+use Rattle.ncq_engine.proofs.NoticeLaws.{text_is}
+
+abbrev Fired : Type 0
+Fired = Firing × Subscription
+
+module _ {A B : Type 0} (g : A → B) (of_a : A → Firing) (of_b : B → Firing) (same : (x : A) → of_b (g x) ≡ of_a x) where
+  -- an order of what is made of each
+  place_made : (x : A) (xs : List A) → placed_by of_b (g x) (map g xs) ≡ map g (placed_by of_a x xs)
+  place_made x [] = refl
+  place_made x (y ∷ ys) =
+      (λ i. if is_before (same x i) (same y i) then g x ∷ g y ∷ map g ys else g y ∷ place_made x ys i)
+      ∙ (elim (is_before (of_a x) (of_a y)) as (λ t. (if t then g x ∷ g y ∷ map g ys else g y ∷ map g (placed_by of_a x ys)) ≡ map g (if t then x ∷ y ∷ ys else y ∷ placed_by of_a x ys)) [ true ↦ refl | false ↦ refl ])
+
+  pub order_made : (xs : List A) → ordered_by of_b (map g xs) ≡ map g (ordered_by of_a xs)
+  order_made [] = refl
+  order_made (x ∷ xs) = ap (placed_by of_b (g x)) (order_made xs) ∙ place_made x (ordered_by of_a xs)
+
+module _ {A : Type 0} (of_a : A → Firing) where
+  -- each can stand before all behind it
+  abbrev pub AreInOrder : List A → Type 0
+  AreInOrder [] = Unit {0}
+  AreInOrder (x ∷ xs) = AllByRecursion (λ y. is_before (of_a x) (of_a y) ≡ true) xs × AreInOrder xs
+
+  place_first : (x : A) (xs : List A) → AllByRecursion (λ y. is_before (of_a x) (of_a y) ≡ true) xs → placed_by of_a x xs ≡ x ∷ xs
+  place_first x [] h = refl
+  place_first x (y ∷ ys) h = λ i. if h.0 i then x ∷ y ∷ ys else y ∷ placed_by of_a x ys
+
+  -- what is in order stays as it is
+  pub order_stays : (xs : List A) → AreInOrder xs → ordered_by of_a xs ≡ xs
+  order_stays [] h = refl
+  order_stays (x ∷ xs) h = ap (placed_by of_a x) (order_stays xs h.1) ∙ place_first x xs h.0
+
+  module _ (test : A → Bool) where
+    times_placed : (x : A) (xs : List A) → times test (placed_by of_a x xs) ≡ cond (test x) 1 0 + times test xs
+    times_placed x [] = refl
+    times_placed x (y ∷ ys) = elim (is_before (of_a x) (of_a y)) as (λ t. times test (if t then x ∷ y ∷ ys else y ∷ placed_by of_a x ys) ≡ cond (test x) 1 0 + (cond (test y) 1 0 + times test ys)) [
+      | true ↦ refl
+      | false ↦ let e = times_placed x ys in omega (arith, e)
+    ]
+
+    -- an order changes no count
+    pub times_ordered : (xs : List A) → times test (ordered_by of_a xs) ≡ times test xs
+    times_ordered [] = refl
+    times_ordered (x ∷ xs) = times_placed x (ordered_by of_a xs) ∙ ap (λ n. cond (test x) 1 0 + n) (times_ordered xs)
+
+-- subscriptions, each with a greater install number than those before it
+abbrev pub Rises : List Subscription → Type 0
+Rises [] = Unit {0}
+Rises (s ∷ more) = AllByRecursion (λ t. s.install < t.install) more × Rises more
+
+rises_push : (n : ℕ) (xs : List Subscription) (x : Subscription) → Rises xs → AllByRecursion (λ s. s.install ≤ n) xs → n < x.install → Rises (xs ++ x ∷ [])
+rises_push n [] x r u less = (tt, tt)
+rises_push n (s ∷ xs) x r u less =
+    let first = u.0 in
+    (each_push (λ (t : Subscription). s.install < t.install) xs x r.0 (omega (arith, first, less)), rises_push n xs x r.1 u.1 less)
+
+rises_filter : (keep : Subscription → Bool) (xs : List Subscription) → Rises xs → Rises (filter keep xs)
+rises_filter keep [] r = tt
+rises_filter keep (s ∷ xs) r =
+    elim (keep s) as (λ t. Rises (cond t (s ∷ filter keep xs) (filter keep xs))) [
+      | true ↦ (each_filter (λ (t : Subscription). s.install < t.install) keep xs r.0, rises_filter keep xs r.1)
+      | false ↦ rises_filter keep xs r.1
+    ]
+
+-- the live subscriptions stand in the order of their install numbers
+pub live_rises : (h : History) → Rises (live h)
+live_rises [] = tt
+live_rises ((Declare name root key) ∷ before) = live_rises before
+live_rises ((Delta name items) ∷ before) = live_rises before
+live_rises ((Create statement) ∷ before) = rises_push (creates before) (live before) (created statement before) (live_rises before) (installed before) (let l : creates before < creates before + 1 = omega arith in l)
+live_rises ((Delete name) ∷ before) = rises_filter (λ s. not (is_named name s)) (live before) (live_rises before)
+live_rises ((Clock instant) ∷ before) = rises_filter (λ s. not (is_expired (timing_of s) instant)) (live before) (live_rises before)
+live_rises (Report ∷ before) = live_rises before
+live_rises ((Malformed why) ∷ before) = live_rises before
+
+-- all that fire at one instant, in the order of their install numbers, are in order
+module _ (instant : ℕ) (fired : Subscription → Option ℕ) (one : (s : Subscription) (d : ℕ) → fired s ≡ Some d → d ≡ instant) where
+  abbrev listed : List Subscription → List Fired
+  listed xs = flat_map (λ s. fired_at s (fired s)) xs
+
+  behind_all : (n d : ℕ) → d ≡ instant → (xs : List Subscription) → AllByRecursion (λ t. n < t.install) xs
+      → AllByRecursion (λ (y : Fired). is_before (record { instant = d; install = n }) y.0 ≡ true) (listed xs)
+  behind_all n d same [] h = tt
+  behind_all n d same (t ∷ xs) h = by_firing (behind_all n d same xs h.1) (fired t) refl
+    where
+      by_firing : AllByRecursion (λ (y : Fired). is_before (record { instant = d; install = n }) y.0 ≡ true) (listed xs)
+          → (o : Option ℕ) → fired t ≡ o → AllByRecursion (λ (y : Fired). is_before (record { instant = d; install = n }) y.0 ≡ true) (fired_at t o ++ listed xs)
+      by_firing rest None e = rest
+      by_firing rest (Some c) e =
+          let same' = one t c e in let less = h.0 in
+          let b : is_before (record { instant = d; install = n }) (record { instant = c; install = t.install }) ≡ true = grind (arith, nat_tests, same, same', less) in
+          (b, rest)
+
+  pub one_instant : (xs : List Subscription) → Rises xs → AreInOrder (λ (f : Fired). f.0) (listed xs)
+  one_instant [] r = tt
+  one_instant (s ∷ xs) r = by_firing (one_instant xs r.1) (fired s) refl
+    where
+      by_firing : AreInOrder (λ (f : Fired). f.0) (listed xs) → (o : Option ℕ) → fired s ≡ o → AreInOrder (λ (f : Fired). f.0) (fired_at s o ++ listed xs)
+      by_firing rest None e = rest
+      by_firing rest (Some c) e = (behind_all s.install c (one s c e) xs r.0, rest)
+
+module _ (labels : List Label) (h : History) (command : Command) (store : StoreState) (same : world (sources (command ∷ h)) ≡ world_in store) where
+  -- the notice of a firing, with the firing
+  abbrev pub noticed : Fired → Told
+  noticed f = record { firing = f.0; text = notice_at (language_of labels) h command f }
+
+  told_one : (s : Subscription) (m : Member) (o : Option ℕ) → Keeps labels h s m → told_at labels store m o ≡ map noticed (fired_at s o)
+  told_one s m None k = refl
+  told_one s m (Some d) k =
+      λ i. record { firing = record { instant = d; install = k.install i }; text = text_is labels h s m k command store d same i } ∷ []
+
+  map_push : (xs ys : List Fired) → map noticed (xs ++ ys) ≡ map noticed xs ++ map noticed ys
+  map_push [] ys = refl
+  map_push (x ∷ xs) ys = ap (λ more. noticed x ∷ more) (map_push xs ys)
+
+  -- what the members are told is what is told of their subscriptions
+  pub told_list : (instant : Member → Option ℕ) (subs : List Subscription) (ms : List Member)
+      → Pairwise (λ s m. Keeps labels h s m × (instant m ≡ fires s h command)) subs ms
+      → flat_map (λ m. told_at labels store m (instant m)) ms ≡ map noticed (flat_map (λ s. fired_at s (fires s h command)) subs)
+  told_list instant [] [] p = refl
+  told_list instant [] (m ∷ ms) p = absurd p
+  told_list instant (s ∷ subs) [] p = absurd p
+  told_list instant (s ∷ subs) (m ∷ ms) p =
+      (λ i. told_at labels store m (p.0.1 i) ++ told_list instant subs ms p.1 i)
+      ∙ (λ i. told_one s m (fires s h command) p.0.0 i ++ map noticed (flat_map (λ s. fired_at s (fires s h command)) subs))
+      ∙ sym (map_push (fired_at s (fires s h command)) (flat_map (λ s. fired_at s (fires s h command)) subs))
+
+  texts_of : (xs : List Fired) → flat_map (λ (t : Told). t.text) (map noticed xs) ≡ flat_map (notice_at (language_of labels) h command) xs
+  texts_of [] = refl
+  texts_of (x ∷ xs) = ap (λ more. notice_at (language_of labels) h command x ++ more) (texts_of xs)
+
+  times_of : (xs : List Fired) → times (λ (t : Told). nat_lt 0 (length t.text)) (map noticed xs) ≡ times (λ f. nat_lt 0 (length (notice_at (language_of labels) h command f))) xs
+  times_of [] = refl
+  times_of (x ∷ xs) = ap (λ n. cond (nat_lt 0 (length (notice_at (language_of labels) h command x))) 1 0 + n) (times_of xs)
+
+  -- in the order of the firings
+  pub told_text_is : (list : List Told) → list ≡ map noticed (firings h command)
+      → flat_map (λ (t : Told). t.text) (ordered_by (λ (t : Told). t.firing) list) ≡ flat_map (notice_at (language_of labels) h command) (told h command)
+  told_text_is list e =
+      ap (λ l. flat_map (λ (t : Told). t.text) (ordered_by (λ (t : Told). t.firing) l)) e
+      ∙ ap (flat_map (λ (t : Told). t.text)) (order_made noticed (λ (f : Fired). f.0) (λ (t : Told). t.firing) (λ x. refl) (firings h command))
+      ∙ texts_of (told h command)
+
+  pub told_times_is : (list : List Told) → list ≡ map noticed (firings h command)
+      → times (λ (t : Told). nat_lt 0 (length t.text)) list ≡ times (λ f. nat_lt 0 (length (notice_at (language_of labels) h command f))) (told h command)
+  told_times_is list e =
+      ap (times (λ (t : Told). nat_lt 0 (length t.text))) e ∙ times_of (firings h command)
+      ∙ sym (times_ordered (λ (f : Fired). f.0) (λ f. nat_lt 0 (length (notice_at (language_of labels) h command f))) (firings h command))
