@@ -9,7 +9,7 @@ use Rattle.ncq_xmlql.specs.WellFormed.{IsWellFormed}
 use Rattle.ncq_bind.specs.Answers.{arms_of, places_of}
 use Rattle.ncq_bind.specs.NormalQueries.{normal_query}
 use Rattle.ncq_bind.specs.Bound.{item_is_bound, template_is_bound, query_is_bound}
-use Rattle.ncq_bind.proofs.Bools.{both_true}
+use Rattle.ncq_base.proofs.Tests.{both_true}
 use Rattle.ncq_bind.proofs.FormLaws.{query_formed}
 
 pub bound_some : (b : Bool) (n m : NormalQuery) → Some n ≡ (if b then Some m else None) → (b ≡ true) × (n ≡ m)

@@ -20,8 +20,6 @@ mod residual;
 mod shape;
 mod sorted;
 mod template;
-#[cfg(test)]
-mod tests;
 
 pub use binding::{BindError, bind};
 pub use constraint::Constraint;
