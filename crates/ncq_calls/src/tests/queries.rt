@@ -316,53 +316,40 @@ fn conditions_stand_where_they_are_met(rt: HostRuntime) -> Result<(), Fail> {
     expect_conditions(&rt, rt.alloc(), &store, CONDITIONS)
 }
 
-/// An arm with 8 slots, and what is shown of it behind another one.
-const WIDE: &str = "<C a=$x b=$x c=$x d=$x e=$x f=$x g=$x h=$x/>";
-
-const WIDE_SHOWN: &str = "c:C@a@b@c@d@e@f@g@h() 0~0 0~1 0~2 0~3 0~4 0~5 0~6 0~7; ";
-
-/// 8 conditions, and what is shown of them.
-const EIGHT: &str = ", $x != 1, $x != 1, $x != 1, $x != 1, $x != 1, $x != 1, $x != 1, $x != 1";
-
-const EIGHT_SHOWN: &str =
-    "#0 != 1; #0 != 1; #0 != 1; #0 != 1; #0 != 1; #0 != 1; #0 != 1; #0 != 1; ";
-
 /// 8 arms with 64 slots together, and 32 conditions.
+const LARGEST: &[(&str, &str)] = &[(
+    "<Cs>\
+         <C a=$x b=$x c=$x d=$x e=$x f=$x g=$x h=$x/>\
+         <C a=$x b=$x c=$x d=$x e=$x f=$x g=$x h=$x/>\
+         <C a=$x b=$x c=$x d=$x e=$x f=$x g=$x h=$x/>\
+         <C a=$x b=$x c=$x d=$x e=$x f=$x g=$x h=$x/>\
+         <C a=$x b=$x c=$x d=$x e=$x f=$x g=$x h=$x/>\
+         <C a=$x b=$x c=$x d=$x e=$x f=$x g=$x h=$x/>\
+         <C a=$x b=$x c=$x d=$x e=$x f=$x g=$x h=$x/>\
+         <C a=$x b=$x c=$x d=$x e=$x f=$x g=$x h=$x/>\
+         </> in c\
+         , $x != 1, $x != 1, $x != 1, $x != 1, $x != 1, $x != 1, $x != 1, $x != 1\
+         , $x != 1, $x != 1, $x != 1, $x != 1, $x != 1, $x != 1, $x != 1, $x != 1\
+         , $x != 1, $x != 1, $x != 1, $x != 1, $x != 1, $x != 1, $x != 1, $x != 1\
+         , $x != 1, $x != 1, $x != 1, $x != 1, $x != 1, $x != 1, $x != 1, $x != 1\
+         \x20construct $x",
+    "c:C@a@b@c@d@e@f@g@h(); \
+         c:C@a@b@c@d@e@f@g@h() 0~0 0~1 0~2 0~3 0~4 0~5 0~6 0~7; \
+         c:C@a@b@c@d@e@f@g@h() 0~0 0~1 0~2 0~3 0~4 0~5 0~6 0~7; \
+         c:C@a@b@c@d@e@f@g@h() 0~0 0~1 0~2 0~3 0~4 0~5 0~6 0~7; \
+         c:C@a@b@c@d@e@f@g@h() 0~0 0~1 0~2 0~3 0~4 0~5 0~6 0~7; \
+         c:C@a@b@c@d@e@f@g@h() 0~0 0~1 0~2 0~3 0~4 0~5 0~6 0~7; \
+         c:C@a@b@c@d@e@f@g@h() 0~0 0~1 0~2 0~3 0~4 0~5 0~6 0~7; \
+         c:C@a@b@c@d@e@f@g@h() 0~0 0~1 0~2 0~3 0~4 0~5 0~6 0~7; \
+         #0 = #1; #0 = #2; #0 = #3; #0 = #4; #0 = #5; #0 = #6; #0 = #7; \
+         #0 != 1; #0 != 1; #0 != 1; #0 != 1; #0 != 1; #0 != 1; #0 != 1; #0 != 1; \
+         #0 != 1; #0 != 1; #0 != 1; #0 != 1; #0 != 1; #0 != 1; #0 != 1; #0 != 1; \
+         #0 != 1; #0 != 1; #0 != 1; #0 != 1; #0 != 1; #0 != 1; #0 != 1; #0 != 1; \
+         #0 != 1; #0 != 1; #0 != 1; #0 != 1; #0 != 1; #0 != 1; #0 != 1; #0 != 1; \
+         #0",
+)];
+
 #[test]
 fn the_largest_query(rt: HostRuntime) -> Result<(), Fail> {
-    let store = sources(rt.alloc(), RandomState::new(&rt)?)?;
-    let text = [
-        "create x where <Cs>",
-        WIDE,
-        WIDE,
-        WIDE,
-        WIDE,
-        WIDE,
-        WIDE,
-        WIDE,
-        WIDE,
-        "</> in c",
-        EIGHT,
-        EIGHT,
-        EIGHT,
-        EIGHT,
-        " construct $x do print",
-    ];
-    let want = [
-        "c:C@a@b@c@d@e@f@g@h(); ",
-        WIDE_SHOWN,
-        WIDE_SHOWN,
-        WIDE_SHOWN,
-        WIDE_SHOWN,
-        WIDE_SHOWN,
-        WIDE_SHOWN,
-        WIDE_SHOWN,
-        "#0 = #1; #0 = #2; #0 = #3; #0 = #4; #0 = #5; #0 = #6; #0 = #7; ",
-        EIGHT_SHOWN,
-        EIGHT_SHOWN,
-        EIGHT_SHOWN,
-        EIGHT_SHOWN,
-        "#0",
-    ];
-    expect_answer(&rt, rt.alloc(), &store, &text, &want)
+    expect_answers(&rt, rt.alloc(), RandomState::new(&rt)?, LARGEST)
 }
