@@ -48,7 +48,8 @@ abbrev pub have_roots : StoreState → List QueryItem → Bool
 have_roots store items = list_all (item_has_root store) items
 
 -- when a normal query is the answer
-pub record Gives (query : Query) (store : StoreState) (normal : NormalQuery) : Type 0 where
+pub record HasNormalQuery (query : Query) (store : StoreState) (normal : NormalQuery)
+    : Type 0 where
   pub declared : are_declared store query.items ≡ true
   pub roots : have_roots store query.items ≡ true
   pub bound : query_is_bound query ≡ true
@@ -67,7 +68,7 @@ pub record IsUnbound (query : Query) (store : StoreState) : Type 0 where
 
 -- When each answer is given. No two of them are right for one query, but for want of memory.
 abbrev pub Binds : Query → StoreState → Result NormalQuery BindError → Type 0
-Binds query store (Ok normal) = Gives query store normal
+Binds query store (Ok normal) = HasNormalQuery query store normal
 Binds query store (Err NoSource) = are_declared store query.items ≡ false
 Binds query store (Err RootDiffers) = DiffersInRoot query store
 Binds query store (Err Unbound) = IsUnbound query store

@@ -18,8 +18,8 @@ pub fn forests_are_the_answer()
     ensures { JoiningLaw }
 {}
 
-/// For every statement that binds and every world, the forests that are made of the rows of the plan
-/// that pass the residual are the answer of the query, in the same order.
+/// For every statement that binds and every world, the forests that are made of those rows of the
+/// plan that pass the residual are the answer of the query, in the same order.
 pub fn plans_give_the_answer()
     ensures { PlanLaw }
 {}

@@ -174,7 +174,8 @@ const PATTERNS: &[(&str, &str)] = &[
     (
         "<Quotes><Quote><Symbol>$s</></></> in quotes, $a = Chips, $b < 9, \
          <Companies><Company><Symbol>$s</><Area>$a</><Size>$b</></></> in companies construct $a",
-        "quotes:Quote(Symbol=); companies:Company(Symbol=Area=Size=) 1=\"Chips\" 2 in (-,9) 0~0; #2",
+        "quotes:Quote(Symbol=); \
+         companies:Company(Symbol=Area=Size=) 1=\"Chips\" 2 in (-,9) 0~0; #2",
     ),
     // conditions across arms
     (
@@ -249,8 +250,8 @@ fn refusals_come_in_their_order(rt: HostRuntime) -> Result<(), Fail> {
     expect_answers(&rt, rt.alloc(), RandomState::new(&rt)?, REFUSALS)
 }
 
-/// Conditions on `$s`, slot 0, and `$p`, slot 1, of one arm; and what stands between the arm's shape
-/// and the template.
+/// Conditions on `$s`, slot 0, and `$p`, slot 1, of one arm; and what stands between the shape of the
+/// arm and the template.
 const CONDITIONS: &[(&str, &str)] = &[
     ("$p = 5", " 1=5; "),
     ("5 = $p", " 1=5; "),

@@ -1,7 +1,7 @@
 //! Normal queries as texts.
 //!
-//! An arm is its source and its shape, then ` 0="A"` for a slot with a constant, ` 1 in [2,3)` for a
-//! slot in an interval and ` 0~1` for a pair. A test compares a slot, as `#0`, with a slot or a
+//! An arm is its source and its shape, then ` 0="A"` for a slot with a constant, ` 1 in [2,3)` for
+//! a slot in an interval and ` 0~1` for a pair. A test compares a slot, as `#0`, with a slot or a
 //! constant. A template shows a slot as `#0` and a text in single quotation marks.
 
 use ncq_base::{Bytes, End, Interval, Op, write_atom, write_decimal, write_number};
