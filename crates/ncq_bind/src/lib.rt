@@ -24,7 +24,7 @@ mod template;
 pub use binding::{BindError, bind};
 pub use constraint::Constraint;
 pub use laws::{
-    answers_are_proper, embeddings_are_rows, forests_are_the_answer, plans_give_the_answer,
-    rows_are_open_embeddings,
+    answers_are_proper, embeddings_are_rows, forests_are_the_answer, one_answer,
+    plans_give_the_answer, rows_are_open_embeddings,
 };
 pub use open_arm::{OpenArm, OpenArms};
