@@ -1,2 +1,3 @@
 pub mod ProperLaws
 pub mod WrittenLaws
+pub mod RowsProper

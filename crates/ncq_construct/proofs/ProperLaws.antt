@@ -1,5 +1,5 @@
 -- What a template makes is good, and so its normal form is proper.
-use Rattle.std.proofs.Common.{◌≡◌, ℕ, ◌&&◌, not, Bool, true, false, List, [], ◌∷◌, ◌++◌, map, refl}
+use Rattle.std.proofs.Common.{◌≡◌, ℕ, ◌&&◌, not, Bool, true, List, [], ◌∷◌, ◌++◌, map, refl}
 use Rattle.std.proofs.Common.{sym, ap, ◌∙◌, subst, zero, suc}
 use Rattle.std.specs.Prelude.{◌||◌, nat_eq}
 use lib.Pointwise.{pointwise}
@@ -11,7 +11,6 @@ use Rattle.ncq_base.proofs.Tests.{both_true}
 use Rattle.ncq_base.specs.Names.{is_pyx_name}
 use Rattle.ncq_tree.specs.declared.model.Node.{Node}
 use Rattle.ncq_tree.specs.declared.model.Node.TheVariants.{Element as element_node}
-use Rattle.ncq_tree.specs.declared.model.Node.TheVariants.{Text as text_node}
 use Rattle.ncq_tree.specs.declared.model.Element.{Element}
 use Rattle.ncq_tree.specs.declared.model.Attribute.{Attribute}
 use Rattle.ncq_tree.specs.Normal.{are_apart, has_name, node_is_normal, is_normal}
@@ -42,6 +41,18 @@ use Rattle.ncq_plan.specs.Templates.{attribute_of, constructed, forest_of, value
 use Rattle.ncq_plan.proofs.TemplateLaws.{forest_of_element, forest_of_slot, forest_of_text}
 use Rattle.ncq_construct.specs.Proper.{attributes_are_named, named_layer, row_is_proper}
 use Rattle.ncq_construct.specs.Proper.{template_is_named, value_is_proper}
+
+pub slot_named : (slot : ℕ) → template_is_named (Slot slot) ≡ true
+unfolding template_is_named
+slot_named slot =
+    ap (para-SlotTemplate Bool named_layer) (sym (rolls-Slot slot))
+    ∙ para-roll-SlotTemplate Bool named_layer (SlotLayer slot)
+
+pub text_named : (text : List ℕ) → template_is_named (Text text) ≡ true
+unfolding template_is_named
+text_named text =
+    ap (para-SlotTemplate Bool named_layer) (sym (rolls-Text text))
+    ∙ para-roll-SlotTemplate Bool named_layer (TextLayer text)
 
 pub element_named : (tag : List ℕ) (attributes : List SlotAttribute) (content : List SlotTemplate)
     → template_is_named (ElementTemplate tag attributes content)

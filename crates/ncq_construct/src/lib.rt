@@ -13,6 +13,6 @@ mod tests;
 mod writing;
 
 pub use building::build;
-pub use laws::forests_are_proper;
+pub use laws::{forests_are_proper, rows_are_proper};
 pub use residual::passes;
 pub use writing::answer_bytes;

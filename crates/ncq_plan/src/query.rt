@@ -4,8 +4,8 @@ use crate::template::SlotTemplate;
 use ncq_base::{Atom, Bytes, Interval, Sequence};
 use ncq_row::{Pairs, Shape};
 
-/// A slot has the constant's atom.
-#[derive(Drop)]
+/// A slot has the constant's atom. Such demands are ordered by slot, then by atom.
+#[derive(PartialEq, Eq, PartialOrd, Ord, Drop)]
 pub struct EqualTo {
     pub slot: usize,
     pub constant: Atom,

@@ -1,0 +1,74 @@
+-- The laws that tie a query to its normal query.
+use Rattle.std.specs.Prelude.{◌≡◌, ◌≢◌, true, Result, Ok, Err, map}
+use Rattle.std.specs.List.{filter, list_all}
+use Rattle.ncq_tree.specs.declared.model.Element.{Element}
+use Rattle.ncq_pyx.specs.Canonical.{is_proper}
+use Rattle.ncq_source.specs.StoreStates.{StoreState}
+use Rattle.ncq_row.specs.Embeddings.{rows_of}
+use Rattle.ncq_plan.specs.declared.query.NormalQuery.{NormalQuery}
+use Rattle.ncq_plan.specs.Exprs.{World, rows_in}
+use Rattle.ncq_plan.specs.Plans.{plan_of}
+use Rattle.ncq_plan.specs.Products.{prod}
+use Rattle.ncq_plan.specs.Residuals.{passes}
+use Rattle.ncq_plan.specs.Templates.{constructed}
+use Rattle.ncq_construct.specs.Proper.{WorldIsProper}
+use Rattle.ncq_xmlql.specs.declared.model.Pattern.{Pattern}
+use Rattle.ncq_xmlql.specs.declared.model.Query.{Query}
+use Rattle.ncq_xmlql.specs.declared.model.Statement.{Statement}
+use Rattle.ncq_xmlql.specs.ItemReading.{is_variable}
+use Rattle.ncq_xmlql.specs.WellFormed.{IsWellFormed, item_is_whole}
+use Rattle.ncq_bind.specs.declared.binding.BindError.{BindError}
+use Rattle.ncq_bind.specs.declared.binding.BindError.TheVariants.{OutOfMemory}
+use Rattle.ncq_bind.specs.Places.{places, shape_of}
+use Rattle.ncq_bind.specs.Embeddings.{embeddings, has_literals}
+use Rattle.ncq_bind.specs.Answers.{arms_of, places_of, answer}
+use Rattle.ncq_bind.specs.Bound.{item_is_bound}
+use Rattle.ncq_bind.specs.NormalQueries.{normal_query}
+use Rattle.ncq_bind.specs.Bindings.{Binds}
+
+-- The embeddings of a pattern are those rows of its shape that have each literal's atom at the
+-- literal's place.
+abbrev pub ArmLaw : Type 0
+ArmLaw =
+    (p : Pattern) (e : Element)
+    → embeddings p e ≡ filter (has_literals (places p)) (rows_of (shape_of p) e)
+
+-- The embeddings of a pattern without literals are the rows of its shape.
+abbrev pub OpenLaw : Type 0
+OpenLaw =
+    (p : Pattern) (e : Element) → list_all is_variable (places p) ≡ true
+    → embeddings p e ≡ rows_of (shape_of p) e
+
+-- Where each condition has a variable and all of them have places, the forests of the normal
+-- query's rows are the answer.
+abbrev pub JoiningLaw : Type 0
+JoiningLaw =
+    (query : Query) (world : World) → list_all item_is_whole query.items ≡ true
+    → list_all (item_is_bound (places_of (arms_of query.items))) query.items ≡ true
+    → map (constructed (normal_query query).template) (prod (normal_query query) world)
+    ≡ answer query world
+
+-- For every statement that binds and every world, the forests made of the rows of the plan that
+-- pass the residual are the answer.
+abbrev pub PlanLaw : Type 0
+PlanLaw =
+    (statement : Statement) (store : StoreState) (normal : NormalQuery) → IsWellFormed statement
+    → Binds statement.query store (Ok normal) → (world : World)
+    → map (constructed normal.template)
+    (filter (passes normal.residual) (rows_in (plan_of normal) world))
+    ≡ answer statement.query world
+
+-- For every statement that binds and every world of proper elements, each forest of the answer is
+-- proper.
+abbrev pub ProperLaw : Type 0
+ProperLaw =
+    (statement : Statement) (store : StoreState) (normal : NormalQuery) → IsWellFormed statement
+    → Binds statement.query store (Ok normal) → (world : World) → WorldIsProper world
+    → list_all is_proper (answer statement.query world) ≡ true
+
+-- No two answers of `bind` are right for one query, but for want of memory.
+abbrev pub OneAnswer : Type 0
+OneAnswer =
+    (query : Query) (store : StoreState) (a b : Result NormalQuery BindError)
+    → Binds query store a → Binds query store b → a ≢ Err OutOfMemory → b ≢ Err OutOfMemory
+    → a ≡ b

@@ -1,0 +1,12 @@
+pub mod Places
+pub mod Embeddings
+pub mod Answers
+pub mod Bound
+pub mod Constraints
+pub mod Sorted
+pub mod Ranges
+pub mod NormalArms
+pub mod NormalQueries
+pub mod Bindings
+pub mod Laws
+pub mod Firsts
