@@ -1,5 +1,7 @@
 //! Entries of rows and texts of notices, worked out by hand.
-ghost use Rattle.std.specs.Prelude.{◌≡◌, ◌<◌, IfOk};
+ghost use Rattle.std.specs.Prelude.{◌≡◌, ◌<◌};
+ghost use Rattle.ncq_callback.specs.Facts.{Writes};
+ghost use Rattle.ncq_callback.specs.Texts.{render};
 
 use crate::{
     AddError, Call, Entries, Gather, Handler, Handlers, Kind, Notice, count_notice, mail_notice,
@@ -269,31 +271,75 @@ fn expect_text(
     Ok(())
 }
 
+/// What the handler of a kind is called.
+fn name_of(kind: Kind) -> &'static str {
+    match kind {
+        Kind::Print => "print",
+        Kind::Count => "count",
+        Kind::MailTo => "mailto",
+    }
+}
+
+/// One more handler, called after its kind.
+fn put(alloc: Global, handlers: &mut Handlers, kind: Kind, call: Call) -> Result<(), AddError>
+    requires callable { Call.IsAlwaysCallable call }
+    requires writes { (argument : _) (notice : _) (out : _) (result : _) (after : _)
+        → Call.post call argument notice out result after
+        → Writes
+        (render kind argument.now notice.now.name notice.now.instant notice.now.entries)
+        out.now.items after.now.items result }
+{
+    match bytes_of(alloc, name_of(kind).as_bytes()) {
+        Ok(name) => handlers.add(Handler::new(name, kind, call)),
+        Err(_) => Err(AddError::OutOfMemory),
+    }
+}
+
 #[test]
 fn handlers_write_the_text_of_their_kind(rt: HostRuntime) -> Result<(), Fail> {
     let alloc = rt.alloc();
+    let mut handlers = Handlers::new(alloc);
     let print: Call = Box::new(
         alloc,
-        |argument: &[u8], notice: &Notice, out: &mut Vec<u8>| {
-            print_notice(argument, notice, out)
-        },
+        |argument: &[u8], notice: &Notice, out: &mut Vec<u8>| -> Result<(), AllocError>
+            ensures { Writes
+                (render Kind.Print argument.now
+                notice.now.name notice.now.instant notice.now.entries)
+                out.old.items out.new.items result }
+        { print_notice(argument, notice, out) },
     )?;
+    put(alloc, &mut handlers, Kind::Print, print)?;
     let count: Call = Box::new(
         alloc,
-        |argument: &[u8], notice: &Notice, out: &mut Vec<u8>| {
-            count_notice(argument, notice, out)
-        },
+        |argument: &[u8], notice: &Notice, out: &mut Vec<u8>| -> Result<(), AllocError>
+            ensures { Writes
+                (render Kind.Count argument.now
+                notice.now.name notice.now.instant notice.now.entries)
+                out.old.items out.new.items result }
+        { count_notice(argument, notice, out) },
     )?;
+    put(alloc, &mut handlers, Kind::Count, count)?;
     let mail: Call = Box::new(
         alloc,
-        |argument: &[u8], notice: &Notice, out: &mut Vec<u8>| {
-            mail_notice(argument, notice, out)
-        },
+        |argument: &[u8], notice: &Notice, out: &mut Vec<u8>| -> Result<(), AllocError>
+            ensures { Writes
+                (render Kind.MailTo argument.now
+                notice.now.name notice.now.instant notice.now.entries)
+                out.old.items out.new.items result }
+        { mail_notice(argument, notice, out) },
     )?;
-    let mut handlers = Handlers::new(alloc);
-    handlers.add(Handler::new(bytes_of(alloc, b"print")?, Kind::Print, print))?;
-    handlers.add(Handler::new(bytes_of(alloc, b"count")?, Kind::Count, count))?;
-    handlers.add(Handler::new(bytes_of(alloc, b"mailto")?, Kind::MailTo, mail))?;
+    put(alloc, &mut handlers, Kind::MailTo, mail)?;
+    let again: Call = Box::new(
+        alloc,
+        |argument: &[u8], notice: &Notice, out: &mut Vec<u8>| -> Result<(), AllocError>
+            ensures { Writes
+                (render Kind.Print argument.now
+                notice.now.name notice.now.instant notice.now.entries)
+                out.old.items out.new.items result }
+        { print_notice(argument, notice, out) },
+    )?;
+    let second = put(alloc, &mut handlers, Kind::Print, again);
+    assert_eq!(rt; second, Err(AddError::NameTaken));
     for (name, kind) in [
         ("print", Some(Kind::Print)),
         ("count", Some(Kind::Count)),
@@ -311,32 +357,5 @@ fn handlers_write_the_text_of_their_kind(rt: HostRuntime) -> Result<(), Fail> {
     for row in NOTICES {
         expect_text(&rt, alloc, &handlers, row)?;
     }
-    Ok(())
-}
-
-#[test]
-fn a_name_that_is_taken_is_refused(rt: HostRuntime) -> Result<(), Fail> {
-    let alloc = rt.alloc();
-    let first: Call = Box::new(
-        alloc,
-        |argument: &[u8], notice: &Notice, out: &mut Vec<u8>| {
-            print_notice(argument, notice, out)
-        },
-    )?;
-    let second: Call = Box::new(
-        alloc,
-        |argument: &[u8], notice: &Notice, out: &mut Vec<u8>| {
-            count_notice(argument, notice, out)
-        },
-    )?;
-    let first = Handler::new(bytes_of(alloc, b"print")?, Kind::Print, first);
-    let second = Handler::new(bytes_of(alloc, b"print")?, Kind::Count, second);
-    assert_eq!(rt; second.name().as_slice(), b"print".as_slice());
-    assert_eq!(rt; second.kind(), Kind::Count);
-    let mut handlers = Handlers::new(alloc);
-    handlers.add(first)?;
-    assert_eq!(rt; handlers.add(second), Err(AddError::NameTaken));
-    let row = ("print", "", [].as_slice(), "notice w 5\nend\n");
-    expect_text(&rt, alloc, &handlers, &row)?;
     Ok(())
 }
