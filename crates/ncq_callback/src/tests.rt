@@ -209,7 +209,8 @@ const NOTICES: &[(&str, &str, &[(bool, u64, &str)], &str)] = &[
         "mailto",
         "ops desk",
         &[(true, 1, QUOTE)],
-        "mail w 5 ops desk\ngain 1\n(Quote\n(Symbol\n-INTC\n)Symbol\n(Price\n-1\n)Price\n)Quote\nend\n",
+        "mail w 5 ops desk\ngain 1\n(Quote\n(Symbol\n-INTC\n)Symbol\n(Price\n-1\n)Price\n)Quote\n\
+            end\n",
     ),
     (
         "count",
