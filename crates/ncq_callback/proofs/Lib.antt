@@ -1,0 +1,4 @@
+pub mod LabelLaws
+pub mod LastLaws
+pub mod SharingLaws
+pub mod TellLaws

@@ -1,1 +1,5 @@
+pub mod Facts
+pub mod Gathered
+pub mod Labels
+pub mod LastAnswers
 pub mod Texts

@@ -1,8 +1,32 @@
-//! The texts of notices.
-//! A name, an instant and differences come in; the lines of the notice go out behind what `out`
-//! holds. Where nothing differs there is no notice.
+//! Notices, and the handlers that write them.
+//! Rows come in, each as one that comes or one that goes; how often each answer stands more or less
+//! is counted, and that makes the entries of a notice. A handler appends the text of a notice: it
+//! keeps beside its closure that a call appends the text of its kind.
+//!
+//! `print_notice` and `count_notice` may as well be called with another argument: their texts have
+//! none.
 #![tactic(auto)]
 
+mod count;
+mod gather;
+mod handler;
+mod handlers;
+mod last;
+mod laws;
+mod mail;
+mod notice;
 mod print;
+mod row_bag;
+mod sharing;
+#[cfg(test)]
+mod tests;
+mod texts;
 
-pub use print::write_print;
+pub use count::count_notice;
+pub use gather::Gather;
+pub use handler::{Call, Handler};
+pub use handlers::{AddError, Handlers};
+pub use laws::counts_tell_the_difference;
+pub use mail::mail_notice;
+pub use notice::{Entries, Kind, Notice};
+pub use print::{print_notice, write_print};

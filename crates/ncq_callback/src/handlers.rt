@@ -1,0 +1,105 @@
+//! The handlers that a program has.
+ghost use Rattle.std.specs.Prelude.{◌≡◌, ◌<◌, ◌++◌, ◌∷◌, ◌↔◌, [], OnOk, OnErr, IfSome, IsSome};
+ghost use Rattle.std.specs.Prelude.{Err, slice_get, position, length};
+ghost use Rattle.std.specs.Str.{bytes_eq};
+ghost use Rattle.ncq_callback.specs.Texts.{render};
+ghost use Rattle.ncq_callback.specs.Labels.{labels};
+
+use crate::handler::Handler;
+use crate::notice::{Kind, Notice};
+use std::alloc::{AllocError, Global};
+
+/// Why a handler was not added.
+#[derive(Clone, Copy, Debug, PartialEq, Eq)]
+pub enum AddError {
+    /// A handler has the name.
+    NameTaken,
+    OutOfMemory,
+}
+
+/// Handlers, each name once. Contracts see the list of their names and kinds.
+#[derive(Drop)]
+pub struct Handlers {
+    items: Vec<Handler>,
+}
+
+impl Handlers {
+    pub fn new(alloc: Global) -> Handlers
+        ensures { labels result.items.items (λ h. h.name) (λ h. h.kind) ≡ [] }
+    {
+        Handlers {
+            items: Vec::new(alloc),
+        }
+    }
+
+    /// The place of the handler of this name: none exactly where there is none.
+    pub fn find(&self, name: &[u8]) -> Option<usize>
+        ensures { result ≡ position (λ label. bytes_eq name.now label.0)
+            (labels self.now.items.items (λ h. h.name) (λ h. h.kind)) }
+    {
+        let mut at = 0;
+        while at < self.items.len() {
+            if self.items[at].is_called(name) {
+                return Some(at);
+            }
+            at += 1;
+        }
+        None
+    }
+
+    /// One more handler behind the others. `NameTaken` comes exactly where a handler has its name.
+    /// After an error the handlers are as they were.
+    pub fn add(&mut self, handler: Handler) -> Result<(), AddError>
+        ensures taken { result ≡ Err AddError.NameTaken
+            ↔ IsSome (position (λ label. bytes_eq handler.name label.0)
+            (labels self.old.items.items (λ h. h.name) (λ h. h.kind))) }
+        ensures ok { OnOk result (labels self.new.items.items (λ h. h.name) (λ h. h.kind)
+            ≡ labels self.old.items.items (λ h. h.name) (λ h. h.kind)
+            ++ (handler.name, handler.kind) ∷ []) }
+        ensures err { OnErr result (labels self.new.items.items (λ h. h.name) (λ h. h.kind)
+            ≡ labels self.old.items.items (λ h. h.name) (λ h. h.kind)) }
+    {
+        if self.find(handler.name().as_slice()).is_some() {
+            return Err(AddError::NameTaken);
+        }
+        match self.items.push(handler) {
+            Ok(()) => Ok(()),
+            Err(_) => Err(AddError::OutOfMemory),
+        }
+    }
+
+    /// The kind of the handler at a place.
+    pub fn kind(&self, at: usize) -> Kind
+        requires { at < length (labels self.now.items.items (λ h. h.name) (λ h. h.kind)) }
+        ensures { IfSome
+            (slice_get (labels self.now.items.items (λ h. h.name) (λ h. h.kind)) at)
+            (λ label. result ≡ label.1) }
+    {
+        self.items[at].kind()
+    }
+
+    /// Appends the text that the handler at a place writes for the notice. After want of memory
+    /// `out` is as before.
+    pub fn call(
+        &self,
+        at: usize,
+        argument: &[u8],
+        notice: &Notice,
+        out: &mut Vec<u8>,
+    ) -> Result<(), AllocError>
+        requires { at < length (labels self.now.items.items (λ h. h.name) (λ h. h.kind)) }
+        ensures ok { OnOk result (IfSome
+            (slice_get (labels self.now.items.items (λ h. h.name) (λ h. h.kind)) at)
+            (λ label. out.new.items ≡ out.old.items
+            ++ render label.1 argument.now
+            notice.now.name notice.now.instant notice.now.entries)) }
+        ensures err { OnErr result (out.new.items ≡ out.old.items) }
+    {
+        let before = out.len();
+        let written = self.items[at].run(argument, notice, out);
+        if written.is_err() {
+            out.truncate(before);
+        }
+        written
+    }
+}
