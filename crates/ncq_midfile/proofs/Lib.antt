@@ -1,0 +1,9 @@
+pub mod Compacts
+pub mod Counted
+pub mod Cuts
+pub mod Gathers
+pub mod Kept
+pub mod Left
+pub mod Parts
+pub mod Strikes
+pub mod Sounds

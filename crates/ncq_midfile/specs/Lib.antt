@@ -1,0 +1,5 @@
+pub mod Content
+pub mod Files
+pub mod LossCounts
+pub mod Made
+pub mod Rows
