@@ -4,6 +4,8 @@ pub mod Cuts
 pub mod Gathers
 pub mod Kept
 pub mod Left
+pub mod Matches
 pub mod Parts
+pub mod SameAtoms
 pub mod Strikes
 pub mod Sounds

@@ -1,17 +1,20 @@
 //! A file of signed rows.
-ghost use Rattle.std.specs.Prelude.{◌≡◌, ◌<◌, ◌≤◌, ◌++◌, [], ◌∷◌, List, map, length, slice_get};
-ghost use Rattle.std.specs.Prelude.{Some, IfOk, OnOk, OnErr};
+ghost use Rattle.std.specs.Prelude.{◌≡◌, ◌<◌, ◌≤◌, ◌++◌, [], ◌∷◌, List, map, filter, length};
+ghost use Rattle.std.specs.Prelude.{slice_get, Some, IfOk, OnOk, OnErr};
 ghost use Rattle.std.specs.List.{AllByRecursion, All};
 ghost use Rattle.ncq_row.specs.Embeddings.{Row as a_row};
 ghost use Rattle.ncq_midfile.specs.Content.{up_to, since, IsContent, IsSoundAt, rows_of, rows_at};
 ghost use Rattle.ncq_midfile.specs.Content.{AreRising, AreGains};
 ghost use Rattle.ncq_midfile.specs.Files.{AreNumbered, IsFile};
 ghost use Rattle.ncq_midfile.specs.Made.{gained_at};
+ghost use Rattle.ncq_midfile.specs.Matching.{HaveSlots, has_key};
+ghost use Rattle.ncq_base.specs.Counts.{SameCounts};
 
 use crate::compact::gather;
 use crate::content::{count_up_to, first_places, left_over};
+use crate::matching::matching_in;
 use crate::signed::{Places, SignedRow};
-use ncq_row::{Row, Rows};
+use ncq_row::{Row, RowKey, Rows};
 use std::alloc::{AllocError, Global};
 use std::marker::Model;
 
@@ -99,6 +102,29 @@ impl MidFile {
         content_of(alloc, self.rows.as_slice(), n)
     }
 
+    /// The places of the rows that are left at `n` and have these atoms in the slots.
+    pub fn matching(
+        &self,
+        alloc: Global,
+        slots: &[usize],
+        key: &RowKey,
+        n: u64,
+    ) -> Result<Places, AllocError>
+        requires base { self.now.base ≤ n }
+        requires sound { IsSoundAt n self.now.rows }
+        requires slots { HaveSlots slots.now self.now.rows }
+        ensures rising { IfOk result (λ places. AreRising 0 places) }
+        ensures gains { IfOk result (λ places. AreGains self.now.rows places) }
+        ensures within { IfOk result (λ places.
+            All (λ place. place < length self.now.rows) places) }
+        ensures counts { IfOk result (λ places.
+            (list : List a_row) → IsContent n self.now.rows list
+            → SameCounts (rows_at places self.now.rows)
+            (filter (has_key slots.now key.now) list)) }
+    {
+        matching_in(alloc, self.rows.as_slice(), slots, key.as_slice(), n)
+    }
+
     /// Makes `n` the base: the file has then the rows that are left at `n`, each as one that is
     /// there from the base on. No row is made. After an error the file is as it was.
     pub fn compact(&mut self, alloc: Global, n: u64) -> Result<(), AllocError>
@@ -151,7 +177,8 @@ fn content_of(alloc: Global, rows: &[SignedRow], n: u64) -> Result<Places, Alloc
     ensures rising { IfOk result (λ places. AreRising 0 places) }
     ensures gains { IfOk result (λ places. AreGains rows.now places) }
     ensures within { IfOk result (λ places. All (λ place. place < length rows.now) places) }
-    ensures early { IfOk result (λ places. All (λ place. place < length (up_to n rows.now)) places) }
+    ensures early { IfOk result (λ places.
+        All (λ place. place < length (up_to n rows.now)) places) }
     ensures content { IfOk result (λ places. IsContent n rows.now (rows_at places rows.now)) }
 {
     let all = first_places(alloc, count_up_to(rows, n))?;

@@ -8,6 +8,7 @@ mod compact;
 mod content;
 mod file;
 mod laws;
+mod matching;
 mod signed;
 #[cfg(test)]
 mod tests;

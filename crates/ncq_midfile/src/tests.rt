@@ -9,7 +9,7 @@ ghost use Rattle.ncq_midfile.specs.Made.{gained_at, lost_at};
 
 use crate::{MidFile, SignedRow};
 use ncq_base::{Steps, bytes_of};
-use ncq_row::{Names, Row, Rows, Shape, ShapeContent, ShapeSuffix, match_shape};
+use ncq_row::{Names, Row, RowKey, Rows, Shape, ShapeContent, ShapeSuffix, match_shape};
 use ncq_tree::{Attributes, Element, Forest, Node};
 use std::alloc::{AllocError, Global};
 use std::marker::Brand;
@@ -158,7 +158,7 @@ fn file<L: Ledger>(
     Ok(file)
 }
 
-/// How many rows are left at a change.
+/// How many rows are left at a change. With no slots to look at, each of them has the key.
 fn left(alloc: Global, file: &MidFile, n: u64) -> Result<usize, AllocError>
     requires { IsSound file.now.rows }
 {
@@ -166,7 +166,12 @@ fn left(alloc: Global, file: &MidFile, n: u64) -> Result<usize, AllocError>
         return Ok(0);
     }
     let places = file.content_at(alloc, n)?;
-    Ok(places.len())
+    let all = file.matching(alloc, &[], &RowKey::new(alloc), n)?;
+    if places.len() == all.len() {
+        Ok(places.len())
+    } else {
+        Ok(99)
+    }
 }
 
 /// How many rows are left at the change where all later rows were taken away.
