@@ -1,0 +1,4 @@
+pub mod CallerLemmas
+pub mod CommitLaws
+pub mod OneSource
+pub mod ScanLaws
