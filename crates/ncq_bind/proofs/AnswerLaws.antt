@@ -28,7 +28,7 @@ use Rattle.ncq_bind.proofs.JoiningLaws.{forests_are}
 use Rattle.ncq_bind.proofs.NameLaws.{template_named}
 
 pub plan_answers : PlanLaw
-plan_answers statement store normal whole gives world =
+plan_answers statement roots normal whole gives world =
     let query = statement.query in
     let bound = both_true (list_all (item_is_bound (places_of (arms_of query.items))) query.items) (template_is_bound (places_of (arms_of query.items)) query.template) gives.bound in
     subst (λ (n : NormalQuery). map (constructed n.template) (filter (passes n.residual) (rows_in (plan_of n) world)) ≡ answer query world) (sym gives.answer)
@@ -49,8 +49,8 @@ each_proper template named (row ∷ rows) h =
     and_from _ _ (constructed_is_proper template row named t.0) (each_proper template named rows t.1)
 
 pub proper_answers : ProperLaw
-proper_answers statement store normal whole gives world proper =
-    ap (list_all is_proper) (sym (plan_answers statement store normal whole gives world))
+proper_answers statement roots normal whole gives world proper =
+    ap (list_all is_proper) (sym (plan_answers statement roots normal whole gives world))
     ∙ each_proper normal.template (statement_named statement normal whole gives.answer)
     (filter (passes normal.residual) (rows_in (plan_of normal) world))
     (rows_filter (passes normal.residual) (rows_in (plan_of normal) world) (expr_rows_are_proper world proper (plan_of normal)))

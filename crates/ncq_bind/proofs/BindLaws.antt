@@ -33,24 +33,24 @@ clash : {A : Type 0} (b : Bool) → b ≡ true → b ≡ false → A
 clash b e f = absurd (let c : true ≡ false = sym e ∙ f in cc)
 
 pub answers_agree : OneAnswer
-answers_agree query store (Err OutOfMemory) b p q h k = absurd (h refl)
-answers_agree query store (Ok n) (Err OutOfMemory) p q h k = absurd (k refl)
-answers_agree query store (Err NoSource) (Err OutOfMemory) p q h k = absurd (k refl)
-answers_agree query store (Err RootDiffers) (Err OutOfMemory) p q h k = absurd (k refl)
-answers_agree query store (Err Unbound) (Err OutOfMemory) p q h k = absurd (k refl)
-answers_agree query store (Ok n) (Ok m) p q h k = ap Ok (p.answer ∙ sym q.answer)
-answers_agree query store (Ok n) (Err NoSource) p q h k = clash _ p.declared q
-answers_agree query store (Ok n) (Err RootDiffers) p q h k = clash _ p.roots q.roots
-answers_agree query store (Ok n) (Err Unbound) p q h k = clash _ p.bound q.bound
-answers_agree query store (Err NoSource) (Ok m) p q h k = clash _ q.declared p
-answers_agree query store (Err NoSource) (Err NoSource) p q h k = refl
-answers_agree query store (Err NoSource) (Err RootDiffers) p q h k = clash _ q.declared p
-answers_agree query store (Err NoSource) (Err Unbound) p q h k = clash _ q.declared p
-answers_agree query store (Err RootDiffers) (Ok m) p q h k = clash _ q.roots p.roots
-answers_agree query store (Err RootDiffers) (Err NoSource) p q h k = clash _ p.declared q
-answers_agree query store (Err RootDiffers) (Err RootDiffers) p q h k = refl
-answers_agree query store (Err RootDiffers) (Err Unbound) p q h k = clash _ q.roots p.roots
-answers_agree query store (Err Unbound) (Ok m) p q h k = clash _ q.bound p.bound
-answers_agree query store (Err Unbound) (Err NoSource) p q h k = clash _ p.declared q
-answers_agree query store (Err Unbound) (Err RootDiffers) p q h k = clash _ p.roots q.roots
-answers_agree query store (Err Unbound) (Err Unbound) p q h k = refl
+answers_agree query roots (Err OutOfMemory) b p q h k = absurd (h refl)
+answers_agree query roots (Ok n) (Err OutOfMemory) p q h k = absurd (k refl)
+answers_agree query roots (Err NoSource) (Err OutOfMemory) p q h k = absurd (k refl)
+answers_agree query roots (Err RootDiffers) (Err OutOfMemory) p q h k = absurd (k refl)
+answers_agree query roots (Err Unbound) (Err OutOfMemory) p q h k = absurd (k refl)
+answers_agree query roots (Ok n) (Ok m) p q h k = ap Ok (p.answer ∙ sym q.answer)
+answers_agree query roots (Ok n) (Err NoSource) p q h k = clash _ p.declared q
+answers_agree query roots (Ok n) (Err RootDiffers) p q h k = clash _ p.root q.root
+answers_agree query roots (Ok n) (Err Unbound) p q h k = clash _ p.bound q.bound
+answers_agree query roots (Err NoSource) (Ok m) p q h k = clash _ q.declared p
+answers_agree query roots (Err NoSource) (Err NoSource) p q h k = refl
+answers_agree query roots (Err NoSource) (Err RootDiffers) p q h k = clash _ q.declared p
+answers_agree query roots (Err NoSource) (Err Unbound) p q h k = clash _ q.declared p
+answers_agree query roots (Err RootDiffers) (Ok m) p q h k = clash _ q.root p.root
+answers_agree query roots (Err RootDiffers) (Err NoSource) p q h k = clash _ p.declared q
+answers_agree query roots (Err RootDiffers) (Err RootDiffers) p q h k = refl
+answers_agree query roots (Err RootDiffers) (Err Unbound) p q h k = clash _ q.root p.root
+answers_agree query roots (Err Unbound) (Ok m) p q h k = clash _ q.bound p.bound
+answers_agree query roots (Err Unbound) (Err NoSource) p q h k = clash _ p.declared q
+answers_agree query roots (Err Unbound) (Err RootDiffers) p q h k = clash _ p.root q.root
+answers_agree query roots (Err Unbound) (Err Unbound) p q h k = refl

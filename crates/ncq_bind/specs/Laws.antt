@@ -3,7 +3,6 @@ use Rattle.std.specs.Prelude.{◌≡◌, ◌≢◌, true, Result, Ok, Err, map}
 use Rattle.std.specs.List.{filter, list_all}
 use Rattle.ncq_tree.specs.declared.model.Element.{Element}
 use Rattle.ncq_pyx.specs.Canonical.{is_proper}
-use Rattle.ncq_source.specs.StoreStates.{StoreState}
 use Rattle.ncq_row.specs.Embeddings.{rows_of}
 use Rattle.ncq_plan.specs.declared.query.NormalQuery.{NormalQuery}
 use Rattle.ncq_plan.specs.Exprs.{World, rows_in}
@@ -24,7 +23,7 @@ use Rattle.ncq_bind.specs.Embeddings.{embeddings, has_literals}
 use Rattle.ncq_bind.specs.Answers.{arms_of, places_of, answer}
 use Rattle.ncq_bind.specs.Bound.{item_is_bound}
 use Rattle.ncq_bind.specs.NormalQueries.{normal_query}
-use Rattle.ncq_bind.specs.Bindings.{Binds}
+use Rattle.ncq_bind.specs.Bindings.{Binds, Roots}
 
 -- The embeddings of a pattern are those rows of its shape that have each literal's atom at the
 -- literal's place.
@@ -52,8 +51,8 @@ JoiningLaw =
 -- pass the residual are the answer.
 abbrev pub PlanLaw : Type 0
 PlanLaw =
-    (statement : Statement) (store : StoreState) (normal : NormalQuery) → IsWellFormed statement
-    → Binds statement.query store (Ok normal) → (world : World)
+    (statement : Statement) (roots : Roots) (normal : NormalQuery) → IsWellFormed statement
+    → Binds statement.query roots (Ok normal) → (world : World)
     → map (constructed normal.template)
     (filter (passes normal.residual) (rows_in (plan_of normal) world))
     ≡ answer statement.query world
@@ -62,13 +61,13 @@ PlanLaw =
 -- proper.
 abbrev pub ProperLaw : Type 0
 ProperLaw =
-    (statement : Statement) (store : StoreState) (normal : NormalQuery) → IsWellFormed statement
-    → Binds statement.query store (Ok normal) → (world : World) → WorldIsProper world
+    (statement : Statement) (roots : Roots) (normal : NormalQuery) → IsWellFormed statement
+    → Binds statement.query roots (Ok normal) → (world : World) → WorldIsProper world
     → list_all is_proper (answer statement.query world) ≡ true
 
 -- No two answers of `bind` are right for one query, but for want of memory.
 abbrev pub OneAnswer : Type 0
 OneAnswer =
-    (query : Query) (store : StoreState) (a b : Result NormalQuery BindError)
-    → Binds query store a → Binds query store b → a ≢ Err OutOfMemory → b ≢ Err OutOfMemory
+    (query : Query) (roots : Roots) (a b : Result NormalQuery BindError)
+    → Binds query roots a → Binds query roots b → a ≢ Err OutOfMemory → b ≢ Err OutOfMemory
     → a ≡ b

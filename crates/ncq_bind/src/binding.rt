@@ -4,7 +4,7 @@ ghost use Rattle.std.specs.List.{list_all};
 ghost use Rattle.ncq_construct.specs.Proper.{template_is_named};
 ghost use Rattle.ncq_xmlql.specs.WellFormed.{IsWellFormed as StatementIsWellFormed};
 ghost use Rattle.ncq_plan.specs.WellFormed.{IsWellFormed};
-ghost use Rattle.ncq_bind.specs.Bindings.{Binds, are_declared, has_root, have_roots};
+ghost use Rattle.ncq_bind.specs.Bindings.{Binds, are_declared, have_roots, is_root, roots_in};
 ghost use Rattle.ncq_bind.specs.Bindings.{item_has_root, item_is_declared};
 ghost use Rattle.ncq_source.specs.StoreStates.{found};
 
@@ -50,7 +50,7 @@ impl From<AllocError> for BindError {
 /// condition or the template uses a variable that no pattern has.
 pub fn bind(alloc: Global, statement: &Statement, store: &Store) -> Result<NormalQuery, BindError>
     requires { StatementIsWellFormed statement.now }
-    ensures answer { Binds statement.now.query store.now result }
+    ensures answer { Binds statement.now.query (roots_in store.now) result }
     ensures formed { IfOk result (λ n. IsWellFormed n) }
     ensures named { IfOk result (λ n. template_is_named n.template ≡ true) }
 {
@@ -69,14 +69,14 @@ pub fn bind(alloc: Global, statement: &Statement, store: &Store) -> Result<Norma
 
 /// Whether all sources are declared.
 fn are_declared(store: &Store, items: &[QueryItem]) -> bool
-    ensures { result ≡ are_declared store.now items.now }
+    ensures { result ≡ are_declared (roots_in store.now) items.now }
 {
     items.iter().all(|item| is_declared(store, item))
 }
 
 /// Whether the source of a match is declared.
 fn is_declared(store: &Store, item: &QueryItem) -> bool
-    ensures { result ≡ item_is_declared store.now item.now }
+    ensures { result ≡ item_is_declared (roots_in store.now) item.now }
 {
     match item {
         QueryItem::Match { source, .. } => store.find(source.as_slice()).is_some(),
@@ -86,14 +86,14 @@ fn is_declared(store: &Store, item: &QueryItem) -> bool
 
 /// Whether all root tags are those of their sources.
 fn have_roots(store: &Store, items: &[QueryItem]) -> bool
-    ensures { result ≡ have_roots store.now items.now }
+    ensures { result ≡ have_roots (roots_in store.now) items.now }
 {
     items.iter().all(|item| item_has_root(store, item))
 }
 
 /// Whether the root tag of a match is that of its source.
 fn item_has_root(store: &Store, item: &QueryItem) -> bool
-    ensures { result ≡ item_has_root store.now item.now }
+    ensures { result ≡ item_has_root (roots_in store.now) item.now }
 {
     match item {
         QueryItem::Match { root, source, .. } => has_root(store, source, root),
@@ -103,7 +103,7 @@ fn item_has_root(store: &Store, item: &QueryItem) -> bool
 
 /// Whether the source of this name has this root.
 fn has_root(store: &Store, source: &Bytes, root: &Bytes) -> bool
-    ensures { result ≡ has_root store.now source.now root.now }
+    ensures { result ≡ is_root root.now (roots_in store.now source.now) }
 {
     match store.find(source.as_slice()) {
         Some(id) => *store.root_of(id) == *root,

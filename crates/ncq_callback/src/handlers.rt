@@ -7,6 +7,7 @@ ghost use Rattle.ncq_callback.specs.Labels.{labels};
 
 use crate::handler::Handler;
 use crate::notice::{Kind, Notice};
+use ncq_base::Bytes;
 use std::alloc::{AllocError, Global};
 
 /// Why a handler was not added.
@@ -30,6 +31,22 @@ impl Handlers {
         Handlers {
             items: Vec::new(alloc),
         }
+    }
+
+    pub fn len(&self) -> usize
+        ensures { result ≡ length (labels self.now.items.items (λ h. h.name) (λ h. h.kind)) }
+    {
+        self.items.len()
+    }
+
+    /// The name of the handler at a place.
+    pub fn name(&self, at: usize) -> &Bytes
+        requires { at < length (labels self.now.items.items (λ h. h.name) (λ h. h.kind)) }
+        ensures { IfSome
+            (slice_get (labels self.now.items.items (λ h. h.name) (λ h. h.kind)) at)
+            (λ label. result.now ≡ label.0) }
+    {
+        self.items[at].name()
     }
 
     /// The place of the handler of this name: none exactly where there is none.
