@@ -1,13 +1,12 @@
 -- What is made of the plan's rows is the answer, and it is proper where the elements are.
-use Rattle.std.proofs.Common.{◌≡◌, true, List, [], ◌∷◌, map, refl, sym, ap, ◌∙◌, subst, cond, Bool, false}
-use Rattle.std.specs.Prelude.{Ok}
+use Rattle.std.proofs.Common.{◌≡◌, true, [], ◌∷◌, map, refl, sym, ap, ◌∙◌, subst}
 use Rattle.std.specs.List.{filter, list_all}
 use Rattle.std.proofs.lemmas.Bool.{and_from}
 use Rattle.ncq_pyx.specs.Canonical.{is_proper}
-use Rattle.ncq_row.specs.Embeddings.{Row, Rows}
+use Rattle.ncq_row.specs.Embeddings.{Rows}
 use Rattle.ncq_plan.specs.declared.query.NormalQuery.{NormalQuery}
 use Rattle.ncq_plan.specs.declared.template.SlotTemplate.{SlotTemplate}
-use Rattle.ncq_plan.specs.Exprs.{World, rows_in}
+use Rattle.ncq_plan.specs.Exprs.{rows_in}
 use Rattle.ncq_plan.specs.Plans.{plan_of}
 use Rattle.ncq_plan.specs.Residuals.{passes}
 use Rattle.ncq_plan.specs.Templates.{constructed}
@@ -22,19 +21,20 @@ use Rattle.ncq_bind.specs.Bound.{item_is_bound, template_is_bound}
 use Rattle.ncq_bind.specs.Constraints.{first_slot}
 use Rattle.ncq_bind.specs.NormalQueries.{normal_query}
 use Rattle.ncq_bind.specs.Laws.{PlanLaw, ProperLaw}
-use Rattle.ncq_bind.proofs.Bools.{both_true}
+use Rattle.ncq_base.proofs.Tests.{both_true}
+use Rattle.ncq_bind.proofs.ArmLaws.{arm_law}
 use Rattle.ncq_bind.proofs.BindLaws.{statement_formed}
 use Rattle.ncq_bind.proofs.JoiningLaws.{forests_are}
 use Rattle.ncq_bind.proofs.NameLaws.{template_named}
 
 pub plan_answers : PlanLaw
-plan_answers statement store normal whole gives world =
+plan_answers statement roots normal whole gives world =
     let query = statement.query in
     let bound = both_true (list_all (item_is_bound (places_of (arms_of query.items))) query.items) (template_is_bound (places_of (arms_of query.items)) query.template) gives.bound in
     subst (λ (n : NormalQuery). map (constructed n.template) (filter (passes n.residual) (rows_in (plan_of n) world)) ≡ answer query world) (sym gives.answer)
     (ap (map (constructed (normal_query query).template))
     (plan_gives_the_rows (normal_query query) world (statement_formed statement (normal_query query) whole gives.bound refl))
-    ∙ forests_are query whole.items bound.0 world)
+    ∙ forests_are query whole.items bound.0 arm_law world)
 
 pub statement_named : (statement : Statement) (n : NormalQuery) → IsWellFormed statement → n ≡ normal_query statement.query → template_is_named n.template ≡ true
 statement_named statement n whole is =
@@ -49,8 +49,8 @@ each_proper template named (row ∷ rows) h =
     and_from _ _ (constructed_is_proper template row named t.0) (each_proper template named rows t.1)
 
 pub proper_answers : ProperLaw
-proper_answers statement store normal whole gives world proper =
-    ap (list_all is_proper) (sym (plan_answers statement store normal whole gives world))
+proper_answers statement roots normal whole gives world proper =
+    ap (list_all is_proper) (sym (plan_answers statement roots normal whole gives world))
     ∙ each_proper normal.template (statement_named statement normal whole gives.answer)
     (filter (passes normal.residual) (rows_in (plan_of normal) world))
     (rows_filter (passes normal.residual) (rows_in (plan_of normal) world) (expr_rows_are_proper world proper (plan_of normal)))

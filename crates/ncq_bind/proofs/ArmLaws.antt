@@ -1,7 +1,7 @@
 -- The embeddings of a pattern are the rows of its shape that have its literals.
-use Rattle.std.proofs.Common.{◌≡◌, ℕ, ◌+◌, Bool, true, false, List, [], ◌∷◌, ◌++◌, length, map, refl, sym, ap, ◌∙◌, subst, length-append}
-use Rattle.std.specs.Prelude.{◌&&◌, if◌then◌else◌}
-use Rattle.std.specs.List.{filter, flat_map, list_all}
+use Rattle.std.proofs.Common.{◌≡◌, ℕ, Bool, true, false, List, [], ◌∷◌, map, refl, sym, ap, ◌∙◌}
+use Rattle.std.specs.Prelude.{if◌then◌else◌}
+use Rattle.std.specs.List.{flat_map, list_all}
 use Rattle.std.specs.Str.{bytes_eq}
 use Rattle.ncq_tree.specs.declared.model.Attribute.{Attribute}
 use Rattle.ncq_tree.specs.declared.model.Element.{Element}
@@ -10,10 +10,13 @@ use Rattle.ncq_tree.specs.declared.model.Node.TheVariants.{Element as element_no
 use Rattle.ncq_row.specs.declared.shape.Shape.{Shape}
 use Rattle.ncq_row.specs.declared.value.Value.{Value}
 use Rattle.ncq_row.specs.declared.value.Value.TheVariants.{Text}
-use Rattle.ncq_row.specs.Embeddings.{Rows, paired, one_of_each, reached, attribute_rows, suffix_rows, value_rows, rows_at, content_rows, rows_among, rows_of}
+use Rattle.ncq_row.specs.Embeddings.{Rows, one_of_each, reached, attribute_rows, suffix_rows, value_rows, rows_at, content_rows, rows_among, rows_of}
 use Rattle.ncq_row.proofs.CallerLemmas.{rows_of_shape, rows_of_value, rows_of_parts}
 use Rattle.std.specs.List.{AllByRecursion}
-use Rattle.ncq_bind.proofs.ListLaws.{each_of_all, each_implied, each-append, each-paired, filters_agree, filter_of_all, filter-append, filter-paired, flat_map_of_ones, map-map, flat_map-map, and_assoc}
+use Rattle.ncq_bind.proofs.ListLaws.{each_of_all, each_implied, filters_agree}
+use Rattle.ncq_plan.proofs.Lists.{filter_all, map-map}
+use Rattle.std.proofs.lemmas.List.Concat.{flat_map_single}
+use Rattle.std.proofs.lemmas.List.Folds.{flat_map-map}
 use Rattle.ncq_xmlql.specs.ItemReading.{is_variable}
 use Rattle.ncq_xmlql.specs.declared.model.Operand.{Operand}
 use Rattle.ncq_xmlql.specs.declared.model.Operand.TheVariants.{Variable, Literal}
@@ -25,57 +28,9 @@ use Rattle.ncq_xmlql.specs.declared.model.Suffix.{Suffix}
 use Rattle.ncq_xmlql.specs.declared.model.Suffix.TheVariants.{Plain, ElementAs, ContentAs}
 use Rattle.ncq_bind.specs.Places.{suffix_places, places, content_places, suffix_shape, shape_of, content_shape}
 use Rattle.ncq_bind.specs.Embeddings.{is_taken, rows_taken_by, attribute_embeddings, suffix_embeddings, embeddings_at, content_embeddings, embeddings_in, embeddings, has_literals}
+use Rattle.ncq_bind.specs.Laws.{ArmLaw, OpenLaw}
+use Rattle.ncq_bind.proofs.Splits.{HasWidth, Splits, splits_along, splits_paired, splits_each, splits_flat_map}
 use Rattle.ncq_bind.proofs.Patterns.{places_of_pattern, places_of_value, places_of_parts, shape_of_pattern, shape_of_value, shape_of_parts, embeddings_of_pattern, embeddings_of_value, embeddings_of_parts, patterns_induction}
-
-abbrev pub HasWidth : List Operand → List Value → Type 0
-HasWidth places row = length row ≡ length places
-
--- what is embedded is what has the literals, and every row has a value for each place
-pub record Splits (places : List Operand) (embedded rows : Rows) : Type 0 where
-  pub kept : embedded ≡ filter (has_literals places) rows
-  pub wide : AllByRecursion (HasWidth places) rows
-
-pub literals-append : (ps qs : List Operand) (x y : List Value) → length x ≡ length ps → has_literals (ps ++ qs) (x ++ y) ≡ (has_literals ps x && has_literals qs y)
-literals-append [] qs [] y e = refl
-literals-append [] qs (v ∷ x) y e = absurd cc
-literals-append (p ∷ ps) qs [] y e = absurd cc
-literals-append (p ∷ ps) qs (v ∷ x) y e =
-    let less : length x ≡ length ps = cc in
-    ap (λ b. is_taken p v && b) (literals-append ps qs x y less) ∙ and_assoc (is_taken p v) (has_literals ps x) (has_literals qs y)
-
-widths-append : (ps qs : List Operand) (x y : List Value) → HasWidth ps x → HasWidth qs y → HasWidth (ps ++ qs) (x ++ y)
-widths-append ps qs x y e f = length-append x y ∙ (λ i. e i + f i) ∙ sym (length-append ps qs)
-
-pub splits_along : {ps qs : List Operand} {a b x y : Rows} → ps ≡ qs → a ≡ b → x ≡ y → Splits qs b y → Splits ps a x
-splits_along {ps = ps} {qs = qs} {a = a} {b = b} {x = x} {y = y} e f g s =
-    subst (λ v. Splits v a x) (sym e) (subst (λ v. Splits qs v x) (sym f) (subst (λ v. Splits qs b v) (sym g) s))
-
-pub splits_none : (ps : List Operand) → Splits ps [] []
-splits_none ps = record { kept = refl; wide = tt }
-
-pub splits_paired : {ps qs : List Operand} {a b x y : Rows} → Splits ps a x → Splits qs b y → Splits (ps ++ qs) (paired a b) (paired x y)
-splits_paired {ps = ps} {qs = qs} {a = a} {b = b} {x = x} {y = y} s t = record {
-  kept =
-      (λ i. paired (s.kept i) (t.kept i))
-      ∙ sym (filter-paired (has_literals ps) (has_literals qs) (has_literals (ps ++ qs)) x y
-      (each_implied (HasWidth ps) (λ l. (r : List Value) → has_literals (ps ++ qs) (l ++ r) ≡ (has_literals ps l && has_literals qs r)) (λ l e r. literals-append ps qs l r e) x s.wide));
-  wide = each-paired (HasWidth ps) (HasWidth qs) (HasWidth (ps ++ qs)) (widths-append ps qs) x y s.wide t.wide;
-}
-
-pub splits_each : {I : Type 0} (pl : I → List Operand) (L R : I → Rows) (is : List I) → AllByRecursion (λ i. Splits (pl i) (L i) (R i)) is
-    → Splits (flat_map pl is) (one_of_each (map L is)) (one_of_each (map R is))
-splits_each pl L R [] e = record { kept = refl; wide = (refl, tt) }
-splits_each pl L R (i ∷ is) e = splits_paired e.0 (splits_each pl L R is e.1)
-
-splits_append : {ps : List Operand} {a b x y : Rows} → Splits ps a x → Splits ps b y → Splits ps (a ++ b) (x ++ y)
-splits_append {ps = ps} {a = a} {b = b} {x = x} {y = y} s t = record {
-  kept = (λ i. s.kept i ++ t.kept i) ∙ sym (filter-append (has_literals ps) x y);
-  wide = each-append (HasWidth ps) x y s.wide t.wide;
-}
-
-pub splits_flat_map : {X : Type 0} (ps : List Operand) (f g : X → Rows) (xs : List X) → ((x : X) → Splits ps (f x) (g x)) → Splits ps (flat_map f xs) (flat_map g xs)
-splits_flat_map ps f g [] h = splits_none ps
-splits_flat_map ps f g (x ∷ xs) h = splits_append (h x) (splits_flat_map ps f g xs h)
 
 -- of rows of one value, a literal takes those that have it
 one_taken : (o : Operand) (row : List Value) → HasWidth (o ∷ []) row → list_all (is_taken o) row ≡ has_literals (o ∷ []) row
@@ -107,7 +62,7 @@ splits_attributes : (attributes : List PatternAttribute) (e : Element)
     → Splits (map (λ a. a.value) attributes) (one_of_each (map (attribute_embeddings e.attributes) attributes))
     (one_of_each (map (attribute_rows e.attributes) (map (λ a. a.name) attributes)))
 splits_attributes attributes e =
-    splits_along (sym (flat_map_of_ones (λ a. a.value) attributes)) refl (ap one_of_each (map-map (attribute_rows e.attributes) (λ (a : PatternAttribute). a.name) attributes))
+    splits_along (sym (flat_map_single (λ a. a.value) attributes)) refl (ap one_of_each (map-map (attribute_rows e.attributes) (λ (a : PatternAttribute). a.name) attributes))
     (splits_each (λ (a : PatternAttribute). a.value ∷ []) (attribute_embeddings e.attributes) (λ a. attribute_rows e.attributes a.name) attributes
     (each_of_all (λ (a : PatternAttribute). Splits (a.value ∷ []) (attribute_embeddings e.attributes a) (attribute_rows e.attributes a.name))
     (λ a. splits_taken a.value (attribute_rows e.attributes a.name) (attribute_wide a.value e.attributes a.name)) attributes))
@@ -150,8 +105,11 @@ splits_at : (p : Pattern) → PatternSplits p
 splits_at = patterns_induction ContentSplits PatternSplits value_splits parts_split
     (λ tag attributes content suffix. whole_splits (record { tag = tag; attributes = attributes; content = content.0; suffix = suffix }) content.1)
 
-pub pattern_splits : (p : Pattern) (e : Element) → Splits (places p) (embeddings p e) (rows_of (shape_of p) e)
+pattern_splits : (p : Pattern) (e : Element) → Splits (places p) (embeddings p e) (rows_of (shape_of p) e)
 pattern_splits p e = splits_in p (splits_at p) (element_node e ∷ [])
+
+pub arm_law : ArmLaw
+arm_law p e = (pattern_splits p e).kept
 
 taken_open : (ps : List Operand) (row : List Value) → list_all is_variable ps ≡ true → has_literals ps row ≡ true
 taken_open [] row e = refl
@@ -159,9 +117,9 @@ taken_open (o ∷ ps) [] e = refl
 taken_open ((Variable x) ∷ ps) (v ∷ row) e = taken_open ps row e
 taken_open ((Literal text) ∷ ps) (v ∷ row) e = absurd cc
 
-pub open_rows : (p : Pattern) (e : Element) → list_all is_variable (places p) ≡ true → embeddings p e ≡ rows_of (shape_of p) e
-open_rows p e open_places =
+pub open_law : OpenLaw
+open_law p e open_places =
     let rows = rows_of (shape_of p) e in
     (pattern_splits p e).kept
     ∙ filters_agree (has_literals (places p)) (λ row. true) rows (each_of_all (λ row. has_literals (places p) row ≡ true) (λ row. taken_open (places p) row open_places) rows)
-    ∙ filter_of_all rows
+    ∙ filter_all rows

@@ -6,7 +6,7 @@ use Rattle.std.specs.Prelude.{◌&&◌, ◌==◌, nat_lt, if◌then◌else◌, �
 use Rattle.std.specs.List.{list_all, flat_map}
 use Rattle.std.specs.declared.cmp.Ordering.{Ordering}
 use Rattle.std.specs.declared.cmp.Ordering.TheVariants.{Less, Equal as Same, Greater}
-use Rattle.std.specs.Ordering.{is_lt, is_gt, is_ge, int_cmp, nat_cmp, MatchOrdering}
+use Rattle.std.specs.Ordering.{is_lt, is_gt, nat_cmp, MatchOrdering}
 use Rattle.std.specs.Prelude.{int_le, int_lt, cond}
 use Rattle.std.proofs.lemmas.Int.{ints}
 use Rattle.std.proofs.lemmas.Cmp.{ranked}
@@ -19,7 +19,8 @@ use Rattle.ncq_row.specs.declared.value.Value.{Value}
 use Rattle.ncq_row.specs.Values.{value_atom}
 use Rattle.ncq_row.specs.Values.{value_at, atom_at}
 use Rattle.std.specs.List.{AllByRecursion}
-use Rattle.ncq_bind.proofs.ListLaws.{each-append, all-append}
+use Rattle.ncq_bind.proofs.ListLaws.{each-append}
+use Rattle.std.proofs.lemmas.List.Folds.{list_all-append}
 use Rattle.ncq_base.specs.Intervals.{in_interval}
 use Rattle.ncq_plan.specs.Residuals.{test_holds}
 use Rattle.ncq_xmlql.specs.declared.model.Operand.{Operand}
@@ -34,7 +35,9 @@ use Rattle.ncq_bind.specs.Answers.{all_agree as values_agree, item_holds}
 use Rattle.ncq_bind.specs.Constraints.{first_slot, place_constraints, constraints_from, turned, constant_constraint, slots_constraints, item_constraints, constraints_of}
 use Rattle.ncq_bind.specs.Ranges.{one_sided}
 use Rattle.ncq_bind.specs.Bound.{is_bound, item_is_bound}
-use Rattle.ncq_bind.proofs.Bools.{and_true, and_assoc, and_front, both_true}
+use Rattle.std.proofs.Math.Bool.{and-true, and_assoc}
+use Rattle.ncq_bind.proofs.Bools.{and_front}
+use Rattle.ncq_base.proofs.Tests.{both_true}
 use Rattle.ncq_bind.proofs.AtomLaws.{same_itself, same_symmetric, turned_holds}
 use Rattle.ncq_bind.proofs.Slots.{bound_slot, slot_before}
 
@@ -67,11 +70,11 @@ le_bound (Num m) n = grind (arith, ints)
 le_bound (Text t) n = refl
 
 gt_bound : (a : Atom) (n : ℤ) → in_interval (one_sided Gt n) a ≡ holds_of Gt a (Num n)
-gt_bound (Num m) n = and_true (int_lt n m) ∙ gt_by (int_lt m n) (int_lt n m) (λ e. grind (arith, ints))
+gt_bound (Num m) n = and-true (int_lt n m) ∙ gt_by (int_lt m n) (int_lt n m) (λ e. grind (arith, ints))
 gt_bound (Text t) n = refl
 
 ge_bound : (a : Atom) (n : ℤ) → in_interval (one_sided Ge n) a ≡ holds_of Ge a (Num n)
-ge_bound (Num m) n = and_true (int_le n m) ∙ grind (arith, ints)
+ge_bound (Num m) n = and-true (int_le n m) ∙ grind (arith, ints)
 ge_bound (Text t) n = refl
 
 in_order : (row : List Value) (a c : ℕ) (o : Ordering) → MatchOrdering o (a < c) (a ≡ c) (c < a)
@@ -121,15 +124,15 @@ module _ (row : List Value) (first : List ℕ → ℕ) (value : List ℕ → Val
   alike_by : (b : Bool) (a c : ℕ) → (a == c) ≡ b
       → list_all (constraint_holds row) (if b then [] else Alike (min a c) (max a c) ∷ []) ≡ same_atom (atom_at row a) (atom_at row c)
   alike_by true a c e = sym (ap (λ s. same_atom (atom_at row s) (atom_at row c)) (eqb-true a c e) ∙ same_itself (atom_at row c))
-  alike_by false a c e = and_true (same_atom (atom_at row (min a c)) (atom_at row (max a c))) ∙ in_order row a c (nat_cmp a c) (ranked a c (nat_cmp a c) refl)
+  alike_by false a c e = and-true (same_atom (atom_at row (min a c)) (atom_at row (max a c))) ∙ in_order row a c (nat_cmp a c) (ranked a c (nat_cmp a c) refl)
 
   slots_hold : (op : Op) (a c : ℕ) → list_all (constraint_holds row) (slots_constraints op a c) ≡ holds_of op (atom_at row a) (atom_at row c)
   slots_hold Eq a c = alike_by (a == c) a c refl
-  slots_hold Ne a c = and_true (holds_of Ne (atom_at row a) (atom_at row c))
-  slots_hold Lt a c = and_true (holds_of Lt (atom_at row a) (atom_at row c))
-  slots_hold Le a c = and_true (holds_of Le (atom_at row a) (atom_at row c))
-  slots_hold Gt a c = and_true (holds_of Gt (atom_at row a) (atom_at row c))
-  slots_hold Ge a c = and_true (holds_of Ge (atom_at row a) (atom_at row c))
+  slots_hold Ne a c = and-true (holds_of Ne (atom_at row a) (atom_at row c))
+  slots_hold Lt a c = and-true (holds_of Lt (atom_at row a) (atom_at row c))
+  slots_hold Le a c = and-true (holds_of Le (atom_at row a) (atom_at row c))
+  slots_hold Gt a c = and-true (holds_of Gt (atom_at row a) (atom_at row c))
+  slots_hold Ge a c = and-true (holds_of Ge (atom_at row a) (atom_at row c))
 
   constant_holds : (op : Op) (slot : ℕ) (constant : Atom) → constraint_holds row (constant_constraint op slot constant) ≡ holds_of op (atom_at row slot) constant
   constant_holds Eq slot constant = refl
@@ -148,10 +151,10 @@ module _ (row : List Value) (first : List ℕ → ℕ) (value : List ℕ → Val
   item_holds_by (Condition (Variable x) op (Variable y)) e =
       slots_hold op (first x) (first y) ∙ (λ i. holds_of op (value_atom (ties x i)) (value_atom (ties y i)))
   item_holds_by (Condition (Variable x) op (Literal text)) e =
-      and_true (constraint_holds row (constant_constraint op (first x) (atom_of text)))
+      and-true (constraint_holds row (constant_constraint op (first x) (atom_of text)))
       ∙ constant_holds op (first x) (atom_of text) ∙ ap (λ v. holds_of op (value_atom v) (atom_of text)) (ties x)
   item_holds_by (Condition (Literal text) op (Variable x)) e =
-      and_true (constraint_holds row (constant_constraint (turned op) (first x) (atom_of text)))
+      and-true (constraint_holds row (constant_constraint (turned op) (first x) (atom_of text)))
       ∙ constant_holds (turned op) (first x) (atom_of text) ∙ turned_holds op (atom_of text) (atom_at row (first x))
       ∙ ap (λ v. holds_of op (atom_of text) (value_atom v)) (ties x)
   item_holds_by (Condition (Literal s) op (Literal t)) e = absurd cc
@@ -161,7 +164,7 @@ module _ (row : List Value) (first : List ℕ → ℕ) (value : List ℕ → Val
   items_hold [] e = refl
   items_hold (item ∷ items) e =
       let both = both_true (item_is_whole item) (list_all item_is_whole items) e in
-      all-append (constraint_holds row) (item_constraints first item) (flat_map (item_constraints first) items)
+      list_all-append (constraint_holds row) (item_constraints first item) (flat_map (item_constraints first) items)
       ∙ (λ i. item_holds_by item both.0 i && items_hold items both.1 i)
 
 -- ---- slots within the row

@@ -3,6 +3,7 @@ use Rattle.std.proofs.Common.{◌≡◌, ℕ, suc, ◌+◌, ◌-◌, ◌<◌, �
 use Rattle.std.specs.Prelude.{◌&&◌, ◌||◌, ◌==◌, min, max, nat_lt, not, if◌then◌else◌}
 use Rattle.std.specs.List.{list_all, flat_map, sum_by}
 use Rattle.std.proofs.lemmas.Bool.{lt-ltb}
+use Rattle.std.proofs.lemmas.List.{length-map}
 use Rattle.std.proofs.lemmas.Bool.Decides.{nat_tests}
 use Rattle.ncq_base.specs.declared.atom.Op.{Op}
 use Rattle.ncq_base.specs.declared.atom.Op.TheVariants.{Eq, Ne, Lt, Le, Gt, Ge}
@@ -10,7 +11,8 @@ use Rattle.ncq_row.specs.declared.pair.Pair.{Pair}
 use Rattle.ncq_row.specs.Widths.{width}
 use Rattle.std.proofs.lemmas.Grind.{flat_map-append}
 use Rattle.std.specs.List.{AllByRecursion}
-use Rattle.ncq_bind.proofs.ListLaws.{all-append, all-flat_map}
+use Rattle.std.proofs.lemmas.List.Folds.{list_all-append}
+use Rattle.ncq_bind.proofs.ListLaws.{all-flat_map}
 use Rattle.ncq_plan.specs.declared.query.EqualTo.{EqualTo}
 use Rattle.ncq_plan.specs.declared.query.Within.{Within}
 use Rattle.ncq_plan.specs.declared.residual.Test.{Test}
@@ -48,7 +50,9 @@ use Rattle.ncq_bind.specs.Sorted.{sorted_onto, equal_order, pair_order}
 use Rattle.ncq_bind.specs.Ranges.{ranges_onto, one_sided}
 use Rattle.ncq_bind.specs.NormalArms.{in_arm, equal_in, range_in, pair_in, open_arms, normal_arm}
 use Rattle.ncq_bind.specs.NormalQueries.{in_one_arm, inner_test, other_test, residual_of, slot_text_of, slot_attribute_of, slot_template, normal_query}
-use Rattle.ncq_bind.proofs.Bools.{and_true, and_itself, both_true, all_of_if}
+use Rattle.std.proofs.Math.Bool.{and-true}
+use Rattle.ncq_bind.proofs.Bools.{and_itself, all_of_if}
+use Rattle.ncq_base.proofs.Tests.{both_true}
 use Rattle.ncq_bind.proofs.AtomLaws.{nat_tied}
 use Rattle.ncq_bind.proofs.SortedLaws.{all-sorted_onto, all-ranges_onto, sorted_count, ranges_count, then_tied}
 use Rattle.ncq_bind.specs.Bound.{operand_is_bound, item_is_bound, template_is_bound}
@@ -169,7 +173,7 @@ inner_bound total arms (Bound slot op number) h = refl
 inner_bound total arms (Other test) h = refl
 
 other_bound : (total : ℕ) (c : Constraint) → InRange total c → list_all (test_is_within total) (other_test c) ≡ true
-other_bound total (Other test) h = and_true (test_is_within total test) ∙ h
+other_bound total (Other test) h = and-true (test_is_within total test) ∙ h
 other_bound total (Equal slot constant) h = refl
 other_bound total (Bound slot op number) h = refl
 other_bound total (Alike left right) h = refl
@@ -178,11 +182,11 @@ all_of_each : (total : ℕ) (f : Constraint → List Test) → ((c : Constraint)
     → (constraints : List Constraint) → AllByRecursion (InRange total) constraints → list_all (test_is_within total) (flat_map f constraints) ≡ true
 all_of_each total f h [] e = refl
 all_of_each total f h (c ∷ constraints) e =
-    all-append (test_is_within total) (f c) (flat_map f constraints) ∙ (λ i. h c e.0 i && all_of_each total f h constraints e.1 i)
+    list_all-append (test_is_within total) (f c) (flat_map f constraints) ∙ (λ i. h c e.0 i && all_of_each total f h constraints e.1 i)
 
 pub residual_bound : (total : ℕ) (arms : List OpenArm) (constraints : List Constraint) → AllByRecursion (InRange total) constraints → list_all (test_is_within total) (residual_of arms constraints) ≡ true
 residual_bound total arms constraints e =
-    all-append (test_is_within total) (flat_map (inner_test arms) constraints) (flat_map other_test constraints)
+    list_all-append (test_is_within total) (flat_map (inner_test arms) constraints) (flat_map other_test constraints)
     ∙ (λ i. all_of_each total (inner_test arms) (inner_bound total arms) constraints e i && all_of_each total other_test (other_bound total) constraints e i)
 
 -- ---- counts
@@ -382,12 +386,8 @@ items_count first (item ∷ items) =
 
 -- ---- arms and slots, counted
 
-length-map : {A B : Type 0} (f : A → B) (xs : List A) → length (map f xs) ≡ length xs
-length-map f [] = refl
-length-map f (x ∷ xs) = ap suc (length-map f xs)
-
 item_arms_count : (item : QueryItem) → length (item_arms item) ≡ counted.item_arms item
-item_arms_count (Match root patterns source) = length-map (λ (p : Pattern). record { pattern = p; source = source }) patterns
+item_arms_count (Match root patterns source) = length-map patterns (λ (p : Pattern). record { pattern = p; source = source })
 item_arms_count (Condition left op right) = refl
 
 arms_count : (items : List QueryItem) → length (arms_of items) ≡ counted.arms items
@@ -425,7 +425,7 @@ whole_count p h =
         let a : length (map (λ a. a.value) p.attributes ++ (content_places p.content ++ suffix_places p.suffix)) ≡ length (map (λ a. a.value) p.attributes) + length (content_places p.content ++ suffix_places p.suffix)
         = length-append (map (λ a. a.value) p.attributes) (content_places p.content ++ suffix_places p.suffix) in
         let b : length (content_places p.content ++ suffix_places p.suffix) ≡ length (content_places p.content) + length (suffix_places p.suffix) = length-append (content_places p.content) (suffix_places p.suffix) in
-        let c : length (map (λ a. a.value) p.attributes) ≡ length p.attributes = length-map (λ (a : PatternAttribute). a.value) p.attributes in
+        let c : length (map (λ a. a.value) p.attributes) ≡ length p.attributes = length-map p.attributes (λ (a : PatternAttribute). a.value) in
         omega arith
 
 pattern_count : (p : Pattern) → PatternCount p
@@ -505,7 +505,7 @@ query_formed query begins whole within bound template =
     let ps = places_of (arms_of items) in
     let cs = constraints_of ps items in
     let count : length (map (normal_arm cs) (open_arms 0 (arms_of items))) ≡ counted.arms items
-    = length-map (normal_arm cs) (open_arms 0 (arms_of items)) ∙ open_count 0 (arms_of items) ∙ arms_count items in
+    = length-map (open_arms 0 (arms_of items)) (normal_arm cs) ∙ open_count 0 (arms_of items) ∙ arms_count items in
     let some : 0 < length (arms_of items) = some_arm items begins whole in
     let wide : length ps ≡ slots items = slots_count_is items in
     let same : arms_width (map (normal_arm cs) (open_arms 0 (arms_of items))) ≡ length ps = arms_width_is cs 0 (arms_of items) in
@@ -525,7 +525,7 @@ query_formed query begins whole within bound template =
     let narrow : slots items ≤ 64 = within.1 in
     let simple : conditions items ≤ 32 = within.2 in
     record {
-      some = let c : length (map (normal_arm cs) (open_arms 0 (arms_of items))) ≡ length (arms_of items) = length-map (normal_arm cs) (open_arms 0 (arms_of items)) ∙ open_count 0 (arms_of items) in omega arith;
+      some = let c : length (map (normal_arm cs) (open_arms 0 (arms_of items))) ≡ length (arms_of items) = length-map (open_arms 0 (arms_of items)) (normal_arm cs) ∙ open_count 0 (arms_of items) in omega arith;
       few = omega arith;
       slots = omega arith;
       equals = omega arith;

@@ -9,7 +9,8 @@ use Rattle.ncq_base.specs.declared.interval.End.TheVariants.{Unbounded, Included
 use Rattle.ncq_base.specs.declared.interval.Interval.{Interval}
 use Rattle.ncq_base.specs.Intervals.{is_above, is_below, in_interval}
 use Rattle.ncq_bind.specs.Ranges.{higher, lower, both}
-use Rattle.ncq_bind.proofs.Bools.{and_true, and_both}
+use Rattle.std.proofs.Math.Bool.{and-true}
+use Rattle.ncq_bind.proofs.Bools.{and_both}
 
 -- a test that the other implies adds nothing to it
 implied_left : (a b : Bool) (P Q : Type 0) → Decides a P → Decides b Q → (Q → P) → b ≡ (a && b)
@@ -42,8 +43,8 @@ below_or_not m n P under over = by_test (int_lt m n) refl
 
 pub above_higher : (a b : End) (n : ℤ) → is_above (higher a b) n ≡ (is_above a n && is_above b n)
 above_higher Unbounded b n = refl
-above_higher (Included m) Unbounded n = sym (and_true (is_above (Included m) n))
-above_higher (Excluded m) Unbounded n = sym (and_true (is_above (Excluded m) n))
+above_higher (Included m) Unbounded n = sym (and-true (is_above (Included m) n))
+above_higher (Excluded m) Unbounded n = sym (and-true (is_above (Excluded m) n))
 above_higher (Included m) (Included k) n =
     below_or_not m k (λ t. is_above (if t then Included k else Included m) n ≡ (is_above (Included m) n && is_above (Included k) n))
     (λ h. implied_left _ _ (m ≤ℤ n) (k ≤ℤ n) (le_is m n) (le_is k n) (λ q. omega (arith, ints)))
@@ -63,8 +64,8 @@ above_higher (Excluded m) (Excluded k) n =
 
 pub below_lower : (a b : End) (n : ℤ) → is_below (lower a b) n ≡ (is_below a n && is_below b n)
 below_lower Unbounded b n = refl
-below_lower (Included m) Unbounded n = sym (and_true (is_below (Included m) n))
-below_lower (Excluded m) Unbounded n = sym (and_true (is_below (Excluded m) n))
+below_lower (Included m) Unbounded n = sym (and-true (is_below (Included m) n))
+below_lower (Excluded m) Unbounded n = sym (and-true (is_below (Excluded m) n))
 below_lower (Included m) (Included k) n =
     below_or_not k m (λ t. is_below (if t then Included k else Included m) n ≡ (is_below (Included m) n && is_below (Included k) n))
     (λ h. implied_left _ _ (n ≤ℤ m) (n ≤ℤ k) (le_is n m) (le_is n k) (λ q. omega (arith, ints)))

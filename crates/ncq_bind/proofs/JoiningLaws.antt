@@ -4,13 +4,18 @@ use Rattle.std.specs.Prelude.{◌&&◌}
 use Rattle.std.specs.List.{list_all, filter, flat_map}
 use Rattle.ncq_tree.specs.Normal.{normal}
 use Rattle.ncq_row.specs.declared.value.Value.{Value}
-use Rattle.ncq_row.specs.Embeddings.{Rows, one_of_each, rows_of}
+use Rattle.ncq_row.specs.Embeddings.{Row, Rows, one_of_each, rows_of}
+use Rattle.ncq_row.proofs.CallerLemmas.{rows_have_width}
 use Rattle.ncq_row.specs.Values.{value_at}
 use Rattle.std.specs.List.{AllByRecursion}
-use Rattle.ncq_bind.proofs.ListLaws.{each_of_all, each_implied, each-filter, map_agrees, filters_agree, filter-filter, all-append}
+use Rattle.ncq_bind.proofs.ListLaws.{each_of_all, each_implied, each-filter, map_agrees, filters_agree}
+use Rattle.ncq_plan.proofs.Lists.{filter-filter}
+use Rattle.std.proofs.lemmas.List.Folds.{list_all-append}
 use Rattle.ncq_plan.specs.Templates.{constructed}
 use Rattle.ncq_plan.specs.Exprs.{World}
 use Rattle.ncq_plan.specs.Products.{arm_rows, meets, prod}
+use Rattle.ncq_tree.specs.declared.model.Element.{Element}
+use Rattle.ncq_xmlql.specs.declared.model.Pattern.{Pattern}
 use Rattle.ncq_xmlql.specs.declared.model.Query.{Query}
 use Rattle.ncq_xmlql.specs.WellFormed.{item_is_whole}
 use Rattle.ncq_bind.specs.declared.constraint.Constraint.{Constraint}
@@ -21,8 +26,10 @@ use Rattle.ncq_bind.specs.Constraints.{first_slot, constraints_from, item_constr
 use Rattle.ncq_bind.specs.NormalArms.{open_arms, normal_arm}
 use Rattle.ncq_bind.specs.NormalQueries.{normal_query}
 use Rattle.ncq_bind.specs.Bound.{item_is_bound}
-use Rattle.ncq_bind.proofs.Bools.{and_assoc}
-use Rattle.ncq_bind.proofs.ArmLaws.{HasWidth, Splits, splits_each, splits_flat_map, pattern_splits}
+use Rattle.std.proofs.Math.Bool.{and_assoc}
+use Rattle.ncq_bind.specs.Laws.{ArmLaw}
+use Rattle.ncq_bind.proofs.Splits.{HasWidth, Splits, splits_each, splits_flat_map}
+use Rattle.ncq_bind.proofs.Widths.{width_of}
 use Rattle.ncq_bind.proofs.Slots.{first_is}
 use Rattle.ncq_bind.proofs.ConstraintLaws.{constraint_holds, places_hold, items_hold, constraints_in}
 use Rattle.ncq_bind.proofs.SharingLaws.{shared}
@@ -33,12 +40,18 @@ use Rattle.ncq_bind.proofs.TemplateLaws.{nodes_made}
 abbrev shape_rows : World → QueryArm → Rows
 shape_rows world arm = flat_map (rows_of (shape_of arm.pattern)) (world arm.source)
 
--- this is all that is used of embeddings: by the arm law the choices are the rows that have the literals, and each row has a value for each place
-choices_split : (world : World) (arms : List QueryArm) → Splits (places_of arms) (choices world arms) (one_of_each (map (shape_rows world) arms))
-choices_split world arms =
+-- all that is used of embeddings is the arm law: so the choices are the rows that have the literals, and each row has a value for each place
+pattern_splits : ArmLaw → (p : Pattern) (e : Element) → Splits (places p) (embeddings p e) (rows_of (shape_of p) e)
+pattern_splits arm_law p e = record {
+  kept = arm_law p e;
+  wide = subst (λ n. AllByRecursion (λ (row : Row). length row ≡ n) (rows_of (shape_of p) e)) (width_of p) (rows_have_width (shape_of p) e);
+}
+
+choices_split : ArmLaw → (world : World) (arms : List QueryArm) → Splits (places_of arms) (choices world arms) (one_of_each (map (shape_rows world) arms))
+choices_split arm_law world arms =
     splits_each (λ (arm : QueryArm). places arm.pattern) (arm_embeddings world) (shape_rows world) arms
     (each_of_all (λ (arm : QueryArm). Splits (places arm.pattern) (arm_embeddings world arm) (shape_rows world arm))
-    (λ arm. splits_flat_map (places arm.pattern) (embeddings arm.pattern) (rows_of (shape_of arm.pattern)) (world arm.source) (pattern_splits arm.pattern)) arms)
+    (λ arm. splits_flat_map (places arm.pattern) (embeddings arm.pattern) (rows_of (shape_of arm.pattern)) (world arm.source) (pattern_splits arm_law arm.pattern)) arms)
 
 rows_stay : (world : World) (constraints : List Constraint) (offset : ℕ) (arms : List QueryArm)
     → map (arm_rows world) (map (normal_arm constraints) (open_arms offset arms)) ≡ map (shape_rows world) arms
@@ -54,7 +67,7 @@ module _ (query : Query) (whole : list_all item_is_whole query.items ≡ true) (
       ≡ (has_literals (places_of (arms_of query.items)) row && is_binding query.items (places_of (arms_of query.items)) row)
   constraints_are row wide =
       let ps = places_of (arms_of query.items) in
-      all-append (constraint_holds row) (constraints_from (first_slot ps) 0 ps) (flat_map (item_constraints (first_slot ps)) query.items)
+      list_all-append (constraint_holds row) (constraints_from (first_slot ps) 0 ps) (flat_map (item_constraints (first_slot ps)) query.items)
       ∙ (λ i. places_hold row (first_slot ps) (first_value ps row) (λ x. first_is ps row x wide) 0 ps row wide (λ k. ap (value_at row) (zero-add k)) i
       && items_hold row (first_slot ps) (first_value ps row) (λ x. first_is ps row x wide) query.items whole i)
       ∙ and_assoc (has_literals ps row) (values_agree (first_value ps row) ps row) (list_all (item_holds (first_value ps row)) query.items)
@@ -73,17 +86,17 @@ module _ (query : Query) (whole : list_all item_is_whole query.items ≡ true) (
 
   -- ---- all rows
 
-  pub forests_are : (world : World) → map (constructed (normal_query query).template) (prod (normal_query query) world) ≡ answer query world
-  forests_are world =
+  pub forests_are : ArmLaw → (world : World) → map (constructed (normal_query query).template) (prod (normal_query query) world) ≡ answer query world
+  forests_are arm_law world =
       let arms = arms_of query.items in
       let ps = places_of arms in
-      let split = choices_split world arms in
+      let split = choices_split arm_law world arms in
       let rows = one_of_each (map (shape_rows world) arms) in
       ap (λ v. map (constructed (normal_query query).template) (filter (meets (normal_query query)) (one_of_each v))) (rows_stay world (constraints_of ps query.items) 0 arms)
       ∙ ap (map (constructed (normal_query query).template))
       (filters_agree (meets (normal_query query)) (λ row. has_literals ps row && is_binding query.items ps row) rows
       (each_implied (HasWidth ps) (λ row. meets (normal_query query) row ≡ (has_literals ps row && is_binding query.items ps row)) row_meets rows split.wide)
-      ∙ sym (filter-filter (is_binding query.items ps) (has_literals ps) rows)
+      ∙ sym (filter-filter (has_literals ps) (is_binding query.items ps) rows)
       ∙ ap (filter (is_binding query.items ps)) (sym split.kept))
       ∙ map_agrees (constructed (normal_query query).template) (made_forest query.template ps) (filter (is_binding query.items ps) (choices world arms))
       (each_implied (HasWidth ps) (λ row. constructed (normal_query query).template row ≡ made_forest query.template ps row) forest_is (filter (is_binding query.items ps) (choices world arms))

@@ -1,4 +1,5 @@
 pub mod Patterns
+pub mod Splits
 pub mod ArmLaws
 pub mod Bools
 pub mod AtomLaws

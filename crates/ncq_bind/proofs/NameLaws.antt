@@ -20,7 +20,7 @@ use Rattle.ncq_xmlql.specs.declared.model.Template.TheVariants.{Element}
 use Rattle.ncq_xmlql.specs.declared.model.TemplateAttribute.{TemplateAttribute}
 use Rattle.ncq_xmlql.proofs.CallerLemmas.{good_element}
 use Rattle.ncq_bind.specs.NormalQueries.{slot_attribute_of, slot_template}
-use Rattle.ncq_bind.proofs.Bools.{both_true}
+use Rattle.ncq_base.proofs.Tests.{both_true}
 use Rattle.ncq_bind.proofs.TemplateLaws.{templates_induction, slotted_variable, slotted_literal, slotted_element}
 
 neither : (a b : Bool) → not (a || b) ≡ true → (not a ≡ true) × (not b ≡ true)

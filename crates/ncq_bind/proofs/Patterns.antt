@@ -6,7 +6,8 @@ use Rattle.ncq_row.specs.declared.shape.Shape.{Shape}
 use Rattle.ncq_row.specs.declared.shape.ShapeContent.{ShapeContent}
 use Rattle.ncq_row.specs.declared.shape.ShapeContent.TheVariants as shape
 use Rattle.ncq_row.specs.Embeddings.{Rows, paired, one_of_each, reached, value_rows}
-use Rattle.ncq_bind.proofs.ListLaws.{map-map, flat_map-map}
+use Rattle.ncq_plan.proofs.Lists.{map-map}
+use Rattle.std.proofs.lemmas.List.Folds.{flat_map-map}
 use Rattle.ncq_xmlql.specs.declared.model.Operand.{Operand}
 use Rattle.ncq_xmlql.specs.declared.model.PatternAttribute.{PatternAttribute}
 use Rattle.ncq_xmlql.specs.declared.model.Content.{Content}

@@ -8,7 +8,8 @@ use Rattle.ncq_row.specs.declared.value.Value.{Value}
 use Rattle.ncq_row.specs.Values.{atom_at}
 use Rattle.ncq_row.specs.Widths.{width}
 use Rattle.std.specs.List.{AllByRecursion}
-use Rattle.ncq_bind.proofs.ListLaws.{each_of_all, all_agree, all-append, all-flat_map}
+use Rattle.ncq_bind.proofs.ListLaws.{each_of_all, all_agree, all-flat_map}
+use Rattle.std.proofs.lemmas.List.Folds.{list_all-append}
 use Rattle.ncq_plan.specs.declared.residual.Side.TheVariants.{Slot}
 use Rattle.ncq_base.specs.Intervals.{in_interval}
 use Rattle.ncq_plan.specs.Residuals.{test_holds, passes}
@@ -22,7 +23,9 @@ use Rattle.ncq_bind.specs.Answers.{QueryArm, places_of}
 use Rattle.ncq_bind.specs.NormalArms.{in_arm, equal_in, range_in, pair_in, open_arms, normal_arm}
 use Rattle.ncq_bind.specs.Ranges.{one_sided}
 use Rattle.ncq_bind.specs.NormalQueries.{in_one_arm, inner_test, other_test, residual_of}
-use Rattle.ncq_bind.proofs.Bools.{and_true, and_assoc, both_true, asked_by_either, all_of_if, all_split}
+use Rattle.std.proofs.Math.Bool.{and-true, and_assoc}
+use Rattle.ncq_base.proofs.Tests.{both_true}
+use Rattle.ncq_bind.proofs.Bools.{asked_by_either, all_of_if, all_split}
 use Rattle.ncq_bind.proofs.SortedLaws.{all-equals, all-ranges, all-pairs}
 use Rattle.ncq_bind.proofs.ConstraintLaws.{constraint_holds, InRange}
 use Rattle.ncq_bind.proofs.Widths.{width_of}
@@ -63,11 +66,11 @@ module _ (row : List Value) where
       → (list_all (equal_holds offset row) (equal_in offset width c) && (list_all (range_holds offset row) (range_in offset width c) && list_all (pair_holds offset row) (pair_in offset width c)))
       ≡ (not (takes offset width c) || constraint_holds row c)
   one_holds offset width (Equal slot constant) =
-      and_true (list_all (equal_holds offset row) (equal_in offset width (Equal slot constant)))
+      and-true (list_all (equal_holds offset row) (equal_in offset width (Equal slot constant)))
       ∙ all_of_if (equal_holds offset row) (in_arm offset width slot) (record { slot = slot - offset; constant = constant }) (same_atom (atom_at row slot) constant)
       (λ e. ap (λ s. same_atom (atom_at row s) constant) (behind offset width slot e))
   one_holds offset width (Bound slot op number) =
-      and_true (list_all (range_holds offset row) (range_in offset width (Bound slot op number)))
+      and-true (list_all (range_holds offset row) (range_in offset width (Bound slot op number)))
       ∙ all_of_if (range_holds offset row) (in_arm offset width slot) (record { slot = slot - offset; interval = one_sided op number }) (in_interval (one_sided op number) (atom_at row slot))
       (λ e. ap (λ s. in_interval (one_sided op number) (atom_at row s)) (behind offset width slot e))
   one_holds offset width (Alike left right) =
@@ -121,14 +124,14 @@ module _ (row : List Value) where
   left_holds arms (Equal slot constant) = refl
   left_holds arms (Bound slot op number) = refl
   left_holds arms (Alike left right) =
-      and_true (list_all (test_holds row) (inner_test arms (Alike left right)))
+      and-true (list_all (test_holds row) (inner_test arms (Alike left right)))
       ∙ all_of_if (test_holds row) (in_one_arm arms left right) (record { op = Eq; left = left; right = Slot right }) (same_atom (atom_at row left) (atom_at row right)) (λ e. refl)
-  left_holds arms (Other test) = and_true (test_holds row test)
+  left_holds arms (Other test) = and-true (test_holds row test)
 
   residual_is : (arms : List OpenArm) (constraints : List Constraint)
       → passes (residual_of arms constraints) row ≡ list_all (λ c. not (left_over arms c) || constraint_holds row c) constraints
   residual_is arms constraints =
-      all-append (test_holds row) (flat_map (inner_test arms) constraints) (flat_map other_test constraints)
+      list_all-append (test_holds row) (flat_map (inner_test arms) constraints) (flat_map other_test constraints)
       ∙ (λ i. all-flat_map (test_holds row) (inner_test arms) constraints i && all-flat_map (test_holds row) other_test constraints i)
       ∙ sym (all_split (λ c. list_all (test_holds row) (inner_test arms c)) (λ c. list_all (test_holds row) (other_test c)) constraints)
       ∙ all_agree (λ c. list_all (test_holds row) (inner_test arms c) && list_all (test_holds row) (other_test c)) (λ c. not (left_over arms c) || constraint_holds row c) constraints

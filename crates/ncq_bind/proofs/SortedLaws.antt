@@ -17,7 +17,8 @@ use Rattle.ncq_base.specs.Intervals.{in_interval}
 use Rattle.ncq_plan.specs.Products.{equal_holds, range_holds, pair_holds}
 use Rattle.ncq_bind.specs.Sorted.{insert_once, sorted_onto, equal_order, pair_order}
 use Rattle.ncq_bind.specs.Ranges.{within_both, insert_range, ranges_onto}
-use Rattle.ncq_bind.proofs.Bools.{and_front, and_again, and_assoc, and_true}
+use Rattle.ncq_bind.proofs.Bools.{and_front, and_again}
+use Rattle.std.proofs.Math.Bool.{and_assoc, and-true}
 use Rattle.ncq_bind.proofs.AtomLaws.{nat_tied, atoms_tied}
 use Rattle.ncq_bind.proofs.IntervalLaws.{in_both}
 
@@ -36,7 +37,7 @@ module _ {A : Type 0} (order : A → A → Ordering) (P : A → Bool) (tie : (x 
   all-insert x (y ∷ ys) = insert_by x y ys (all-insert x ys) (order x y) (tie x y)
 
   pub all-sorted_onto : (done xs : List A) → list_all P (sorted_onto order done xs) ≡ (list_all P done && list_all P xs)
-  all-sorted_onto done [] = sym (and_true (list_all P done))
+  all-sorted_onto done [] = sym (and-true (list_all P done))
   all-sorted_onto done (x ∷ xs) =
       all-sorted_onto (insert_once order x done) xs ∙ ap (λ v. v && list_all P xs) (all-insert x done)
       ∙ and_assoc (P x) (list_all P done) (list_all P xs) ∙ and_front (P x) (list_all P done) (list_all P xs)
@@ -76,7 +77,7 @@ module _ (P : Within → Bool) (tie : (w y : Within) → nat_cmp w.slot y.slot �
   all-insert_range w (y ∷ ys) = range_by w y ys (all-insert_range w ys) (nat_cmp w.slot y.slot) (tie w y)
 
   pub all-ranges_onto : (done ws : List Within) → list_all P (ranges_onto done ws) ≡ (list_all P done && list_all P ws)
-  all-ranges_onto done [] = sym (and_true (list_all P done))
+  all-ranges_onto done [] = sym (and-true (list_all P done))
   all-ranges_onto done (w ∷ ws) =
       all-ranges_onto (insert_range w done) ws ∙ ap (λ v. v && list_all P ws) (all-insert_range w done)
       ∙ and_assoc (P w) (list_all P done) (list_all P ws) ∙ and_front (P w) (list_all P done) (list_all P ws)

@@ -9,7 +9,8 @@ use Rattle.ncq_tree.specs.declared.model.Node.TheVariants.{Text as text_node, El
 use Rattle.ncq_row.specs.declared.value.Value.{Value}
 use Rattle.ncq_row.specs.Values.{value_text}
 use Rattle.ncq_row.specs.Values.{value_at}
-use Rattle.ncq_bind.proofs.ListLaws.{map-map, flat_map-map}
+use Rattle.ncq_plan.proofs.Lists.{map-map}
+use Rattle.std.proofs.lemmas.List.Folds.{flat_map-map}
 use Rattle.ncq_plan.specs.declared.template.SlotTemplate.{SlotTemplate}
 use Rattle.ncq_plan.specs.declared.template.SlotTemplate.TheVariants as slotted
 use Rattle.ncq_plan.specs.Templates.{value_nodes, text_of, attribute_of, forest_of}

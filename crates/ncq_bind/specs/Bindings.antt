@@ -49,7 +49,8 @@ abbrev pub have_roots : Roots → List QueryItem → Bool
 have_roots roots items = list_all (item_has_root roots) items
 
 -- when a normal query is the answer
-pub record Gives (query : Query) (roots : Roots) (normal : NormalQuery) : Type 0 where
+pub record HasNormalQuery (query : Query) (roots : Roots) (normal : NormalQuery)
+    : Type 0 where
   pub declared : are_declared roots query.items ≡ true
   pub root : have_roots roots query.items ≡ true
   pub bound : query_is_bound query ≡ true
@@ -68,7 +69,7 @@ pub record IsUnbound (query : Query) (roots : Roots) : Type 0 where
 
 -- When each answer is given. No two of them are right for one query, but for want of memory.
 abbrev pub Binds : Query → Roots → Result NormalQuery BindError → Type 0
-Binds query roots (Ok normal) = Gives query roots normal
+Binds query roots (Ok normal) = HasNormalQuery query roots normal
 Binds query roots (Err NoSource) = are_declared roots query.items ≡ false
 Binds query roots (Err RootDiffers) = DiffersInRoot query roots
 Binds query roots (Err Unbound) = IsUnbound query roots

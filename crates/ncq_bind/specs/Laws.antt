@@ -1,5 +1,5 @@
 -- The laws that tie a query to its normal query.
-use Rattle.std.specs.Prelude.{◌≡◌, true, Ok, map}
+use Rattle.std.specs.Prelude.{◌≡◌, ◌≢◌, true, Result, Ok, Err, map}
 use Rattle.std.specs.List.{filter, list_all}
 use Rattle.ncq_tree.specs.declared.model.Element.{Element}
 use Rattle.ncq_pyx.specs.Canonical.{is_proper}
@@ -16,6 +16,8 @@ use Rattle.ncq_xmlql.specs.declared.model.Query.{Query}
 use Rattle.ncq_xmlql.specs.declared.model.Statement.{Statement}
 use Rattle.ncq_xmlql.specs.ItemReading.{is_variable}
 use Rattle.ncq_xmlql.specs.WellFormed.{IsWellFormed, item_is_whole}
+use Rattle.ncq_bind.specs.declared.binding.BindError.{BindError}
+use Rattle.ncq_bind.specs.declared.binding.BindError.TheVariants.{OutOfMemory}
 use Rattle.ncq_bind.specs.Places.{places, shape_of}
 use Rattle.ncq_bind.specs.Embeddings.{embeddings, has_literals}
 use Rattle.ncq_bind.specs.Answers.{arms_of, places_of, answer}
@@ -62,3 +64,10 @@ ProperLaw =
     (statement : Statement) (roots : Roots) (normal : NormalQuery) → IsWellFormed statement
     → Binds statement.query roots (Ok normal) → (world : World) → WorldIsProper world
     → list_all is_proper (answer statement.query world) ≡ true
+
+-- No two answers of `bind` are right for one query, but for want of memory.
+abbrev pub OneAnswer : Type 0
+OneAnswer =
+    (query : Query) (roots : Roots) (a b : Result NormalQuery BindError)
+    → Binds query roots a → Binds query roots b → a ≢ Err OutOfMemory → b ≢ Err OutOfMemory
+    → a ≡ b

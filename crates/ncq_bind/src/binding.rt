@@ -44,7 +44,7 @@ impl From<AllocError> for BindError {
     }
 }
 
-/// The normal query of a statement, which is well formed, and whose template makes proper forests of
+/// The normal query of a statement; it is well formed, and its template makes proper forests of
 /// proper values. `NoSource` comes exactly where a match names a source that is not declared, else
 /// `RootDiffers` exactly where a root tag is not that of its source, else `Unbound` exactly where a
 /// condition or the template uses a variable that no pattern has.

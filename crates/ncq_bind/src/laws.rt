@@ -1,5 +1,6 @@
 //! Laws of what a query means. The functions do nothing: each is its contract.
-ghost use Rattle.ncq_bind.specs.Laws.{ArmLaw, JoiningLaw, OpenLaw, PlanLaw, ProperLaw};
+ghost use Rattle.ncq_bind.specs.Laws.{ArmLaw, JoiningLaw, OneAnswer, OpenLaw, PlanLaw};
+ghost use Rattle.ncq_bind.specs.Laws.{ProperLaw};
 
 /// The embeddings of a pattern are those rows of its shape that have each literal's atom at the
 /// literal's place, in the same order.
@@ -18,8 +19,8 @@ pub fn forests_are_the_answer()
     ensures { JoiningLaw }
 {}
 
-/// For every statement that binds and every world, the forests that are made of the rows of the plan
-/// that pass the residual are the answer of the query, in the same order.
+/// For every statement that binds and every world, the forests that are made of those rows of the
+/// plan that pass the residual are the answer of the query, in the same order.
 pub fn plans_give_the_answer()
     ensures { PlanLaw }
 {}
@@ -27,4 +28,9 @@ pub fn plans_give_the_answer()
 /// Where each element of each source is proper, so is each forest of the answer.
 pub fn answers_are_proper()
     ensures { ProperLaw }
+{}
+
+/// No two answers of `bind` are right for one query, but that memory ran out.
+pub fn one_answer()
+    ensures { OneAnswer }
 {}

@@ -20,13 +20,11 @@ mod residual;
 mod shape;
 mod sorted;
 mod template;
-#[cfg(test)]
-mod tests;
 
 pub use binding::{BindError, bind};
 pub use constraint::Constraint;
 pub use laws::{
-    answers_are_proper, embeddings_are_rows, forests_are_the_answer, plans_give_the_answer,
-    rows_are_open_embeddings,
+    answers_are_proper, embeddings_are_rows, forests_are_the_answer, one_answer,
+    plans_give_the_answer, rows_are_open_embeddings,
 };
 pub use open_arm::{OpenArm, OpenArms};

@@ -8,7 +8,7 @@ use Rattle.ncq_plan.specs.declared.template.SlotAttribute.{SlotAttribute}
 use Rattle.ncq_plan.specs.declared.template.SlotTemplate.{SlotTemplate}
 use Rattle.ncq_plan.specs.declared.template.SlotTemplate.TheVariants.{Text, Element}
 use Rattle.ncq_plan.specs.Templates.{attribute_of, forest_of}
-use Rattle.ncq_plan.proofs.CallerLemmas.{forest_of_text, forest_of_element}
+use Rattle.ncq_plan.proofs.CallerLemmas.{forest_of_slot, forest_of_text, forest_of_element}
 
 module _ (row other : Row) where
   -- one text
@@ -23,3 +23,6 @@ module _ (row other : Row) where
       forest_of_element row tag bs cs
       ∙ (λ i. element_node (record { name = t i; attributes = a i; children = c i }) ∷ [])
       ∙ sym (forest_of_element other tag' bs' cs')
+
+-- what a template makes, by its variant, and where two make the same
+pub ruleset makes_alike = (forest_of_slot, forest_of_text, forest_of_element, same_text, same_element)

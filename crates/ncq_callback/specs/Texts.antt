@@ -54,7 +54,7 @@ mail_text argument name instant entries =
     ++ entries_text entries ++ codes "end\n"
 
 -- the text of a notice, by the kind of its handler
-abbrev pub render : Kind → List ℕ → List ℕ → ℕ → List Difference → List ℕ
+unfoldable pub render : Kind → List ℕ → List ℕ → ℕ → List Difference → List ℕ
 render Print argument name instant entries = notice_text name instant entries
 render Count argument name instant entries = count_text name instant entries
 render MailTo argument name instant entries = mail_text argument name instant entries

@@ -10,6 +10,7 @@ use std::alloc::AllocError;
 
 /// Appends one line with the sums of what is gained and of what is lost. After want of memory
 /// `out` is as before.
+#[tactic(auto, unfolding(crate::specs::Texts::render))]
 pub fn count_notice(_argument: &[u8], notice: &Notice, out: &mut Vec<u8>) -> Result<(), AllocError>
     ensures ok { OnOk result (out.new.items ≡ out.old.items
         ++ render Kind.Count _argument.now notice.now.name notice.now.instant notice.now.entries) }

@@ -2,6 +2,9 @@
 //! Rows come in, each as one that comes or one that goes; how often each answer stands more or less
 //! is counted, and that makes the entries of a notice. A handler appends the text of a notice: it
 //! keeps beside its closure that a call appends the text of its kind.
+//!
+//! `print_notice` and `count_notice` may as well be called with another argument: their texts have
+//! none.
 #![tactic(auto)]
 
 mod count;

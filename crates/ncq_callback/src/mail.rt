@@ -9,6 +9,7 @@ use std::alloc::AllocError;
 
 /// Appends the mail: a line with the argument, each difference with the canonical lines of its
 /// forest, and `end`. After want of memory `out` is as before.
+#[tactic(auto, unfolding(crate::specs::Texts::render))]
 pub fn mail_notice(argument: &[u8], notice: &Notice, out: &mut Vec<u8>) -> Result<(), AllocError>
     ensures ok { OnOk result (out.new.items ≡ out.old.items
         ++ render Kind.MailTo argument.now notice.now.name notice.now.instant notice.now.entries) }

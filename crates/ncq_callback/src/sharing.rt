@@ -12,7 +12,7 @@ use ncq_tree::is_same;
 /// Whether the template and the other, which is filled from the values, are one, and each slot has
 /// one value in both. Then they make the same.
 #[cycle(sharing)]
-#[tactic(auto, using(ncq_plan::proofs::TemplateLaws::forests_are, crate::proofs::SharingLaws::same_text, crate::proofs::SharingLaws::same_element))]
+#[tactic(auto, using(crate::proofs::SharingLaws::makes_alike))]
 pub(crate) fn makes_same(
     template: &SlotTemplate,
     row: &Row,

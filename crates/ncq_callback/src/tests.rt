@@ -1,5 +1,7 @@
 //! Entries of rows and texts of notices, worked out by hand.
-ghost use Rattle.std.specs.Prelude.{◌≡◌, ◌<◌, IfOk};
+ghost use Rattle.std.specs.Prelude.{◌≡◌, ◌<◌};
+ghost use Rattle.ncq_callback.specs.Facts.{Writes};
+ghost use Rattle.ncq_callback.specs.Texts.{render};
 
 use crate::{
     AddError, Call, Entries, Gather, Handler, Handlers, Kind, Notice, count_notice, mail_notice,
@@ -8,7 +10,7 @@ use crate::{
 use ncq_bag::{Difference, Differences};
 use ncq_base::{Op, Steps, atom_of, bytes_of};
 use ncq_plan::{Side, SlotTemplate, Test, Tests};
-use ncq_row::{Names, Row, Rows, Shape, ShapeContent, ShapeSuffix, match_shape};
+use ncq_row::{Names, Row, Rows, Shape, ShapeContent, ShapeSuffix, Shapes, match_shape};
 use ncq_tree::{Attributes, Element, Forest, Node};
 use std::alloc::{AllocError, Global};
 use std::marker::Brand;
@@ -16,10 +18,20 @@ use std::process::Abort;
 use std::sync::ledger::{Blank, Ledger};
 use std::test::Fail;
 
-/// `<q>`, the text, `</>`
-fn element(alloc: Global, text: &str) -> Result<Element, AllocError> {
+const VALUES: &[&str] = &["a", "b", "c", "no"];
+
+/// `<q><a>a</><a>b</><a>c</><a>no</></>`
+fn element(alloc: Global) -> Result<Element, AllocError> {
     let mut children = Forest::new(alloc);
-    children.push(Node::Text(bytes_of(alloc, text.as_bytes())?))?;
+    for value in VALUES {
+        let mut texts = Forest::new(alloc);
+        texts.push(Node::Text(bytes_of(alloc, value.as_bytes())?))?;
+        children.push(Node::Element(Element {
+            name: bytes_of(alloc, b"a")?,
+            attributes: Attributes::new(alloc),
+            children: texts,
+        }))?;
+    }
     Ok(Element {
         name: bytes_of(alloc, b"q")?,
         attributes: Attributes::new(alloc),
@@ -27,17 +39,24 @@ fn element(alloc: Global, text: &str) -> Result<Element, AllocError> {
     })
 }
 
-/// `<q>$0</>`
+/// `<q><a>$0</></> ELEMENT_AS $1`
 fn shape(alloc: Global) -> Result<Shape, AllocError> {
-    Ok(Shape {
-        tag: bytes_of(alloc, b"q")?,
+    let mut parts = Shapes::new(alloc);
+    parts.push(Shape {
+        tag: bytes_of(alloc, b"a")?,
         attributes: Names::new(alloc),
         content: ShapeContent::Value,
         suffix: ShapeSuffix::Plain,
+    })?;
+    Ok(Shape {
+        tag: bytes_of(alloc, b"q")?,
+        attributes: Names::new(alloc),
+        content: ShapeContent::Parts(parts),
+        suffix: ShapeSuffix::Element,
     })
 }
 
-fn rows<L: Ledger>(alloc: Global, blank: Blank, text: &str) -> Result<Rows, AllocError>
+fn rows<L: Ledger>(alloc: Global, blank: Blank) -> Result<Rows, AllocError>
     requires name { blank.name ≡ L.name }
     requires parts { blank.parts ≡ L.parts }
     requires some { 0 < L.parts }
@@ -47,20 +66,26 @@ fn rows<L: Ledger>(alloc: Global, blank: Blank, text: &str) -> Result<Rows, Allo
     match_shape(
         alloc,
         &shape(alloc)?,
-        &element(alloc, text)?,
+        &element(alloc)?,
         &mut rows,
         &mut steps,
     )?;
     Ok(rows)
 }
 
-/// The one row whose one value is the text.
-fn rows_of(alloc: Global, text: &str) -> Result<Rows, AllocError> {
-    rows::<Brand>(alloc, Blank::new(1), text)
+/// The rows of the element, one for each of the values.
+fn the_rows(alloc: Global) -> Result<Rows, AllocError> {
+    rows::<Brand>(alloc, Blank::new(1))
 }
 
 /// Takes a row under the test that its value is not `no`.
-fn take_other(alloc: Global, gather: &mut Gather, row: &Row, gain: bool) -> Result<(), AllocError> {
+fn take_other(
+    alloc: Global,
+    gather: &mut Gather,
+    template: &SlotTemplate,
+    row: &Row,
+    gain: bool,
+) -> Result<(), AllocError> {
     if row.len() == 0 || gather.takes() >= Gather::MOST_TAKES {
         return Ok(());
     }
@@ -71,15 +96,22 @@ fn take_other(alloc: Global, gather: &mut Gather, row: &Row, gain: bool) -> Resu
         left: 0,
         right,
     })?;
-    gather.take(alloc, &tests, &SlotTemplate::Slot(0), row, gain)
+    gather.take(alloc, &tests, template, row, gain)
 }
 
-/// What is told where the row of each text comes or goes.
-fn gathered(alloc: Global, rows: &[(&str, bool)]) -> Result<(Entries, u64), AllocError> {
+/// What is told, under each of the templates, where the rows at these places come or go.
+fn gathered(
+    alloc: Global,
+    rows: &Rows,
+    templates: &[SlotTemplate],
+    places: &[(usize, bool)],
+) -> Result<(Entries, u64), AllocError> {
     let mut gather = Gather::new(alloc);
-    for (text, gain) in rows {
-        for row in rows_of(alloc, text)?.as_slice() {
-            take_other(alloc, &mut gather, row, *gain)?;
+    for (place, gain) in places {
+        if let Some(row) = rows.get(*place) {
+            for template in templates {
+                take_other(alloc, &mut gather, template, row, *gain)?;
+            }
         }
     }
     let takes = gather.takes();
@@ -101,28 +133,59 @@ fn are_entries(entries: &Entries, want: &[(bool, u64, &str)]) -> bool {
     true
 }
 
+const WHOLE: &str = "(q\n(a\n-a\n)a\n(a\n-b\n)a\n(a\n-c\n)a\n(a\n-no\n)a\n)q\n";
+
 #[test]
 fn rows_that_pass_make_entries(rt: HostRuntime) -> Result<(), Fail> {
     let alloc = rt.alloc();
-    let (none, takes) = gathered(alloc, &[])?;
-    assert!(rt; takes == 0 && are_entries(&none, &[]));
-    let come_and_go = [
-        ("b", false),
-        ("a", true),
-        ("no", true),
-        ("a", true),
-        ("a", true),
-        ("a", false),
-        ("c", true),
-        ("c", false),
-        ("c", false),
-        ("c", true),
-        ("b", true),
-        ("b", false),
-    ];
-    let (some, takes) = gathered(alloc, &come_and_go)?;
-    assert_eq!(rt; takes, 12);
-    assert!(rt; are_entries(&some, &[(true, 2, "-a\n"), (false, 1, "-b\n")]));
+    let rows = the_rows(alloc)?;
+    assert_eq!(rt; rows.len(), 4);
+    let value = vec![in alloc; SlotTemplate::Slot(0)]?;
+    let both = vec![in alloc; SlotTemplate::Slot(0), SlotTemplate::Slot(1)]?;
+    let element = vec![in alloc; SlotTemplate::Slot(1)]?;
+    let comes = [(0, true), (1, true), (2, true), (3, true)];
+    for (templates, places, takes, want) in [
+        (&value, [].as_slice(), 0, [].as_slice()),
+        // one value after the other, some again, one back and forth
+        (
+            &value,
+            [
+                (1, false),
+                (0, true),
+                (3, true),
+                (0, true),
+                (0, true),
+                (0, false),
+                (2, true),
+                (2, false),
+                (2, false),
+                (2, true),
+                (1, true),
+                (1, false),
+            ]
+            .as_slice(),
+            12,
+            [(true, 2, "-a\n"), (false, 1, "-b\n")].as_slice(),
+        ),
+        // one element for all its rows
+        (&element, comes.as_slice(), 4, [(true, 3, WHOLE)].as_slice()),
+        // two templates in turn
+        (
+            &both,
+            comes.as_slice(),
+            8,
+            [
+                (true, 3, WHOLE),
+                (true, 1, "-a\n"),
+                (true, 1, "-b\n"),
+                (true, 1, "-c\n"),
+            ]
+            .as_slice(),
+        ),
+    ] {
+        let (entries, taken) = gathered(alloc, &rows, templates, places)?;
+        assert!(rt; taken == takes && are_entries(&entries, want));
+    }
     Ok(())
 }
 
@@ -146,7 +209,8 @@ const NOTICES: &[(&str, &str, &[(bool, u64, &str)], &str)] = &[
         "mailto",
         "ops desk",
         &[(true, 1, QUOTE)],
-        "mail w 5 ops desk\ngain 1\n(Quote\n(Symbol\n-INTC\n)Symbol\n(Price\n-1\n)Price\n)Quote\nend\n",
+        "mail w 5 ops desk\ngain 1\n(Quote\n(Symbol\n-INTC\n)Symbol\n(Price\n-1\n)Price\n)Quote\n\
+            end\n",
     ),
     (
         "count",
@@ -208,31 +272,75 @@ fn expect_text(
     Ok(())
 }
 
+/// What the handler of a kind is called.
+fn name_of(kind: Kind) -> &'static str {
+    match kind {
+        Kind::Print => "print",
+        Kind::Count => "count",
+        Kind::MailTo => "mailto",
+    }
+}
+
+/// One more handler, called after its kind.
+fn put(alloc: Global, handlers: &mut Handlers, kind: Kind, call: Call) -> Result<(), AddError>
+    requires callable { Call.IsAlwaysCallable call }
+    requires writes { (argument : _) (notice : _) (out : _) (result : _) (after : _)
+        → Call.post call argument notice out result after
+        → Writes
+        (render kind argument.now notice.now.name notice.now.instant notice.now.entries)
+        out.now.items after.now.items result }
+{
+    match bytes_of(alloc, name_of(kind).as_bytes()) {
+        Ok(name) => handlers.add(Handler::new(name, kind, call)),
+        Err(_) => Err(AddError::OutOfMemory),
+    }
+}
+
 #[test]
 fn handlers_write_the_text_of_their_kind(rt: HostRuntime) -> Result<(), Fail> {
     let alloc = rt.alloc();
+    let mut handlers = Handlers::new(alloc);
     let print: Call = Box::new(
         alloc,
-        |argument: &[u8], notice: &Notice, out: &mut Vec<u8>| {
-            print_notice(argument, notice, out)
-        },
+        |argument: &[u8], notice: &Notice, out: &mut Vec<u8>| -> Result<(), AllocError>
+            ensures { Writes
+                (render Kind.Print argument.now
+                notice.now.name notice.now.instant notice.now.entries)
+                out.old.items out.new.items result }
+        { print_notice(argument, notice, out) },
     )?;
+    put(alloc, &mut handlers, Kind::Print, print)?;
     let count: Call = Box::new(
         alloc,
-        |argument: &[u8], notice: &Notice, out: &mut Vec<u8>| {
-            count_notice(argument, notice, out)
-        },
+        |argument: &[u8], notice: &Notice, out: &mut Vec<u8>| -> Result<(), AllocError>
+            ensures { Writes
+                (render Kind.Count argument.now
+                notice.now.name notice.now.instant notice.now.entries)
+                out.old.items out.new.items result }
+        { count_notice(argument, notice, out) },
     )?;
+    put(alloc, &mut handlers, Kind::Count, count)?;
     let mail: Call = Box::new(
         alloc,
-        |argument: &[u8], notice: &Notice, out: &mut Vec<u8>| {
-            mail_notice(argument, notice, out)
-        },
+        |argument: &[u8], notice: &Notice, out: &mut Vec<u8>| -> Result<(), AllocError>
+            ensures { Writes
+                (render Kind.MailTo argument.now
+                notice.now.name notice.now.instant notice.now.entries)
+                out.old.items out.new.items result }
+        { mail_notice(argument, notice, out) },
     )?;
-    let mut handlers = Handlers::new(alloc);
-    handlers.add(Handler::new(bytes_of(alloc, b"print")?, Kind::Print, print))?;
-    handlers.add(Handler::new(bytes_of(alloc, b"count")?, Kind::Count, count))?;
-    handlers.add(Handler::new(bytes_of(alloc, b"mailto")?, Kind::MailTo, mail))?;
+    put(alloc, &mut handlers, Kind::MailTo, mail)?;
+    let again: Call = Box::new(
+        alloc,
+        |argument: &[u8], notice: &Notice, out: &mut Vec<u8>| -> Result<(), AllocError>
+            ensures { Writes
+                (render Kind.Print argument.now
+                notice.now.name notice.now.instant notice.now.entries)
+                out.old.items out.new.items result }
+        { print_notice(argument, notice, out) },
+    )?;
+    let second = put(alloc, &mut handlers, Kind::Print, again);
+    assert_eq!(rt; second, Err(AddError::NameTaken));
     for (name, kind) in [
         ("print", Some(Kind::Print)),
         ("count", Some(Kind::Count)),
@@ -250,32 +358,5 @@ fn handlers_write_the_text_of_their_kind(rt: HostRuntime) -> Result<(), Fail> {
     for row in NOTICES {
         expect_text(&rt, alloc, &handlers, row)?;
     }
-    Ok(())
-}
-
-#[test]
-fn a_name_that_is_taken_is_refused(rt: HostRuntime) -> Result<(), Fail> {
-    let alloc = rt.alloc();
-    let first: Call = Box::new(
-        alloc,
-        |argument: &[u8], notice: &Notice, out: &mut Vec<u8>| {
-            print_notice(argument, notice, out)
-        },
-    )?;
-    let second: Call = Box::new(
-        alloc,
-        |argument: &[u8], notice: &Notice, out: &mut Vec<u8>| {
-            count_notice(argument, notice, out)
-        },
-    )?;
-    let first = Handler::new(bytes_of(alloc, b"print")?, Kind::Print, first);
-    let second = Handler::new(bytes_of(alloc, b"print")?, Kind::Count, second);
-    assert_eq!(rt; second.name().as_slice(), b"print".as_slice());
-    assert_eq!(rt; second.kind(), Kind::Count);
-    let mut handlers = Handlers::new(alloc);
-    handlers.add(first)?;
-    assert_eq!(rt; handlers.add(second), Err(AddError::NameTaken));
-    let row = ("print", "", [].as_slice(), "notice w 5\nend\n");
-    expect_text(&rt, alloc, &handlers, &row)?;
     Ok(())
 }

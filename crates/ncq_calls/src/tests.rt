@@ -6,6 +6,8 @@ use std::process::Abort;
 mod atoms;
 mod bags;
 mod lists;
+mod queries;
+mod shown;
 mod stores;
 mod texts;
 

@@ -1,5 +1,5 @@
 -- What a template makes is good, and so its normal form is proper.
-use Rattle.std.proofs.Common.{◌≡◌, ℕ, ◌&&◌, not, Bool, true, false, List, [], ◌∷◌, ◌++◌, map, refl}
+use Rattle.std.proofs.Common.{◌≡◌, ℕ, ◌&&◌, not, Bool, true, List, [], ◌∷◌, ◌++◌, map, refl}
 use Rattle.std.proofs.Common.{sym, ap, ◌∙◌, subst, zero, suc}
 use Rattle.std.specs.Prelude.{◌||◌, nat_eq}
 use lib.Pointwise.{pointwise}
@@ -11,7 +11,6 @@ use Rattle.ncq_base.proofs.Tests.{both_true}
 use Rattle.ncq_base.specs.Names.{is_pyx_name}
 use Rattle.ncq_tree.specs.declared.model.Node.{Node}
 use Rattle.ncq_tree.specs.declared.model.Node.TheVariants.{Element as element_node}
-use Rattle.ncq_tree.specs.declared.model.Node.TheVariants.{Text as text_node}
 use Rattle.ncq_tree.specs.declared.model.Element.{Element}
 use Rattle.ncq_tree.specs.declared.model.Attribute.{Attribute}
 use Rattle.ncq_tree.specs.Normal.{are_apart, has_name, node_is_normal, is_normal}

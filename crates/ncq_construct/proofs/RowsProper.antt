@@ -9,13 +9,11 @@ use Rattle.ncq_base.proofs.Tests.{both_true}
 use Rattle.ncq_tree.specs.declared.model.Attribute.{Attribute}
 use Rattle.ncq_tree.specs.declared.model.Element.{Element}
 use Rattle.ncq_tree.specs.declared.model.Node.{Node}
-use Rattle.ncq_tree.specs.declared.model.Node.TheVariants.{Text as text_node}
 use Rattle.ncq_tree.specs.declared.model.Node.TheVariants.{Element as element_node}
 use Rattle.ncq_tree.specs.Normal.{are_apart, are_rising, is_normal, node_is_normal}
 use Rattle.ncq_tree.proofs.Inductions.{nodes_induction}
 use Rattle.ncq_tree.proofs.NormalLaws.{element_normal}
-use Rattle.ncq_pyx.specs.Canonical.{has_good_name, is_named, is_proper, item_is_proper}
-use Rattle.ncq_pyx.specs.declared.item.Item.TheVariants.{Put}
+use Rattle.ncq_pyx.specs.Canonical.{has_good_name, is_named, is_proper}
 use Rattle.ncq_pyx.proofs.Proper.{named_element}
 use Rattle.ncq_base.specs.Names.{is_pyx_name}
 use Rattle.ncq_row.specs.declared.shape.Shape.{Shape}
@@ -26,7 +24,7 @@ use Rattle.ncq_row.specs.declared.shape.ShapeSuffix.TheVariants.{Plain, Element 
 use Rattle.ncq_row.specs.declared.shape.ShapeSuffix.TheVariants.{Content}
 use Rattle.ncq_row.specs.declared.value.Value.TheVariants.{Text}
 use Rattle.ncq_row.specs.Embeddings.{Row, Rows, paired, one_of_each, reached_at, reached}
-use Rattle.ncq_row.specs.Embeddings.{attribute_rows, suffix_rows, value_rows, rows_at, content_rows}
+use Rattle.ncq_row.specs.Embeddings.{attribute_rows, suffix_rows, rows_at, content_rows}
 use Rattle.ncq_row.specs.Embeddings.{rows_among, rows_of}
 use Rattle.ncq_row.proofs.CallerLemmas.{reached_text, reached_element, rows_of_shape, rows_of_value}
 use Rattle.ncq_row.proofs.CallerLemmas.{rows_of_parts}
@@ -34,7 +32,7 @@ use Rattle.ncq_row.proofs.Inductions.{shapes_induction}
 use Rattle.ncq_row.specs.declared.pair.Pair.{Pair}
 use Rattle.ncq_plan.specs.declared.expr.Expr.{Expr}
 use Rattle.ncq_plan.specs.Meets.{has_atom, is_within, agree}
-use Rattle.ncq_plan.specs.Exprs.{World, scan_rows, followed_by, join_rows, rows_in}
+use Rattle.ncq_plan.specs.Exprs.{World, followed_by, join_rows, rows_in}
 use Rattle.ncq_plan.proofs.CallerLemmas.{expr_induction, rows_scan, rows_equal, rows_range, rows_join}
 use Rattle.ncq_construct.specs.Proper.{element_is_proper, row_is_proper, rows_are_proper}
 

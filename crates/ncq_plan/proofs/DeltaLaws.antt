@@ -7,8 +7,7 @@ use Rattle.ncq_row.specs.Embeddings.{Row}
 use Rattle.ncq_row.specs.declared.pair.Pair.{Pair}
 use Rattle.ncq_plan.specs.Meets.{agree}
 use Rattle.ncq_plan.specs.Exprs.{followed_by, join_rows}
-use Rattle.ncq_plan.specs.Totals.{SignedRow, plus_total, minus_total, SameChanges, LeadsTo, rows_after}
-use Rattle.ncq_plan.specs.Promises.{ChangesAddUp}
+use Rattle.ncq_plan.specs.Totals.{SignedRow, plus_total, minus_total, SameChanges, LeadsTo, LeadOn, rows_after}
 use Rattle.ncq_plan.specs.Deltas.{signed, selected_delta, left_delta, followed_by_changed, right_delta, join_delta}
 
 swapped : (a b c d : ℕ) → (a + b) + (c + d) ≡ (a + c) + (b + d)
@@ -209,7 +208,8 @@ leads_on first second third one other p q f =
     let n = plus_total-append f one other in
     omega arith
 
-pub changes_add_up : ChangesAddUp
+pub changes_add_up : (before : List Row) (changes : List (List SignedRow × List Row)) → LeadOn before changes
+    → LeadsTo before (flat_map (λ change. change.0) changes) (rows_after before changes)
 changes_add_up before [] leads = leads_nowhere before
 changes_add_up before (change ∷ changes) leads = leads_on before change.1 (rows_after change.1 changes) change.0 (flat_map (λ change. change.0) changes) leads.0 (changes_add_up change.1 changes leads.1)
 

@@ -11,7 +11,6 @@ use Rattle.ncq_plan.specs.Meets.{has_atom, is_within}
 use Rattle.ncq_plan.specs.Exprs.{World, rows_in}
 use Rattle.ncq_plan.specs.Totals.{SignedRow, LeadsTo}
 use Rattle.ncq_plan.specs.Deltas.{ScanDeltas, delta_of, ScansLead}
-use Rattle.ncq_plan.specs.Promises.{DeltasLead}
 use Rattle.ncq_plan.proofs.DeltaLaws.{select_leads, join_leads}
 use Rattle.ncq_plan.proofs.ExprCases.{expr_induction}
 use Rattle.ncq_plan.proofs.ExprRows.{rows_scan, rows_equal, rows_range, rows_join, delta_scan, delta_equal, delta_range, delta_join}
@@ -42,6 +41,7 @@ module _ (before after : World) (scans : ScanDeltas) (lead : ScansLead before af
       by_equations (rows_join before left right pairs) (delta_join before after scans left right pairs) (rows_join after left right pairs)
       (join_leads pairs (rows_in left before) (rows_in left after) (rows_in right before) (rows_in right after) (delta_of before after scans left) (delta_of before after scans right) l r)
 
-pub deltas_lead : DeltasLead
+pub deltas_lead : (before after : World) (scans : ScanDeltas) → ScansLead before after scans → (expr : Expr)
+    → LeadsTo (rows_in expr before) (delta_of before after scans expr) (rows_in expr after)
 deltas_lead before after scans lead =
     expr_induction (Leads before after scans lead) (of_scan before after scans lead) (of_equal before after scans lead) (of_range before after scans lead) (of_join before after scans lead)

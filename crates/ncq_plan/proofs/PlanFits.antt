@@ -9,12 +9,12 @@ use Rattle.ncq_plan.specs.declared.expr.Expr.TheVariants.{Scan, EqSel, RangeSel,
 use Rattle.ncq_plan.specs.declared.query.Arm.{Arm}
 use Rattle.ncq_plan.specs.declared.query.EqualTo.{EqualTo}
 use Rattle.ncq_plan.specs.declared.query.Within.{Within}
+use Rattle.ncq_plan.specs.declared.query.NormalQuery.{NormalQuery}
 use Rattle.ncq_plan.specs.Exprs.{expr_width, operators}
-use Rattle.ncq_plan.specs.Plans.{with_equals, with_ranges, arm_plan, with_arms, arms_plan}
-use Rattle.ncq_plan.specs.Promises.{PlansAreWellFormed}
+use Rattle.ncq_plan.specs.Plans.{with_equals, with_ranges, arm_plan, with_arms, arms_plan, plan_of}
 use Rattle.ncq_plan.proofs.ExprRows.{width_scan, width_equal, width_range, width_join, operators_scan, operators_equal, operators_range, operators_join, fit_scan, fit_equal, fit_range, fit_join}
 use Rattle.ncq_plan.specs.Products.{arm_width}
-use Rattle.ncq_plan.specs.WellFormed.{pair_fits, slots_fit, IsWellFormedExpr, equals_in, ranges_in, ArmFits, ArmsFit}
+use Rattle.ncq_plan.specs.WellFormed.{pair_fits, slots_fit, IsWellFormedExpr, equals_in, ranges_in, ArmFits, ArmsFit, IsWellFormed}
 
 below : (a b : ℕ) → a < b → nat_lt a b ≡ true
 below a b h = grind (arith, nat_tests)
@@ -100,7 +100,7 @@ joined_fit (arm ∷ arms) plan fit all =
     (pairs_fit (expr_width plan) (expr_width (arm_plan arm)) arm.pairs all.0.lefts (subst (λ w. AllByRecursion (λ pair. pair.right < w) arm.pairs) (sym width) all.0.rights)))
     (subst (λ w. ArmsFit w arms) (sym wide) all.1)
 
-pub plan_is_well_formed : PlansAreWellFormed
+pub plan_is_well_formed : (query : NormalQuery) → IsWellFormed query → IsWellFormedExpr (plan_of query)
 plan_is_well_formed query fits = by query.arms fits.some fits.few fits.equals fits.ranges fits.arms
   where
     by : (arms : List Arm) → 1 ≤ length arms → length arms ≤ 8 → equals_in arms ≤ 96 → ranges_in arms ≤ 32 → ArmsFit 0 arms → IsWellFormedExpr (arms_plan arms)

@@ -11,14 +11,14 @@ use Rattle.ncq_row.specs.declared.pair.Pair.{Pair}
 use Rattle.ncq_plan.specs.declared.query.Arm.{Arm}
 use Rattle.ncq_plan.specs.declared.query.EqualTo.{EqualTo}
 use Rattle.ncq_plan.specs.declared.query.Within.{Within}
+use Rattle.ncq_plan.specs.declared.query.NormalQuery.{NormalQuery}
 use Rattle.ncq_base.specs.Intervals.{in_interval}
 use Rattle.ncq_plan.specs.Meets.{pair_agrees, agree}
 use Rattle.ncq_plan.specs.Exprs.{World, rows_in}
-use Rattle.ncq_plan.specs.Plans.{arms_plan}
-use Rattle.ncq_plan.specs.Products.{arm_width, equal_holds, range_holds, pair_holds, arm_holds, arms_hold, arm_rows}
-use Rattle.ncq_plan.specs.Promises.{PlansGiveTheRows}
+use Rattle.ncq_plan.specs.Plans.{arms_plan, plan_of}
+use Rattle.ncq_plan.specs.Products.{arm_width, equal_holds, range_holds, pair_holds, arm_holds, arms_hold, arm_rows, prod}
 use Rattle.ncq_plan.specs.Residuals.{passes}
-use Rattle.ncq_plan.specs.WellFormed.{ArmFits, ArmsFit}
+use Rattle.ncq_plan.specs.WellFormed.{ArmFits, ArmsFit, IsWellFormed}
 use Rattle.ncq_plan.proofs.Lists.{map_itself, filter_alike, filter_none, filter-filter, filter-map, filter-flat_map, map-flat_map, map-map, flat_map_each, list_all_each}
 use Rattle.ncq_plan.proofs.PlanLaws.{meets_equal, meets_range, meets_arm, rows_behind, by_first, behind, arms_rows}
 use Rattle.ncq_plan.proofs.WidthLaws.{wide_scan}
@@ -115,7 +115,8 @@ no_pairs [] h = refl
 no_pairs (pair ∷ pairs) h = let below = h.0 in absurd (omega arith)
 
 -- the rows of the plan that pass the residual are those of the query
-pub plan_gives_the_rows : PlansGiveTheRows
+pub plan_gives_the_rows : (query : NormalQuery) (world : World) → IsWellFormed query
+    → filter (passes query.residual) (rows_in (plan_of query) world) ≡ prod query world
 plan_gives_the_rows query world fits =
     ap (filter (passes query.residual)) (by query.arms fits.some fits.arms)
     ∙ filter-filter (λ row. arms_hold 0 row query.arms) (passes query.residual) (one_of_each (map (arm_rows world) query.arms))

@@ -1,6 +1,6 @@
 -- The rows of an expression have a value for each of its slots, and the plan of a query has the slots of its arms.
 use Rattle.std.proofs.Common.{◌≡◌, ℕ, ◌+◌, ◌≤◌, Bool, true, false, cond, List, [], ◌∷◌, length, sym, ◌∙◌, arith, add_assoc, add-zero}
-use Rattle.std.specs.List.{filter}
+use Rattle.std.specs.List.{filter, AllByRecursion}
 use Rattle.ncq_tree.specs.declared.model.Element.{Element}
 use Rattle.ncq_row.specs.declared.shape.Shape.{Shape}
 use Rattle.ncq_row.specs.Embeddings.{Row, rows_of}
@@ -11,12 +11,12 @@ use Rattle.ncq_row.specs.declared.pair.Pair.{Pair}
 use Rattle.ncq_plan.specs.declared.expr.Expr.{Expr}
 use Rattle.ncq_plan.specs.declared.expr.Expr.TheVariants.{Join}
 use Rattle.ncq_plan.specs.declared.query.Arm.{Arm}
+use Rattle.ncq_plan.specs.declared.query.NormalQuery.{NormalQuery}
 use Rattle.ncq_plan.specs.Meets.{has_atom, is_within, agree}
-use Rattle.ncq_plan.specs.Exprs.{expr_width, scan_rows, followed_by, join_rows, rows_in}
-use Rattle.ncq_plan.specs.Plans.{arm_plan, with_arms, arms_plan}
+use Rattle.ncq_plan.specs.Exprs.{World, expr_width, scan_rows, followed_by, join_rows, rows_in}
+use Rattle.ncq_plan.specs.Plans.{arm_plan, with_arms, arms_plan, plan_of}
 use Rattle.ncq_plan.specs.Products.{arm_width}
-use Rattle.ncq_plan.specs.WellFormed.{arms_width}
-use Rattle.ncq_plan.specs.Promises.{RowsHaveTheWidth, PlansHaveTheWidth}
+use Rattle.ncq_plan.specs.WellFormed.{arms_width, IsWellFormed}
 use Rattle.ncq_plan.proofs.ExprCases.{expr_induction}
 use Rattle.ncq_plan.proofs.ExprRows.{width_scan, width_equal, width_range, width_join, rows_scan, rows_equal, rows_range, rows_join}
 use Rattle.ncq_plan.proofs.PlanFits.{arm_plan-width}
@@ -39,7 +39,7 @@ wide_join pairs left right (row ∷ lefts) rights l r =
     (wide_behind left right row (filter (agree pairs row) rights) l.0 (wide_filter right (agree pairs row) rights r))
     (wide_join pairs left right lefts rights l.1 r)
 
-pub rows_are_wide : RowsHaveTheWidth
+pub rows_are_wide : (world : World) (expr : Expr) → AllByRecursion (λ row. length row ≡ expr_width expr) (rows_in expr world)
 rows_are_wide world = expr_induction (λ expr. AreWide (expr_width expr) (rows_in expr world))
     (λ source shape. wide_renamed (sym (width_scan source shape)) (sym (rows_scan world source shape)) (wide_scan shape (world source)))
     (λ input slot constant all. wide_renamed (sym (width_equal input slot constant)) (sym (rows_equal world input slot constant)) (wide_filter (expr_width input) (has_atom slot constant) (rows_in input world) all))
@@ -54,7 +54,7 @@ joined-width (arm ∷ arms) plan =
     ∙ (λ i. expr_width plan + arm_plan-width arm i + arms_width arms)
     ∙ add_assoc (expr_width plan) (arm_width arm) (arms_width arms)
 
-pub plan_is_wide : PlansHaveTheWidth
+pub plan_is_wide : (query : NormalQuery) → IsWellFormed query → expr_width (plan_of query) ≡ arms_width query.arms
 plan_is_wide query fits = by query.arms fits.some
   where
     by : (arms : List Arm) → 1 ≤ length arms → expr_width (arms_plan arms) ≡ arms_width arms

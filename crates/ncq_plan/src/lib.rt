@@ -3,6 +3,7 @@
 //! arms before. Its plan is an expression of scans, selections and joins, whose rows that pass the
 //! residual tests are the rows of the query. A template makes a forest of such a row. The laws say
 //! that, and how the rows of any expression change with the elements of the sources.
+//! Hashing an expression walks each of its operators once, and copies nothing.
 #![tactic(auto)]
 
 mod copy;

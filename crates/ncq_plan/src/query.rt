@@ -1,8 +1,9 @@
 //! Queries in normal form: names are slots, and each condition stands where it can be met first.
 use crate::residual::Tests;
 use crate::template::SlotTemplate;
-use ncq_base::{Atom, Bytes, Interval, Sequence};
+use ncq_base::{Atom, Bytes, Copied, Interval, Sequence};
 use ncq_row::{Pairs, Shape};
+use std::alloc::{AllocError, Global};
 
 /// A slot has the constant's atom. Such demands are ordered by slot, then by atom.
 #[derive(PartialEq, Eq, PartialOrd, Ord, Drop)]
@@ -46,4 +47,44 @@ pub struct NormalQuery {
     pub arms: Arms,
     pub residual: Tests,
     pub template: SlotTemplate,
+}
+
+impl Copied for EqualTo {
+    fn copy(&self, alloc: Global) -> Result<EqualTo, AllocError> {
+        Ok(EqualTo {
+            slot: self.slot,
+            constant: self.constant.copy(alloc)?,
+        })
+    }
+}
+
+impl Copied for Within {
+    fn copy(&self, _alloc: Global) -> Result<Within, AllocError> {
+        Ok(Within {
+            slot: self.slot,
+            interval: self.interval,
+        })
+    }
+}
+
+impl Copied for Arm {
+    fn copy(&self, alloc: Global) -> Result<Arm, AllocError> {
+        Ok(Arm {
+            source: self.source.copy(alloc)?,
+            shape: self.shape.copy(alloc)?,
+            equals: self.equals.copy(alloc)?,
+            ranges: self.ranges.copy(alloc)?,
+            pairs: self.pairs.copy(alloc)?,
+        })
+    }
+}
+
+impl Copied for NormalQuery {
+    fn copy(&self, alloc: Global) -> Result<NormalQuery, AllocError> {
+        Ok(NormalQuery {
+            arms: self.arms.copy(alloc)?,
+            residual: self.residual.copy(alloc)?,
+            template: self.template.copy(alloc)?,
+        })
+    }
 }

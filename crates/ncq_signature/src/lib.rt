@@ -2,8 +2,10 @@
 //! interval open.
 //! Expressions come in, signatures and their texts go out. Signatures are keys of a hash table: two
 //! expressions have one signature exactly where they differ at most in that constant or interval.
+//! Hashing a signature walks each of its operators once, and copies nothing.
 #![tactic(auto)]
 
+mod copy;
 mod group;
 mod laws;
 mod signature;

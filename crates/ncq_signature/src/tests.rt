@@ -2,6 +2,8 @@
 //!
 //! A lower-case letter is a scan, any other letter stands behind its one or two inputs: `p=` is an
 //! equality over the scan `p`, `pq.` the product of the scans `p` and `q`.
+mod plans;
+
 use crate::{Signature, signature_of, write_signature};
 use ncq_base::{Atom, Own, bytes_of};
 use ncq_plan::{End, Expr, Interval, Pair, Pairs};

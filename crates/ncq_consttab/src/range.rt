@@ -1,0 +1,111 @@
+//! Intervals that a slot lies in.
+ghost use Rattle.std.specs.Prelude.{◌≡◌, ◌++◌, ◌∷◌, [], length, IfOk, IfSome, IfNone};
+ghost use Rattle.std.specs.Prelude.{OnOk, OnErr, None};
+ghost use Rattle.std.specs.List.Sorted.{IsNonDecreasingBy};
+ghost use Rattle.std.specs.List.{IsDistinct};
+ghost use Rattle.std.specs.Map.{lookup, keys_of};
+ghost use Rattle.ncq_base.specs.Counts.{SameCounts};
+ghost use Rattle.ncq_consttab.specs.Ranges.{is_interval, holders};
+
+use indexmap::IndexMap;
+use ncq_base::{Atom, FileId, Interval, Sequence, in_interval};
+use std::alloc::{AllocError, Global};
+use std::marker::Model;
+
+/// Numbers of files in order.
+pub type Files = Sequence<FileId>;
+
+/// The files of intervals. An interval is found by its hash.
+#[derive(Drop)]
+pub struct RangeTable {
+    files: IndexMap<Interval, FileId>,
+}
+
+impl Model for RangeTable {
+    ghost use Rattle.std.specs.Prelude.{List};
+    ghost use Rattle.std.specs.Coded.{coded_list, coded×};
+    ghost use Rattle.ncq_base.specs.declared.atom.FileId.{FileId};
+    ghost use Rattle.ncq_base.specs.declared.interval.Interval.{Interval};
+    ghost use Rattle.ncq_base.specs.contracts.atom.FileId.{the_row as file_row};
+    ghost use Rattle.ncq_base.specs.contracts.interval.Interval.{the_row as interval_row};
+
+    ghost Value = { List (Interval × FileId) };
+
+    ghost coded = { coded_list (coded× interval_row.coded file_row.coded) };
+
+    ghost view = { λ t. t.files.entries };
+}
+
+impl RangeTable {
+    /// A table without intervals.
+    pub fn new(alloc: Global) -> RangeTable
+        ensures { result ≡ [] }
+    {
+        RangeTable {
+            files: IndexMap::new(alloc),
+        }
+    }
+
+    /// How many intervals there are. None stands twice.
+    pub fn len(&self) -> usize
+        ensures len { result ≡ length self.now }
+        ensures once { IsDistinct is_interval (keys_of self.now) }
+    {
+        self.files.len()
+    }
+
+    /// The file of the interval.
+    pub fn find(&self, constant: &Interval) -> Option<FileId>
+        ensures { result ≡ lookup (is_interval constant.now) self.now }
+    {
+        self.files.get(constant).copied()
+    }
+
+    /// Adds an interval that is not there, behind the others.
+    pub fn insert(&mut self, constant: Interval, file: FileId) -> Result<(), AllocError>
+        requires { lookup (is_interval constant) self.old ≡ None }
+        ensures ok { OnOk result (self.new ≡ self.old ++ (constant, file) ∷ []) }
+        ensures err { OnErr result (self.new ≡ self.old) }
+    {
+        self.files.insert(constant, file)?;
+        Ok(())
+    }
+
+    /// Takes the interval away, if it is there, and tells its file. All other intervals stay.
+    pub fn remove(&mut self, constant: &Interval) -> Option<FileId>
+        ensures file { result ≡ lookup (is_interval constant.now) self.old }
+        ensures gone { lookup (is_interval constant.now) self.new ≡ None }
+        ensures others { IfSome result (λ file.
+            SameCounts self.old ((constant.now, file) ∷ self.new)) }
+        ensures none { IfNone result (self.new ≡ self.old) }
+    {
+        self.files.swap_remove(constant)
+    }
+
+    /// The files of all intervals that hold the value, by rising number.
+    pub fn takers(&self, alloc: Global, value: &Atom) -> Result<Files, AllocError>
+        ensures counts { IfOk result (λ files. SameCounts files (holders value.now self.now)) }
+        ensures rising { IfOk result (λ files. IsNonDecreasingBy (λ f. f.0) files) }
+    {
+        let mut files = holders_in(alloc, &self.files, value)?;
+        files.sort_unstable();
+        Ok(Files::from_vec(files))
+    }
+}
+
+/// The files of the intervals that hold the value, in the order of the table.
+fn holders_in(
+    alloc: Global,
+    files: &IndexMap<Interval, FileId>,
+    value: &Atom,
+) -> Result<Vec<FileId>, AllocError>
+    ensures { IfOk result (λ found. found.items ≡ holders value.now files.now.entries) }
+{
+    let mut found = Vec::new(alloc);
+    for (interval, file) in files {
+        if in_interval(interval, value) {
+            found.push(*file)?;
+        }
+    }
+    Ok(found)
+}

@@ -1,0 +1,11 @@
+pub mod Compacts
+pub mod Counted
+pub mod Cuts
+pub mod Gathers
+pub mod Kept
+pub mod Left
+pub mod Matches
+pub mod Parts
+pub mod SameAtoms
+pub mod Strikes
+pub mod Sounds

@@ -1,0 +1,187 @@
+//! A file of signed rows.
+ghost use Rattle.std.specs.Prelude.{◌≡◌, ◌<◌, ◌≤◌, ◌++◌, [], ◌∷◌, List, map, filter, length};
+ghost use Rattle.std.specs.Prelude.{slice_get, Some, IfOk, OnOk, OnErr};
+ghost use Rattle.std.specs.List.{AllByRecursion, All};
+ghost use Rattle.ncq_row.specs.Embeddings.{Row as a_row};
+ghost use Rattle.ncq_midfile.specs.Content.{up_to, since, IsContent, IsSoundAt, rows_of, rows_at};
+ghost use Rattle.ncq_midfile.specs.Content.{AreRising, AreGains};
+ghost use Rattle.ncq_midfile.specs.Files.{AreNumbered, IsFile};
+ghost use Rattle.ncq_midfile.specs.Made.{gained_at};
+ghost use Rattle.ncq_midfile.specs.Matching.{HaveSlots, has_key};
+ghost use Rattle.ncq_base.specs.Counts.{SameCounts};
+
+use crate::compact::gather;
+use crate::content::{count_up_to, first_places, left_over};
+use crate::matching::matching_in;
+use crate::signed::{Places, SignedRow};
+use ncq_row::{Row, RowKey, Rows};
+use std::alloc::{AllocError, Global};
+use std::marker::Model;
+
+/// The signed rows of one expression.
+#[derive(Drop)]
+pub struct MidFile {
+    base: u64,
+    rows: Vec<SignedRow>,
+}
+
+impl Model for MidFile {
+    ghost use Rattle.ncq_midfile.specs.Files.{FileState, file_code, IsFile};
+
+    ghost Value = { FileState };
+
+    ghost coded = { file_code };
+
+    ghost view = { λ f. record { base = f.base; rows = f.rows.items } };
+
+    ghost invariant = { λ f. IsFile f.base f.rows.items };
+}
+
+impl MidFile {
+    /// A file whose content at `base` are these rows.
+    pub fn new(alloc: Global, base: u64, rows: Rows) -> Result<MidFile, AllocError>
+        ensures base { IfOk result (λ file. file.base ≡ base) }
+        ensures rows { IfOk result (λ file. file.rows ≡ map (gained_at base) rows) }
+    {
+        let rows = all_gained(alloc, base, rows)?;
+        Ok(MidFile { base, rows })
+    }
+
+    /// The change from which on the file tells its content. Numbers never fall, and the rows with
+    /// the number of the base came in.
+    pub fn base(&self) -> u64
+        ensures base { result ≡ self.now.base }
+        ensures file { IsFile self.now.base self.now.rows }
+    {
+        self.base
+    }
+
+    /// One more signed row, with a number above the base and not below the last one.
+    pub fn append(&mut self, row: SignedRow) -> Result<(), AllocError>
+        requires above { self.old.base < row.number }
+        requires last { AllByRecursion (λ r. r.number ≤ row.number) self.old.rows }
+        ensures base { self.new.base ≡ self.old.base }
+        ensures ok { OnOk result (self.new.rows ≡ self.old.rows ++ row ∷ []) }
+        ensures err { OnErr result (self.new ≡ self.old) }
+    {
+        self.rows.push(row)?;
+        Ok(())
+    }
+
+    /// The signed rows with numbers above `n`.
+    pub fn rows_since(&self, n: u64) -> &[SignedRow]
+        requires { self.now.base ≤ n }
+        ensures { result.now ≡ since n self.now.rows }
+    {
+        let rows = self.rows.as_slice();
+        &rows[count_up_to(rows, n)..]
+    }
+
+    /// The row at a place of the file.
+    pub fn row(&self, at: usize) -> &Row
+        requires { at < length self.now.rows }
+        ensures { slice_get (map (λ r. r.row) self.now.rows) at ≡ Some result.now }
+    {
+        &self.rows[at].row
+    }
+
+    /// The places of the rows that came in up to `n` and are left, after each row that went out up
+    /// to `n` has struck out an equal one.
+    pub fn content_at(&self, alloc: Global, n: u64) -> Result<Places, AllocError>
+        requires base { self.now.base ≤ n }
+        requires sound { IsSoundAt n self.now.rows }
+        ensures rising { IfOk result (λ places. AreRising 0 places) }
+        ensures gains { IfOk result (λ places. AreGains self.now.rows places) }
+        ensures within { IfOk result (λ places.
+            All (λ place. place < length self.now.rows) places) }
+        ensures early { IfOk result (λ places.
+            All (λ place. place < length (up_to n self.now.rows)) places) }
+        ensures content { IfOk result (λ places.
+            IsContent n self.now.rows (rows_at places self.now.rows)) }
+    {
+        content_of(alloc, self.rows.as_slice(), n)
+    }
+
+    /// The places of the rows that are left at `n` and have these atoms in the slots.
+    pub fn matching(
+        &self,
+        alloc: Global,
+        slots: &[usize],
+        key: &RowKey,
+        n: u64,
+    ) -> Result<Places, AllocError>
+        requires base { self.now.base ≤ n }
+        requires sound { IsSoundAt n self.now.rows }
+        requires slots { HaveSlots slots.now self.now.rows }
+        ensures rising { IfOk result (λ places. AreRising 0 places) }
+        ensures gains { IfOk result (λ places. AreGains self.now.rows places) }
+        ensures within { IfOk result (λ places.
+            All (λ place. place < length self.now.rows) places) }
+        ensures counts { IfOk result (λ places.
+            (list : List a_row) → IsContent n self.now.rows list
+            → SameCounts (rows_at places self.now.rows)
+            (filter (has_key slots.now key.now) list)) }
+    {
+        matching_in(alloc, self.rows.as_slice(), slots, key.as_slice(), n)
+    }
+
+    /// Makes `n` the base: the file has then the rows that are left at `n`, each as one that is
+    /// there from the base on. No row is made. After an error the file is as it was.
+    pub fn compact(&mut self, alloc: Global, n: u64) -> Result<(), AllocError>
+        requires base { self.old.base ≤ n }
+        requires last { AllByRecursion (λ r. r.number ≤ n) self.old.rows }
+        requires sound { IsSoundAt n self.old.rows }
+        ensures base { OnOk result (self.new.base ≡ n) }
+        ensures gains { OnOk result (self.new.rows ≡ map (gained_at n) (rows_of self.new.rows)) }
+        ensures content { OnOk result (IsContent n self.old.rows (rows_of self.new.rows)) }
+        ensures stays { OnOk result ((list : List a_row)
+            → IsContent n self.old.rows list → IsContent n self.new.rows list) }
+        ensures err { OnErr result (self.new ≡ self.old) }
+    {
+        let places = content_of(alloc, self.rows.as_slice(), n)?;
+        gather(&mut self.rows, places.as_slice(), n);
+        self.base = n;
+        Ok(())
+    }
+
+    /// Takes away the signed rows with numbers above `n`.
+    pub fn roll_back(&mut self, n: u64)
+        requires { self.old.base ≤ n }
+        ensures base { self.new.base ≡ self.old.base }
+        ensures rows { self.new.rows ≡ up_to n self.old.rows }
+    {
+        let kept = count_up_to(self.rows.as_slice(), n);
+        self.rows.truncate(kept);
+    }
+}
+
+/// The rows, each as one that came in at the change.
+fn all_gained(alloc: Global, number: u64, rows: Rows) -> Result<Vec<SignedRow>, AllocError>
+    ensures { IfOk result (λ signed. signed.items ≡ map (gained_at number) rows) }
+{
+    let mut signed = Vec::with_capacity(alloc, rows.len())?;
+    for row in rows.into_vec() {
+        signed.push(SignedRow {
+            number,
+            plus: true,
+            row,
+        })?;
+    }
+    Ok(signed)
+}
+
+/// The places of the rows that are left at `n`.
+fn content_of(alloc: Global, rows: &[SignedRow], n: u64) -> Result<Places, AllocError>
+    requires numbered { AreNumbered 0 rows.now }
+    requires sound { IsSoundAt n rows.now }
+    ensures rising { IfOk result (λ places. AreRising 0 places) }
+    ensures gains { IfOk result (λ places. AreGains rows.now places) }
+    ensures within { IfOk result (λ places. All (λ place. place < length rows.now) places) }
+    ensures early { IfOk result (λ places.
+        All (λ place. place < length (up_to n rows.now)) places) }
+    ensures content { IfOk result (λ places. IsContent n rows.now (rows_at places rows.now)) }
+{
+    let all = first_places(alloc, count_up_to(rows, n))?;
+    let left = left_over(alloc, rows, all.as_slice())?;
+    Ok(left)
+}

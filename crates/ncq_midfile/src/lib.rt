@@ -1,0 +1,18 @@
+//! What the rows of one expression were at each change, as one list of signed rows.
+//! Rows come in with the number of a change and a sign; the content at a change goes out as the
+//! places of the rows that are left. Numbers never fall, and what the file holds at its base are
+//! rows that came in.
+#![tactic(auto)]
+
+mod compact;
+mod content;
+mod file;
+mod laws;
+mod matching;
+mod signed;
+#[cfg(test)]
+mod tests;
+
+pub use file::MidFile;
+pub use laws::contents_are_counted;
+pub use signed::{Places, SignedRow, SignedRows};
