@@ -7,3 +7,8 @@ pub mod NoticeLaws
 pub mod Keeping
 pub mod ToldLaws
 pub mod WalkLaws
+pub mod Places
+pub mod StoreLaws
+pub mod EngineLaws
+pub mod CommandLaws
+pub mod ChangeLaws

@@ -150,11 +150,11 @@ module _ (labels : List Label) (h : History) (command : Command) (store : StoreS
       ∙ (λ i. told_one s m (fires s h command) p.0.0 i ++ map noticed (flat_map (λ s. fired_at s (fires s h command)) subs))
       ∙ sym (map_push (fired_at s (fires s h command)) (flat_map (λ s. fired_at s (fires s h command)) subs))
 
-  texts_of : (xs : List Fired) → flat_map (λ (t : Told). t.text) (map noticed xs) ≡ flat_map (notice_at (language_of labels) h command) xs
+  pub texts_of : (xs : List Fired) → flat_map (λ (t : Told). t.text) (map noticed xs) ≡ flat_map (notice_at (language_of labels) h command) xs
   texts_of [] = refl
   texts_of (x ∷ xs) = ap (λ more. notice_at (language_of labels) h command x ++ more) (texts_of xs)
 
-  times_of : (xs : List Fired) → times (λ (t : Told). nat_lt 0 (length t.text)) (map noticed xs) ≡ times (λ f. nat_lt 0 (length (notice_at (language_of labels) h command f))) xs
+  pub times_of : (xs : List Fired) → times (λ (t : Told). nat_lt 0 (length t.text)) (map noticed xs) ≡ times (λ f. nat_lt 0 (length (notice_at (language_of labels) h command f))) xs
   times_of [] = refl
   times_of (x ∷ xs) = ap (λ n. cond (nat_lt 0 (length (notice_at (language_of labels) h command x))) 1 0 + n) (times_of xs)
 

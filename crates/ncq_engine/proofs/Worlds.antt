@@ -25,7 +25,7 @@ use Rattle.ncq_engine.specs.Stands.{content_of}
 use Rattle.ncq_engine.proofs.HistoryLaws.{up_to_whole}
 
 -- the first of the sources of this name
-abbrev named : List ℕ → List Declared → Option Declared
+abbrev pub named : List ℕ → List Declared → Option Declared
 named name [] = None
 named name (d ∷ all) = if bytes_eq name d.name then Some d else named name all
 
@@ -56,6 +56,10 @@ at_place name (d ∷ all) =
               (λ i. option_and_then (slice_get (d ∷ all)) (cond (w i) (Some (n i)) None)) ∙ q
           | false ↦ λ p q. let w : nat_lt (1 + k) (suc (length (names_of all))) ≡ false = grind (arith, nat_tests, p) in (λ i. option_and_then (slice_get (d ∷ all)) (cond (w i) (Some (1 + k)) None)) ∙ q
         ] refl e
+
+-- what is found by a name is the first of that name
+pub source_named_is : (store : StoreState) (name : List ℕ) → source_named store name ≡ named name store.sources
+source_named_is store name = at_place name store.sources
 
 content_named : (name : List ℕ) (all : List Declared) → source_in name (map content_of all) ≡ option_map content_of (named name all)
 content_named name [] = refl

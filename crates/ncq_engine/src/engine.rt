@@ -24,6 +24,7 @@ ghost use Rattle.ncq_script.specs.Proper.{IsProperCommand};
 ghost use Rattle.ncq_pyx.specs.Canonical.{item_is_proper};
 
 use crate::member::Member;
+use crate::roll::{drop_expired, drop_named};
 use crate::telling::{tell_changed, tell_due};
 use ncq_base::{Bytes, Copied, Sequence, Steps, write_decimal};
 use ncq_bind::{BindError, bind};
@@ -219,8 +220,8 @@ impl Engine {
             Err(error) => return self.refuse_change(error),
         };
         self.store.reserve(&change)?;
-        self.store.commit(change);
         let applied = self.accept(out)?;
+        self.store.commit(change);
         let notices = tell_changed(
             alloc,
             &mut self.members,
@@ -333,8 +334,7 @@ impl Engine {
             return self.refuse(Refusal::NoName);
         }
         let applied = self.accept(out)?;
-        self.members
-            .retain(|member| member.name.as_slice() != name.as_slice());
+        drop_named(&mut self.members, name.as_slice());
         Ok(applied)
     }
 
@@ -370,8 +370,7 @@ impl Engine {
         let applied = applied.with(notices, out);
         self.clock = instant;
         write_expired(self.members.as_slice(), instant, out)?;
-        self.members
-            .retain(|member| !is_expired(&member.timing, instant));
+        drop_expired(&mut self.members, instant);
         Ok(applied)
     }
 

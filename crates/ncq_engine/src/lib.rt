@@ -4,6 +4,7 @@
 mod engine;
 mod laws;
 mod member;
+mod roll;
 mod telling;
 mod walk;
 

@@ -1,0 +1,118 @@
+-- What the engine stands for behind a change of a source.
+use Rattle.std.proofs.Common.{◌≡◌, ℕ, zero, suc, ◌+◌, ◌<◌, ◌≤◌, Bool, true, false, not, ◌&&◌, ◌==◌, cond, List, [], ◌∷◌, ◌++◌, map, length, get_or, slice_get, slice_set, refl, sym, ◌∙◌, ap, subst, arith, true≢false, inl, inr, zero-add}
+use Rattle.std.specs.Prelude.{Option, Some, None, Result, Ok, Err, if◌then◌else◌, nat_lt, nat_le, is_some}
+use Rattle.std.specs.Option.{option_and_then}
+use Rattle.std.proofs.lemmas.Bool.Decides.{nat_tests}
+use Rattle.std.proofs.lemmas.List.Quantifiers.{position-Some}
+use Rattle.std.proofs.lemmas.Option.{slice_get_within, slice_get-get_or, get_or_from_slice_get}
+use Rattle.std.specs.List.{flat_map, list_any, AllByRecursion, position}
+use Rattle.std.specs.Str.{bytes_eq}
+use Rattle.ncq_base.specs.Keys.{times}
+use Rattle.ncq_callback.specs.Labels.{Label}
+use Rattle.ncq_event.specs.declared.firing.Firing.{Firing}
+use Rattle.ncq_event.specs.Orders.{ordered_by}
+use Rattle.ncq_change.specs.Stores.{source_named, world_in}
+use Rattle.ncq_change.proofs.CommitLaws.{found_name}
+use Rattle.ncq_pyx.specs.declared.item.Item.{Item}
+use Rattle.ncq_script.specs.declared.command.Command.{Command}
+use Rattle.ncq_script.specs.declared.command.Command.TheVariants.{Delta}
+use Rattle.ncq_script.specs.declared.refusal.Refusal.{Refusal}
+use Rattle.ncq_script.specs.declared.refusal.Refusal.TheVariants as refusal
+use Rattle.ncq_source.specs.Changes.{prepared, after}
+use Rattle.ncq_source.specs.Changes.Trial.{Good, NoKey, NotThere}
+use Rattle.ncq_source.specs.ChangeStates.{ChangeState}
+use Rattle.ncq_source.specs.declared.change.ChangeError.{ChangeError}
+use Rattle.ncq_source.specs.declared.change.ChangeError.TheVariants.{NoSource, BadKey, NoSuchKey}
+use Rattle.ncq_source.specs.Stores.{Source as Declared, Follows, without_room}
+use Rattle.ncq_source.specs.StoreStates.{StoreState, IsCommitted, TellsChange, found, names}
+use Rattle.ncq_source.proofs.Folds.{fold_of_entries}
+use Rattle.ncq_engine.specs.declared.member.Member.{Member}
+use Rattle.ncq_engine.specs.declared.telling.Told.{Told}
+use Rattle.ncq_engine.specs.Engines.{CanFire, FiresIf, Pairwise, changed_text, is_told_change, last_in, rows_over, told_at, told_text}
+use Rattle.ncq_engine.specs.Firing.{fires, is_installed, is_told_of, sources_of}
+use Rattle.ncq_engine.specs.History.{History, Source, Subscription, changes, creates, last_change, live, now, source_in, sources, with_items, world}
+use Rattle.ncq_engine.specs.Languages.{language_of}
+use Rattle.ncq_engine.specs.Notices.{fired_at, firings, notice_at, told}
+use Rattle.ncq_engine.specs.Output.{delta_refusal, first_refusal, notices, trial_refusal}
+use Rattle.ncq_engine.specs.Stands.{EngineState, Keeps, Stands, content_of}
+use Rattle.ncq_engine.proofs.CommandLaws.{engine}
+use Rattle.ncq_engine.proofs.HistoryLaws.{Installed, installed}
+use Rattle.ncq_engine.proofs.Keeping.{Agrees, keep_all}
+use Rattle.ncq_engine.proofs.Places.{is_found, moved_by, not_found, same_names}
+use Rattle.ncq_engine.proofs.StoreLaws.{last_alike, last_changed, last_unchanged}
+use Rattle.ncq_engine.proofs.ToldLaws.{live_rises, noticed, one_instant, order_stays, texts_of, times_of, told_list}
+use Rattle.ncq_engine.proofs.Worlds.{named, source_named_is, world_is}
+
+and_swap : (a b c : Bool) → (a && b && c) ≡ (a && c && b)
+and_swap true true true = refl
+and_swap true true false = refl
+and_swap true false true = refl
+and_swap true false false = refl
+and_swap false b c = refl
+
+-- the instant at which a change fires a member
+abbrev pub changed_instant : List ℕ → ℕ → Member → Option ℕ
+changed_instant name clock m = if is_told_change name clock m then Some clock else None
+
+module _ (labels : List Label) (h : History) (name : List ℕ) (items : List Item) (clock : ℕ) (at_now : clock ≡ now h) where
+  fires_one : (s : Subscription) (m : Member) → Keeps labels h s m → s.install ≤ creates h → changed_instant name clock m ≡ fires s h (Delta name items)
+  fires_one s m k before =
+      let here : is_installed s h ≡ true = grind (arith, nat_tests, before) in
+      (λ i. if (k.timing i).every == 0 && nat_le (k.timing i).start (at_now i) && list_any (bytes_eq name) (k.sources i) then Some (at_now i) else None)
+      ∙ (λ i. if and_swap (s.statement.every == 0) (nat_le s.start (now h)) (list_any (bytes_eq name) (sources_of s.statement)) i then Some (now h) else None)
+      ∙ (λ i. if sym here i && is_told_of name s h then Some (now h) else None)
+
+  pub fires_each : (subs : List Subscription) (ms : List Member) → Pairwise (Keeps labels h) subs ms → Installed h subs
+      → Pairwise (λ s m. Keeps labels h s m × (changed_instant name clock m ≡ fires s h (Delta name items))) subs ms
+  fires_each [] [] p i = tt
+  fires_each [] (m ∷ ms) p i = absurd p
+  fires_each (s ∷ subs) [] p i = absurd p
+  fires_each (s ∷ subs) (m ∷ ms) p i = ((p.0, fires_one s m p.0 i.0), fires_each subs ms p.1 i.1)
+
+some_if : (b : Bool) (n : ℕ) → is_some (if b then Some n else None) ≡ b
+some_if true n = refl
+some_if false n = refl
+
+-- so the test that the code makes agrees
+pub agree_each : (labels : List Label) (h : History) (command : Command) (name : List ℕ) (clock : ℕ) (subs : List Subscription) (ms : List Member)
+    → Pairwise (λ s m. Keeps labels h s m × (changed_instant name clock m ≡ fires s h command)) subs ms
+    → Pairwise (λ s m. Keeps labels h s m × Agrees (is_told_change name clock m) (fires s h command)) subs ms
+agree_each labels h command name clock [] [] p = tt
+agree_each labels h command name clock [] (m ∷ ms) p = absurd p
+agree_each labels h command name clock (s ∷ subs) [] p = absurd p
+agree_each labels h command name clock (s ∷ subs) (m ∷ ms) p =
+    ((p.0.0, sym (some_if (is_told_change name clock m) clock) ∙ ap is_some p.0.1), agree_each labels h command name clock subs ms p.1)
+
+-- the texts that the code appends are those of what is told
+module _ (labels : List Label) (store : StoreState) (name : List ℕ) (clock : ℕ) where
+  abbrev pub changed_told : List Member → List Told
+  changed_told ms = flat_map (λ m. told_at labels store m (changed_instant name clock m)) ms
+
+  pub changed_texts : (ms : List Member) → flat_map (changed_text labels store name clock) ms ≡ flat_map (λ (t : Told). t.text) (changed_told ms)
+  changed_texts [] = refl
+  changed_texts (m ∷ ms) =
+      elim (is_told_change name clock m) as (λ t. (if t then told_text labels m clock (rows_over store m) else []) ++ flat_map (changed_text labels store name clock) ms
+      ≡ flat_map (λ (t : Told). t.text) (told_at labels store m (if t then Some clock else None) ++ changed_told ms)) [
+        | true ↦ ap (λ more. told_text labels m clock (rows_over store m) ++ more) (changed_texts ms)
+        | false ↦ changed_texts ms
+      ]
+
+  pub changed_times : (ms : List Member) → times (λ m. nat_lt 0 (length (changed_text labels store name clock m))) ms ≡ times (λ (t : Told). nat_lt 0 (length t.text)) (changed_told ms)
+  changed_times [] = refl
+  changed_times (m ∷ ms) =
+      elim (is_told_change name clock m) as (λ t. cond (nat_lt 0 (length (if t then told_text labels m clock (rows_over store m) else []))) 1 0 + times (λ m. nat_lt 0 (length (changed_text labels store name clock m))) ms
+      ≡ times (λ (t : Told). nat_lt 0 (length t.text)) (told_at labels store m (if t then Some clock else None) ++ changed_told ms)) [
+        | true ↦ ap (λ n. cond (nat_lt 0 (length (told_text labels m clock (rows_over store m)))) 1 0 + n) (changed_times ms)
+        | false ↦ zero-add (times (λ m. nat_lt 0 (length (changed_text labels store name clock m))) ms) ∙ changed_times ms
+      ]
+
+fires_now : (h : History) (name : List ℕ) (items : List Item) (s : Subscription) (d : ℕ) → fires s h (Delta name items) ≡ Some d → d ≡ now h
+fires_now h name items s d e = by (is_installed s h && is_told_of name s h) e
+  where
+    by : (b : Bool) → (if b then Some (now h) else None) ≡ Some d → d ≡ now h
+    by true q = cc
+    by false q = absurd cc
+
+-- all are told in the order of their install numbers
+pub told_in_order : (h : History) (name : List ℕ) (items : List Item) → told h (Delta name items) ≡ firings h (Delta name items)
+told_in_order h name items = order_stays (λ (f : Firing × Subscription). f.0) (firings h (Delta name items)) (one_instant (now h) (λ s. fires s h (Delta name items)) (fires_now h name items) (live h) (live_rises h))

@@ -1,0 +1,165 @@
+-- What the engine stands for behind a declaration and behind a delete.
+use Rattle.std.proofs.Common.{◌≡◌, ℕ, zero, suc, ◌+◌, ◌<◌, ◌≤◌, Bool, true, false, not, ◌||◌, cond, List, [], ◌∷◌, ◌++◌, map, length, slice_get, slice_set, refl, sym, ◌∙◌, ap, subst, arith, true≢false, inl, inr, zero-add}
+use Rattle.std.specs.Prelude.{Option, Some, None, Result, Ok, Err, codes, decimal, if◌then◌else◌, IfOk, OnOk, OnErr, IsSome, is_some, ◌⊎◌}
+use Rattle.std.specs.List.{filter, flat_map, list_any, AllByRecursion}
+use Rattle.std.specs.FinMap.{empty}
+use Rattle.std.specs.Str.{bytes_eq}
+use Rattle.std.proofs.lemmas.Option.{slice_get_cases}
+use Rattle.ncq_base.specs.Keys.{times}
+use Rattle.ncq_callback.specs.Labels.{Label}
+use Rattle.ncq_script.specs.declared.command.Command.{Command}
+use Rattle.ncq_script.specs.declared.command.Command.TheVariants.{Declare, Delta, Create, Delete, Clock, Report, Malformed}
+use Rattle.ncq_script.specs.declared.refusal.Refusal.{Refusal}
+use Rattle.ncq_script.specs.declared.refusal.Refusal.TheVariants as refusal
+use Rattle.ncq_source.specs.declared.key.Key.{Key}
+use Rattle.ncq_source.specs.Stores.{Source as Declared, without_room}
+use Rattle.ncq_source.specs.StoreStates.{StoreState, Declares, found}
+use Rattle.ncq_source.specs.declared.change.SourceId.{SourceId}
+use Rattle.ncq_source.specs.declared.store.DeclareError.{DeclareError}
+use Rattle.ncq_source.specs.declared.store.DeclareError.TheVariants.{Exists}
+use Rattle.ncq_engine.specs.declared.engine.Applied.{Applied}
+use Rattle.ncq_engine.specs.declared.engine.ApplyError.{ApplyError}
+use Rattle.ncq_engine.specs.declared.engine.ApplyError.TheVariants.{Refused, OutOfMemory}
+use Rattle.ncq_engine.specs.declared.member.Member.{Member}
+use Rattle.ncq_engine.specs.Applies.{Applies, ok_text}
+use Rattle.ncq_engine.specs.Engines.{CanFire, InstallsAreUpTo, InstallsRise, Pairwise}
+use Rattle.ncq_engine.proofs.Lists.{each_filter}
+use Rattle.ncq_engine.specs.History.{History, Source, Subscription, changes, creates as creates_of, is_named, live, source_in, sources}
+use Rattle.ncq_engine.specs.Languages.{language_of}
+use Rattle.ncq_engine.specs.Output.{first_refusal, is_taken, refused_if}
+use Rattle.ncq_engine.specs.Stands.{EngineState, Keeps, Stands, content_of}
+use Rattle.ncq_engine.proofs.EngineLaws.{Tells, accepts_quietly, keep_quiet, pairwise_any, pairwise_filter, refuses, told_nobody}
+use Rattle.ncq_engine.proofs.Places.{found_within, is_found, not_found, one_declared}
+use Rattle.ncq_engine.proofs.StoreLaws.{last_declared}
+
+-- a name is found nowhere, or at a place where a source stands
+abbrev pub IsPlace : StoreState → List ℕ → Type 0
+IsPlace store name = (found store name ≡ None) ⊎ ((at : ℕ) × (d : Declared) × (found store name ≡ Some at) × (slice_get store.sources at ≡ Some d))
+
+place_of : (store : StoreState) (name : List ℕ) (o : Option ℕ) → found store name ≡ o → IsPlace store name
+place_of store name None e = inl e
+place_of store name (Some at) e =
+    elim (slice_get_cases store.sources at).1 [
+      | inl here ↦ inr (at, here.0, e, here.2)
+      | inr gone ↦ absurd (let within = found_within name store.sources at e in let past = gone.0 in omega (arith, within, past))
+    ]
+
+pub place : (store : StoreState) (name : List ℕ) → IsPlace store name
+place store name = place_of store name (found store name) refl
+
+-- an answer, where the two engines have other names
+pub told_as : (old old' : EngineState) (command : Command) (out : List ℕ) (result : Result Applied ApplyError) (new new' : EngineState) (out' : List ℕ)
+    → old' ≡ old → new ≡ new' → Applies old' command out result new' out' → Applies old command out result new out'
+told_as old old' command out result new new' out' o n a =
+    subst (λ (e : EngineState). Applies e command out result new out') o (subst (λ (e : EngineState). Applies old' command out result e out') (sym n) a)
+
+-- an engine of these parts
+abbrev pub engine : StoreState → ℕ → ℕ → ℕ → List Label → List Member → EngineState
+engine store clock count creates labels members = record { store = store; clock = clock; count = count; creates = creates; labels = labels; members = members }
+
+module _ (store : StoreState) (clock count creates : ℕ) (labels : List Label) (members : List Member) (out : List ℕ) (result : Result Applied ApplyError) (out' : List ℕ)
+    (text : OnOk result (out' ≡ out ++ ok_text (count + 1))) (places : IfOk result (λ a. a ≡ record { from = length out'; to = length out'; notices = 0 })) (only : OnErr result (result ≡ Err OutOfMemory)) where
+  pub declare_accepted : (name root : List ℕ) (key : Key) (store' : StoreState) → (IsSome (found store name) → ⊥) → Declares store store' name root key
+      → Applies (engine store clock count creates labels members) (Declare name root key) out result (engine store' clock (count + 1) creates labels members) out'
+  declare_accepted name root key store' new declares =
+      accepts_quietly (engine store clock count creates labels members) (Declare name root key) out result (engine store' clock (count + 1) creates labels members) out'
+      (record {
+        accepted = λ h s. (
+          elim (place store name) [
+            | inr p ↦ absurd (new (subst IsSome (sym p.2) refl))
+            | inl none ↦ ap (λ o. refused_if (is_some o) refusal.SourceExists) (ap (source_in name) (sym s.sources) ∙ not_found name store.sources none)
+          ],
+          record {
+            sources = one_declared store.sources store'.sources name root key declares.sources
+                ∙ ap (λ (ss : List Source). ss ++ record { name = name; root = root; key = key; elements = empty } ∷ []) s.sources;
+            last = λ asked. last_declared store store' asked name root key declares.sources ∙ s.last asked;
+            changes = declares.changes ∙ s.changes ∙ sym (zero-add (changes h));
+            clock = s.clock;
+            creates = s.creates ∙ sym (zero-add (creates_of h));
+            members = keep_quiet labels h (Declare name root key) (λ _. refl) (live h) members s.members;
+          },
+        );
+        tells = λ h s. ap (flat_map _) (sym (told_nobody h (Declare name root key) (λ _. refl)));
+        counts = λ h s. ap (times _) (sym (told_nobody h (Declare name root key) (λ _. refl)));
+        ends = λ h s. refl;
+        counted = refl;
+        named = refl;
+      }) text places only
+
+  named_alike : (name : List ℕ) (h : History) (s : Subscription) (m : Member) → Keeps labels h s m → is_named name s ≡ bytes_eq name m.name
+  named_alike name h s m k = ap (bytes_eq name) (sym k.name)
+
+  pub taken_is : (name : List ℕ) (h : History) → Pairwise (Keeps labels h) (live h) members → is_taken name h ≡ list_any (λ m. bytes_eq name m.name) members
+  taken_is name h p = pairwise_any (Keeps labels h) (is_named name) (λ m. bytes_eq name m.name) (named_alike name h) (live h) members p
+
+  pub delete_accepted : (name : List ℕ) → list_any (λ m. bytes_eq name m.name) members ≡ true
+      → Applies (engine store clock count creates labels members) (Delete name) out result (engine store clock (count + 1) creates labels (filter (λ m. not (bytes_eq name m.name)) members)) out'
+  delete_accepted name has =
+      accepts_quietly (engine store clock count creates labels members) (Delete name) out result (engine store clock (count + 1) creates labels (filter (λ m. not (bytes_eq name m.name)) members)) out'
+      (record {
+        accepted = λ h s. (
+          ap (λ t. refused_if (not t) refusal.NoName) (taken_is name h s.members ∙ has),
+          record {
+            sources = s.sources;
+            last = s.last;
+            changes = s.changes ∙ sym (zero-add (changes h));
+            clock = s.clock;
+            creates = s.creates ∙ sym (zero-add (creates_of h));
+            members = pairwise_filter (Keeps labels (Delete name ∷ h)) (λ s. not (is_named name s)) (λ m. not (bytes_eq name m.name)) (λ s m k. ap (λ t. not (bytes_eq name t)) (sym k.name)) (live h) members
+                (keep_quiet labels h (Delete name) (λ _. refl) (live h) members s.members);
+          },
+        );
+        tells = λ h s. ap (flat_map _) (sym (told_nobody h (Delete name) (λ _. refl)));
+        counts = λ h s. ap (times _) (sym (told_nobody h (Delete name) (λ _. refl)));
+        ends = λ h s. refl;
+        counted = refl;
+        named = refl;
+      }) text places only
+
+module _ (store : StoreState) (clock count creates : ℕ) (labels : List Label) (members : List Member) (out : List ℕ) (result : Result Applied ApplyError) (new : EngineState) (out' : List ℕ)
+    (same : new ≡ engine store clock (count + 1) creates labels members) (untouched : out' ≡ out) where
+  abbrev old : EngineState
+  old = engine store clock count creates labels members
+
+  -- a source of the name is declared already
+  pub declare_refused : (name root : List ℕ) (key : Key) → result ≡ Err (Refused refusal.SourceExists) → IsSome (found store name) → Applies old (Declare name root key) out result new out'
+  declare_refused name root key is some = refuses old (Declare name root key) refusal.SourceExists out result new out' is same untouched (λ h s.
+      elim (place store name) [
+        | inl none ↦ absurd (let bad = subst IsSome none some in (let w : ⊥ = cc in w))
+        | inr p ↦ ap (λ o. refused_if (is_some o) refusal.SourceExists) (ap (source_in name) (sym s.sources) ∙ is_found name store.sources p.0 p.1 p.2 p.3)
+      ])
+
+  pub delete_refused : (name : List ℕ) → result ≡ Err (Refused refusal.NoName) → list_any (λ m. bytes_eq name m.name) members ≡ false → Applies old (Delete name) out result new out'
+  delete_refused name is none = refuses old (Delete name) refusal.NoName out result new out' is same untouched (λ h s.
+      ap (λ t. refused_if (not t) refusal.NoName)
+      (pairwise_any (Keeps labels h) (is_named name) (λ m. bytes_eq name m.name) (λ s m k. ap (bytes_eq name) (sym k.name)) (live h) members s.members ∙ none))
+
+  -- commands that are refused whatever the history
+  pub malformed_refused : (why : Refusal) → result ≡ Err (Refused why) → Applies old (Malformed why) out result new out'
+  malformed_refused why is = refuses old (Malformed why) why out result new out' is same untouched (λ h s. refl)
+
+  pub report_refused : result ≡ Err (Refused refusal.Unbuilt) → Applies old Report out result new out'
+  report_refused is = refuses old Report refusal.Unbuilt out result new out' is same untouched (λ h s. refl)
+
+pub not_exists : (result : Result SourceId DeclareError) (id : SourceId) → result ≡ Ok id → result ≡ Err Exists → ⊥
+not_exists result id is e = let bad : ◌≡◌ {A = Result SourceId DeclareError} (Ok id) (Err Exists) = sym is ∙ e in cc
+
+-- members that are taken off leave the others in order
+rise_filter : (keep : Member → Bool) (ms : List Member) → InstallsRise ms → InstallsRise (filter keep ms)
+rise_filter keep [] r = tt
+rise_filter keep (m ∷ ms) r =
+    elim (keep m) as (λ t. InstallsRise (cond t (m ∷ filter keep ms) (filter keep ms))) [
+      | true ↦ (each_filter (λ (n : Member). m.install < n.install) keep ms r.0, rise_filter keep ms r.1)
+      | false ↦ rise_filter keep ms r.1
+    ]
+
+abbrev pub AreOnRoll : List Label → ℕ → List Member → Type 0
+AreOnRoll labels creates members = AllByRecursion (CanFire labels) members × InstallsRise members × InstallsAreUpTo creates members
+
+pub roll_filter : (labels : List Label) (creates : ℕ) (keep : Member → Bool) (members kept : List Member) → kept ≡ filter keep members → AreOnRoll labels creates members → AreOnRoll labels creates kept
+roll_filter labels creates keep members kept e r =
+    subst (AreOnRoll labels creates) (sym e) (each_filter (CanFire labels) keep members r.0, rise_filter keep members r.1, each_filter (λ (m : Member). m.install ≤ creates) keep members r.2)
+
+-- an engine with other members
+pub other_members : (a b : EngineState) (f : List Member → List Member) (members : List Member) → a ≡ b → members ≡ f a.members → record a { members = members } ≡ record b { members = f b.members }
+other_members a b f members e m = (λ i. record a { members = m i }) ∙ ap (λ (x : EngineState). record x { members = f x.members }) e

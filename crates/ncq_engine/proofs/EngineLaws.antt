@@ -1,0 +1,154 @@
+-- What the engine stands for behind each kind of command: what all kinds share.
+use Rattle.std.proofs.Common.{◌≡◌, ℕ, zero, suc, ◌+◌, ◌<◌, ◌≤◌, Bool, true, false, not, ◌||◌, cond, List, [], ◌∷◌, ◌++◌, map, length, slice_get, slice_set, refl, sym, ◌∙◌, ap, subst, arith, true≢false, append_assoc, length-append}
+use Rattle.std.specs.Prelude.{Option, Some, None, Result, Ok, Err, codes, decimal, if◌then◌else◌, IfOk, OnOk, OnErr, nat_lt, is_some}
+use Rattle.std.specs.List.{filter, flat_map, list_any, AllByRecursion}
+use Rattle.std.proofs.lemmas.List.{append-nil}
+use Rattle.std.specs.Str.{bytes_eq}
+use Rattle.ncq_base.specs.Keys.{times}
+use Rattle.ncq_callback.specs.Labels.{Label}
+use Rattle.ncq_event.specs.declared.firing.Firing.{Firing}
+use Rattle.ncq_event.specs.Instants.{is_expired}
+use Rattle.ncq_event.specs.Orders.{ordered_by}
+use Rattle.ncq_script.specs.declared.command.Command.{Command}
+use Rattle.ncq_script.specs.declared.refusal.Refusal.{Refusal}
+use Rattle.ncq_source.specs.Stores.{Source as Declared, without_room}
+use Rattle.ncq_source.specs.StoreStates.{StoreState}
+use Rattle.ncq_engine.specs.declared.engine.Applied.{Applied}
+use Rattle.ncq_engine.specs.declared.engine.ApplyError.{ApplyError}
+use Rattle.ncq_engine.specs.declared.engine.ApplyError.TheVariants.{Refused, OutOfMemory}
+use Rattle.ncq_engine.specs.declared.member.Member.{Member}
+use Rattle.ncq_engine.specs.Applies.{Applies, Accepts, Refuses, WritesNotices, ok_text}
+use Rattle.ncq_engine.specs.Engines.{CanFire, Pairwise}
+use Rattle.ncq_engine.specs.Firing.{fires}
+use Rattle.ncq_engine.specs.History.{History, Subscription, live, is_named, timing_of}
+use Rattle.ncq_engine.specs.Languages.{language_of}
+use Rattle.ncq_engine.specs.Notices.{firings, fired_at, notice_at, told}
+use Rattle.ncq_engine.specs.Output.{accepted_text, expired_text, first_refusal, notices}
+use Rattle.ncq_engine.specs.Stands.{EngineState, Keeps, Stands}
+use Rattle.ncq_engine.proofs.Keeping.{keeps_quiet}
+
+-- a command that is refused leaves all as it was, but for the number of commands
+pub refuses : (old : EngineState) (command : Command) (why : Refusal) (out : List ℕ) (result : Result Applied ApplyError) (new : EngineState) (out' : List ℕ)
+    → result ≡ Err (Refused why) → new ≡ record old { count = old.count + 1 } → out' ≡ out
+    → ((h : History) → Stands old h → first_refusal (language_of old.labels) h command ≡ Some why) → Applies old command out result new out'
+refuses old command why out result new out' is same untouched because =
+    subst (λ (r : Result Applied ApplyError). Applies old command out r new out') (sym is)
+    (subst (λ (n : EngineState). Applies old command out (Err (Refused why)) n out') (sym same)
+    ((λ h s. (because h s, record { sources = s.sources; last = s.last; changes = s.changes; clock = s.clock; creates = s.creates; members = s.members })), (refl, (refl, untouched))))
+
+-- what is appended behind the first line, and what it stands for
+pub record Tells (old : EngineState) (command : Command) (new : EngineState) (text : List ℕ) (count : ℕ) (rest : List ℕ) : Type 0 where
+  pub accepted : (h : History) → Stands old h → (first_refusal (language_of old.labels) h command ≡ None) × Stands new (command ∷ h)
+  pub tells : (h : History) → Stands old h → text ≡ notices (language_of old.labels) h command
+  pub counts : (h : History) → Stands old h → count ≡ times (λ fired. nat_lt 0 (length (notice_at (language_of old.labels) h command fired))) (told h command)
+  pub ends : (h : History) → Stands old h → rest ≡ expired_text command h
+  pub counted : new.count ≡ old.count + 1
+  pub named : new.labels ≡ old.labels
+
+-- a command that is accepted
+pub accepts : (old : EngineState) (command : Command) (out : List ℕ) (applied : Applied) (new : EngineState) (out' text rest : List ℕ)
+    → Tells old command new text applied.notices rest
+    → out' ≡ (out ++ ok_text (old.count + 1)) ++ (text ++ rest) → applied.from ≡ length (out ++ ok_text (old.count + 1)) → applied.to ≡ length ((out ++ ok_text (old.count + 1)) ++ text)
+    → Applies old command out (Ok applied) new out'
+accepts old command out applied new out' text rest t e from to =
+    let line = ok_text (old.count + 1) in (
+      λ h s.
+          let a = t.accepted h s in (
+            a.0,
+            (
+              a.1,
+              e ∙ append_assoc out line (text ++ rest)
+                  ∙ ap (λ x. out ++ x) (sym (append_assoc line text rest))
+                  ∙ (λ i. out ++ ((line ++ t.tells h s i) ++ t.ends h s i)),
+            ),
+          ),
+      (
+        t.counted,
+        (
+          t.named,
+          λ h s. (
+            from ∙ length-append out line,
+            (
+              to ∙ length-append (out ++ line) text ∙ (λ i. sym from i + length (t.tells h s i)),
+              t.counts h s,
+            ),
+          ),
+        ),
+      ),
+    )
+
+-- where the first line cannot be appended, or more
+pub gives_up : (old : EngineState) (command : Command) (out : List ℕ) (result : Result Applied ApplyError) (new : EngineState) (out' : List ℕ) → result ≡ Err OutOfMemory → Applies old command out result new out'
+gives_up old command out result new out' is = subst (λ (r : Result Applied ApplyError). Applies old command out r new out') (sym is) tt
+
+-- a command that tells nobody
+pub accepts_quietly : (old : EngineState) (command : Command) (out : List ℕ) (result : Result Applied ApplyError) (new : EngineState) (out' : List ℕ)
+    → Tells old command new [] 0 []
+    → OnOk result (out' ≡ out ++ ok_text (old.count + 1)) → IfOk result (λ a. a ≡ record { from = length out'; to = length out'; notices = 0 }) → OnErr result (result ≡ Err OutOfMemory)
+    → Applies old command out result new out'
+accepts_quietly old command out (Err why) new out' t text places only = gives_up old command out (Err why) new out' only
+accepts_quietly old command out (Ok applied) new out' t text places only =
+    let line = ok_text (old.count + 1) in
+    accepts old command out applied new out' [] []
+    (record {
+      accepted = t.accepted;
+      tells = t.tells;
+      counts = λ h s. ap (λ (a : Applied). a.notices) places ∙ t.counts h s;
+      ends = t.ends;
+      counted = t.counted;
+      named = t.named;
+    })
+    (text ∙ sym (append-nil (out ++ line)))
+    (ap (λ (a : Applied). a.from) places ∙ ap length text)
+    (ap (λ (a : Applied). a.to) places ∙ ap length (text ∙ sym (append-nil (out ++ line))))
+
+-- nobody fires
+nobody : (h : History) (command : Command) → ((s : Subscription) → fires s h command ≡ None) → (subs : List Subscription) → flat_map (λ s. fired_at s (fires s h command)) subs ≡ []
+nobody h command quiet [] = refl
+nobody h command quiet (s ∷ subs) = (λ i. fired_at s (quiet s i) ++ nobody h command quiet subs i)
+
+pub told_nobody : (h : History) (command : Command) → ((s : Subscription) → fires s h command ≡ None) → told h command ≡ []
+told_nobody h command quiet = ap (ordered_by (λ f. f.0)) (nobody h command quiet _)
+
+module _ (labels : List Label) (h : History) (command : Command) (quiet : (s : Subscription) → fires s h command ≡ None) where
+  pub keep_quiet : (subs : List Subscription) (ms : List Member) → Pairwise (Keeps labels h) subs ms → Pairwise (Keeps labels (command ∷ h)) subs ms
+  keep_quiet [] [] p = tt
+  keep_quiet [] (m ∷ ms) p = absurd p
+  keep_quiet (s ∷ subs) [] p = absurd p
+  keep_quiet (s ∷ subs) (m ∷ ms) p = (keeps_quiet labels h command s m p.0 (quiet s), keep_quiet subs ms p.1)
+
+-- what tests alike is kept alike
+module _ {A B : Type 0} (R : A → B → Type 0) (f : A → Bool) (g : B → Bool) (alike : (x : A) (y : B) → R x y → f x ≡ g y) where
+  pub pairwise_filter : (xs : List A) (ys : List B) → Pairwise R xs ys → Pairwise R (filter f xs) (filter g ys)
+  pairwise_filter [] [] p = tt
+  pairwise_filter [] (y ∷ ys) p = absurd p
+  pairwise_filter (x ∷ xs) [] p = absurd p
+  pairwise_filter (x ∷ xs) (y ∷ ys) p =
+      let rest = pairwise_filter xs ys p.1 in
+      by (f x) (g y) (alike x y p.0) rest
+    where
+      by : (a b : Bool) → a ≡ b → Pairwise R (filter f xs) (filter g ys) → Pairwise R (cond a (x ∷ filter f xs) (filter f xs)) (cond b (y ∷ filter g ys) (filter g ys))
+      by true true e rest = (p.0, rest)
+      by false false e rest = rest
+      by true false e rest = absurd (true≢false e)
+      by false true e rest = absurd (true≢false (sym e))
+
+  pub pairwise_any : (xs : List A) (ys : List B) → Pairwise R xs ys → list_any f xs ≡ list_any g ys
+  pairwise_any [] [] p = refl
+  pairwise_any [] (y ∷ ys) p = absurd p
+  pairwise_any (x ∷ xs) [] p = absurd p
+  pairwise_any (x ∷ xs) (y ∷ ys) p = (λ i. alike x y p.0 i || pairwise_any xs ys p.1 i)
+
+  pub pairwise_texts : (tf : A → List ℕ) (tg : B → List ℕ) → ((x : A) (y : B) → R x y → tf x ≡ tg y) → (xs : List A) (ys : List B) → Pairwise R xs ys → flat_map tf (filter f xs) ≡ flat_map tg (filter g ys)
+  pairwise_texts tf tg same [] [] p = refl
+  pairwise_texts tf tg same [] (y ∷ ys) p = absurd p
+  pairwise_texts tf tg same (x ∷ xs) [] p = absurd p
+  pairwise_texts tf tg same (x ∷ xs) (y ∷ ys) p =
+      let rest = pairwise_texts tf tg same xs ys p.1 in
+      by (f x) (g y) (alike x y p.0) rest
+    where
+      by : (a b : Bool) → a ≡ b → flat_map tf (filter f xs) ≡ flat_map tg (filter g ys) → flat_map tf (cond a (x ∷ filter f xs) (filter f xs)) ≡ flat_map tg (cond b (y ∷ filter g ys) (filter g ys))
+      by true true e rest = λ i. same x y p.0 i ++ rest i
+      by false false e rest = rest
+      by true false e rest = absurd (true≢false e)
+      by false true e rest = absurd (true≢false (sym e))
