@@ -234,4 +234,3 @@ module _ (e : Expr) where
 
   pub scan_is_wide : (source : List ℕ) (shape : Shape) (rows : List Row) → e ≡ Scan source shape → AllByRecursion (λ row. length row ≡ width shape) rows → AllByRecursion (λ row. length row ≡ expr_width e) rows
   scan_is_wide source shape rows is wide = subst (λ n. AllByRecursion (λ row. length row ≡ n) rows) (sym (ap expr_width is ∙ width_scan source shape)) wide
-
