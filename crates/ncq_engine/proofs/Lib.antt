@@ -12,3 +12,4 @@ pub mod StoreLaws
 pub mod EngineLaws
 pub mod CommandLaws
 pub mod ChangeLaws
+pub mod MemberLaws

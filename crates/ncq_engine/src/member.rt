@@ -77,9 +77,17 @@ impl Member {
     fn has_news(&self, store: &Store) -> bool
         ensures { result ≡ has_news_in store.now self.now.mark self.now.sources }
     {
-        let Some(mark) = self.mark else {
-            return true;
-        };
+        match self.mark {
+            Some(mark) => self.has_changed(store, mark),
+            None => true,
+        }
+    }
+
+    /// Whether a source of it has a change above this number.
+    fn has_changed(&self, store: &Store, mark: u64) -> bool
+        ensures { result ≡ list_any (λ source. nat_lt mark (last_in store.now source))
+            self.now.sources }
+    {
         self.sources
             .as_slice()
             .iter()
