@@ -7,3 +7,4 @@ pub mod NoticeLaws
 pub mod Keeping
 pub mod ToldLaws
 pub mod WalkLaws
+pub mod TellingLoops
