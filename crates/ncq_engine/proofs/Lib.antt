@@ -8,3 +8,4 @@ pub mod Keeping
 pub mod ToldLaws
 pub mod WalkLaws
 pub mod TellingLoops
+pub mod SortLaws

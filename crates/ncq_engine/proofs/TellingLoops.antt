@@ -1,6 +1,7 @@
 -- A loop that may change each member in its place: what holds half way, and one step more.
 use Rattle.std.proofs.Common.{◌≡◌, ℕ, zero, suc, ◌+◌, ◌<◌, ◌≤◌, Bool, true, false, cond, List, [], ◌∷◌, ◌++◌, length, take, drop, set, get_or, refl, sym, ◌∙◌, ap, subst, arith, append_assoc}
-use Rattle.std.specs.Prelude.{Option, Some, None, if◌then◌else◌, is_some}
+use Rattle.std.specs.Prelude.{Option, Some, None, if◌then◌else◌, is_some, nat_lt, ◌==◌}
+use Rattle.std.proofs.lemmas.Bool.Decides.{nat_tests}
 use Rattle.std.proofs.lemmas.List.{append-nil, length-set, length-take-le, get_or-drop, get_or_default, set-get_or, drop-set-lt, take_more, take_more_set}
 use Rattle.std.proofs.lemmas.Grind.{drop_more_same}
 use Rattle.std.specs.List.{flat_map, AllByRecursion}
@@ -11,6 +12,22 @@ use Rattle.ncq_engine.specs.declared.member.Member.{Member}
 use Rattle.ncq_engine.specs.declared.telling.Told.{Told}
 use Rattle.ncq_engine.specs.Engines.{FiresIf, HasFired, Pairwise, changed_text, is_told_change, moved_instant, moved_told, rows_over, told_at, told_text}
 use Rattle.ncq_engine.proofs.Lists.{flat_map_append, times_push}
+
+-- what is made of the items before a place, with one more
+module _ {A : Type 0} (xs : List A) (at : ℕ) (item : A) (one : take (at + 1) xs ≡ take at xs ++ item ∷ []) where
+  pub text_on : {B : Type 0} (f : A → List B) (first out out' : List B) → out ≡ first ++ flat_map f (take at xs) → out' ≡ out ++ f item → out' ≡ first ++ flat_map f (take (at + 1) xs)
+  text_on f first out out' was more =
+      more ∙ ap (λ l. l ++ f item) was ∙ append_assoc first (flat_map f (take at xs)) (f item)
+      ∙ ap (λ l. first ++ l) (ap (λ l. flat_map f (take at xs) ++ l) (sym (append-nil (f item))) ∙ sym (flat_map_append f (take at xs) (item ∷ [])) ∙ ap (flat_map f) (sym one))
+
+  times_on : (test : A → Bool) (n n' : ℕ) → n ≡ times test (take at xs) → n' ≡ n + cond (test item) 1 0 → n' ≡ times test (take (at + 1) xs)
+  times_on test n n' was more = more ∙ ap (λ k. k + cond {A = ℕ} (test item) 1 0) was ∙ sym (times_push test (take at xs) item) ∙ ap (times test) (sym one)
+
+  pub passes_on : (test : A → Bool) (n n' : ℕ) → n ≡ times test (take at xs) → test item ≡ true → n' ≡ n + 1 → n' ≡ times test (take (at + 1) xs)
+  passes_on test n n' was t e = times_on test n n' was (e ∙ ap (λ (b : Bool). n + cond b 1 0) (sym t))
+
+  pub fails_on : (test : A → Bool) (n n' : ℕ) → n ≡ times test (take at xs) → test item ≡ false → n' ≡ n → n' ≡ times test (take (at + 1) xs)
+  fails_on test n n' was t e = times_on test n n' was ((let z : n' ≡ n + 0 = omega (arith, e) in z) ∙ ap (λ (b : Bool). n + cond b 1 0) (sym t))
 
 -- those before this place are done, and those from it on are as before
 pub record Halfway {A : Type 0} (R : A → A → Type 0) (P : A → Type 0) (before now : List A) (at : ℕ) : Type 0 where
@@ -64,20 +81,14 @@ module _ {A : Type 0} (R : A → A → Type 0) (P : A → Type 0) (before now : 
   pub passed_by : (now' : List A) → now' ≡ now → R item item → Halfway R P before now' (at + 1)
   passed_by now' e r = with_done item now' (e ∙ sym (set-get_or now at d)) r (each_at now at here half.can)
 
-  -- what is made of each, with one more
   pub text_more : {B : Type 0} (f : A → List B) (first out out' : List B) → out ≡ first ++ flat_map f (take at before) → out' ≡ out ++ f item → out' ≡ first ++ flat_map f (take (at + 1) before)
-  text_more f first out out' was more =
-      more ∙ ap (λ l. l ++ f item) was ∙ append_assoc first (flat_map f (take at before)) (f item)
-      ∙ ap (λ l. first ++ l) (ap (λ l. flat_map f (take at before) ++ l) (sym (append-nil (f item))) ∙ sym (flat_map_append f (take at before) (item ∷ [])) ∙ ap (flat_map f) (sym one_more))
-
-  times_more : (test : A → Bool) (n n' : ℕ) → n ≡ times test (take at before) → n' ≡ n + cond (test item) 1 0 → n' ≡ times test (take (at + 1) before)
-  times_more test n n' was more = more ∙ ap (λ k. k + cond {A = ℕ} (test item) 1 0) was ∙ sym (times_push test (take at before) item) ∙ ap (times test) (sym one_more)
+  text_more f first out out' was more = text_on before at item one_more f first out out' was more
 
   pub times_yes : (test : A → Bool) (n n' : ℕ) → n ≡ times test (take at before) → test item ≡ true → n' ≡ n + 1 → n' ≡ times test (take (at + 1) before)
-  times_yes test n n' was t e = times_more test n n' was (e ∙ ap (λ (b : Bool). n + cond b 1 0) (sym t))
+  times_yes test n n' was t e = passes_on before at item one_more test n n' was t e
 
   pub times_no : (test : A → Bool) (n n' : ℕ) → n ≡ times test (take at before) → test item ≡ false → n' ≡ n → n' ≡ times test (take (at + 1) before)
-  times_no test n n' was t e = times_more test n n' was ((let z : n' ≡ n + 0 = omega (arith, e) in z) ∙ ap (λ (b : Bool). n + cond b 1 0) (sym t))
+  times_no test n n' was t e = fails_on before at item one_more test n n' was t e
 
 -- no more pass than there are
 pub counted : {A : Type 0} (test : A → Bool) (xs : List A) (at n : ℕ) → n ≡ times test (take at xs) → at ≤ length xs → n ≤ at
@@ -111,3 +122,10 @@ module _ (labels : List Label) (store : StoreState) where
 
     pub no_move : moved_instant store now to m ≡ None → moved_told labels store now to m ≡ []
     no_move e = ap (told_at labels store m) e
+
+-- a text of this length is empty, or it is not
+pub is_some_text : (n : ℕ) (b : Bool) → b ≡ (n == 0) → b ≡ false → nat_lt 0 n ≡ true
+is_some_text n b e f = grind (arith, nat_tests)
+
+pub is_no_text : (n : ℕ) (b : Bool) → b ≡ (n == 0) → b ≡ true → nat_lt 0 n ≡ false
+is_no_text n b e f = grind (arith, nat_tests)
