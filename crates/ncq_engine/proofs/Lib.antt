@@ -13,3 +13,5 @@ pub mod EngineLaws
 pub mod CommandLaws
 pub mod ChangeLaws
 pub mod MemberLaws
+pub mod TellingLoops
+pub mod SortLaws
