@@ -30,7 +30,7 @@ use Rattle.ncq_engine.specs.declared.member.Member.{Member}
 use Rattle.ncq_engine.specs.declared.telling.Told.{Told}
 use Rattle.ncq_engine.specs.Engines.{CanFire, FiresIf, Pairwise, changed_text, is_told_change, last_in, rows_over, told_at, told_text}
 use Rattle.ncq_engine.specs.Firing.{fires, is_installed, is_told_of, sources_of}
-use Rattle.ncq_engine.specs.History.{History, Source, Subscription, changes, creates, last_change, live, now, source_in, sources, with_items, world}
+use Rattle.ncq_engine.specs.History.{History, Source, Subscription, changes, creates, creates as creates_of, last_change, live, now, source_in, sources, with_items, world}
 use Rattle.ncq_engine.specs.Languages.{language_of}
 use Rattle.ncq_engine.specs.Notices.{fired_at, firings, notice_at, told}
 use Rattle.ncq_engine.specs.Output.{delta_refusal, first_refusal, notices, trial_refusal}
@@ -116,3 +116,112 @@ fires_now h name items s d e = by (is_installed s h && is_told_of name s h) e
 -- all are told in the order of their install numbers
 pub told_in_order : (h : History) (name : List ℕ) (items : List Item) → told h (Delta name items) ≡ firings h (Delta name items)
 told_in_order h name items = order_stays (λ (f : Firing × Subscription). f.0) (firings h (Delta name items)) (one_instant (now h) (λ s. fires s h (Delta name items)) (fires_now h name items) (live h) (live_rises h))
+
+-- a name that is found, and what stands there
+record Found (store : StoreState) (name : List ℕ) (at : ℕ) : Type 0 where
+  pub source : Declared
+  pub there : slice_get store.sources at ≡ Some source
+  pub own : bytes_eq name source.name ≡ true
+  pub first : (k : ℕ) (d : Declared) → k < at → slice_get store.sources k ≡ Some d → bytes_eq name d.name ≡ false
+  pub is : named name store.sources ≡ Some source
+
+name_before : (name : List ℕ) (all : List Declared) (k : ℕ) (d : Declared) → slice_get all k ≡ Some d → get_or (map (λ d. d.name) all) k name ≡ d.name
+name_before name [] k d e = absurd cc
+name_before name (x ∷ all) zero d e = let same : x ≡ d = cc in ap (λ (y : Declared). y.name) same
+name_before name (x ∷ all) (suc k) d e = name_before name all k d e
+
+found_at : (store : StoreState) (name : List ℕ) (at : ℕ) → found store name ≡ Some at → Found store name at
+found_at store name at here =
+    let f = found_name store name at here in
+    let p = position-Some (bytes_eq name) (names store) at name here in
+    record {
+      source = f.0;
+      there = f.1;
+      own = f.2;
+      first = λ k d less e. ap (bytes_eq name) (sym (name_before name store.sources k d e)) ∙ p.2 k less;
+      is = sym (source_named_is store name) ∙ ap (option_and_then (slice_get store.sources)) here ∙ f.1;
+    }
+
+module _ (store ready after_store : StoreState) (clock count creates : ℕ) (labels : List Label) (members : List Member) (name : List ℕ) (items : List Item) (change : ChangeState)
+    (here : found store name ≡ Some change.source.0) (alike : map without_room ready.sources ≡ map without_room store.sources) (as_many : ready.changes ≡ store.changes)
+    (good : (d : Declared) → slice_get store.sources change.source.0 ≡ Some d → prepared d.key 1 d.elements items ≡ Good change.entries)
+    (committed : IsCommitted ready change after_store) where
+  abbrev old_engine : EngineState
+  old_engine = engine store clock count creates labels members
+
+  at : ℕ
+  at = change.source.0
+
+  -- the source before the room was taken, and after
+  before : Found store name change.source.0
+  before = found_at store name change.source.0 here
+
+  here_ready : found ready name ≡ Some change.source.0
+  here_ready = ap (position (bytes_eq name)) (same_names store.sources ready.sources alike) ∙ here
+
+  roomy : Found ready name change.source.0
+  roomy = found_at ready name change.source.0 here_ready
+
+  module _ (h : History) (s : Stands old_engine h) where
+    pub delta_allowed : delta_refusal items (source_in name (sources h)) ≡ None
+    delta_allowed =
+        ap (delta_refusal items) (ap (source_in name) (sym s.sources) ∙ is_found name store.sources change.source.0 before.source here before.there)
+        ∙ ap trial_refusal (good before.source before.there)
+
+    sources_are : map content_of after_store.sources ≡ sources (Delta name items ∷ h)
+    sources_are =
+        moved_by name items store.sources ready.sources after_store.sources change.source.0 before.source change.entries after_store.changes here before.there alike committed.sources
+        (fold_of_entries before.source.key 1 before.source.elements items change.entries (good before.source before.there)).0
+        ∙ ap (with_items name items) s.sources
+
+    changes_are : after_store.changes ≡ changes (Delta name items ∷ h)
+    changes_are = let a = committed.changes in let b = as_many in let c = s.changes in omega (arith, a, b, c)
+
+    last_is : (asked : List ℕ) → last_in after_store asked ≡ last_change asked (Delta name items ∷ h)
+    last_is asked =
+        let c = committed.sources roomy.source roomy.there in
+        elim (bytes_eq asked name) as (λ t. bytes_eq asked name ≡ t → last_in after_store asked ≡ (if t then changes (Delta name items ∷ h) else last_change asked h)) [
+          | true ↦ λ e.
+              last_changed store ready after_store name change.source.0 roomy.source c.0 here_ready roomy.there c.1 c.2.name roomy.own roomy.first roomy.is asked e ∙ c.2.last ∙ changes_are
+          | false ↦ λ e.
+              last_unchanged store ready after_store name change.source.0 roomy.source c.0 here_ready roomy.there c.1 c.2.name roomy.own roomy.first roomy.is asked e
+              ∙ last_alike store ready asked alike ∙ s.last asked
+        ] refl
+
+    same_world : world (sources (Delta name items ∷ h)) ≡ world_in after_store
+    same_world = world_is after_store (sources (Delta name items ∷ h)) sources_are
+
+    firing : Pairwise (λ s m. Keeps labels h s m × (changed_instant name clock m ≡ fires s h (Delta name items))) (live h) members
+    firing = fires_each labels h name items clock s.clock (live h) members s.members (installed h)
+
+    -- the engine with its members after the change
+    pub delta_stands : (news : List Member) → Pairwise (λ old new. FiresIf (is_told_change name clock old) after_store old new × CanFire labels new) members news
+        → Stands (engine after_store clock (count + 1) creates labels news) (Delta name items ∷ h)
+    delta_stands news fired = record {
+      sources = sources_are;
+      last = last_is;
+      changes = changes_are;
+      clock = s.clock;
+      creates = s.creates ∙ sym (zero-add (creates_of h));
+      members = keep_all labels h (Delta name items) after_store same_world changes_are (is_told_change name clock) (live h) members news
+          (agree_each labels h (Delta name items) name clock (live h) members firing) fired;
+    }
+
+    list_is : changed_told labels after_store name clock members ≡ map (noticed labels h (Delta name items) after_store same_world) (firings h (Delta name items))
+    list_is = told_list labels h (Delta name items) after_store same_world (changed_instant name clock) (live h) members firing
+
+    -- what is told, and how often
+    pub delta_texts : flat_map (changed_text labels after_store name clock) members ≡ notices (language_of labels) h (Delta name items)
+    delta_texts =
+        changed_texts labels after_store name clock members
+        ∙ ap (flat_map (λ (t : Told). t.text)) list_is
+        ∙ texts_of labels h (Delta name items) after_store same_world (firings h (Delta name items))
+        ∙ ap (flat_map (notice_at (language_of labels) h (Delta name items))) (sym (told_in_order h name items))
+
+    pub delta_times : times (λ m. nat_lt 0 (length (changed_text labels after_store name clock m))) members
+        ≡ times (λ f. nat_lt 0 (length (notice_at (language_of labels) h (Delta name items) f))) (told h (Delta name items))
+    delta_times =
+        changed_times labels after_store name clock members
+        ∙ ap (times (λ (t : Told). nat_lt 0 (length t.text))) list_is
+        ∙ times_of labels h (Delta name items) after_store same_world (firings h (Delta name items))
+        ∙ ap (times (λ f. nat_lt 0 (length (notice_at (language_of labels) h (Delta name items) f)))) (sym (told_in_order h name items))
