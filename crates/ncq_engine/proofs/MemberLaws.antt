@@ -1,6 +1,6 @@
 -- What a firing tells: the difference of what is counted, and the text of the notice.
 use Rattle.std.proofs.Common.{◌≡◌, ℕ, zero, suc, ◌<◌, Bool, true, false, not, List, [], ◌∷◌, ◌++◌, length, refl, sym, ◌∙◌, ap, subst, arith}
-use Rattle.std.specs.Prelude.{ℤ, Option, Some, None, nat_lt, ◌==◌, slice_get, IfSome}
+use Rattle.std.specs.Prelude.{ℤ, Option, nat_lt, ◌==◌, slice_get, IfSome}
 use Rattle.std.specs.Option.{option_map}
 use Rattle.std.specs.List.{AllByRecursion}
 use Rattle.std.specs.FinMap.{empty}

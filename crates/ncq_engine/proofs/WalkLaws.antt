@@ -1,11 +1,10 @@
 -- The rows that a walk gathers, step by step, and those of an expression over the elements in another order.
-use Rattle.std.proofs.Common.{◌≡◌, ℕ, zero, suc, ◌+◌, ◌<◌, ◌≤◌, Bool, true, false, ◌&&◌, cond, List, [], ◌∷◌, ◌++◌, map, length, take, slice_get, refl, sym, ◌∙◌, ap, subst, arith, add-one, append_assoc}
+use Rattle.std.proofs.Common.{◌≡◌, ℕ, zero, suc, ◌+◌, ◌<◌, Bool, true, false, ◌&&◌, cond, List, [], ◌∷◌, ◌++◌, map, length, take, slice_get, refl, sym, ◌∙◌, ap, subst, arith, add-one, append_assoc}
 use Rattle.std.specs.Prelude.{Option, Some, None, nat_lt, All}
-use Rattle.std.specs.List.{filter, flat_map, list_all, AllByRecursion}
+use Rattle.std.specs.List.{filter, list_all, AllByRecursion}
 use Rattle.std.proofs.lemmas.List.{append-nil}
 use Rattle.std.proofs.lemmas.Bool.Decides.{nat_tests}
-use Rattle.std.specs.FinMap.{empty, entries}
-use Rattle.ncq_base.specs.Keys.{times}
+use Rattle.std.specs.FinMap.{entries}
 use Rattle.ncq_base.specs.Counts.{SameCounts}
 use Rattle.ncq_base.proofs.CountLaws.{counts-flat_map, counts-map}
 use Rattle.ncq_base.proofs.Tests.{both_true}
@@ -32,7 +31,7 @@ use Rattle.ncq_base.specs.Exact.{exact, exact_is, exact_itself}
 use Rattle.ncq_base.proofs.CountLaws.{counts_from_times}
 use Rattle.ncq_tree.specs.contracts.model.Element.{the_row as element_row}
 use Rattle.ncq_source.specs.Stores.{Source, ShowsEach}
-use Rattle.ncq_source.specs.StoreStates.{StoreState, found, At}
+use Rattle.ncq_source.specs.StoreStates.{StoreState, found}
 use Rattle.ncq_source.proofs.Shown.{shows_counts}
 use Rattle.std.specs.Option.{option_and_then}
 use Rattle.ncq_change.specs.Stores.{source_named, world_in, elements_of}

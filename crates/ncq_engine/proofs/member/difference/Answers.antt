@@ -1,10 +1,5 @@
-use Rattle.std.proofs.Common.{◌≡◌, rules, ap, ◌∙◌, sym}
-use Rattle.std.specs.FinMap.{empty}
+use Rattle.std.proofs.Common.{rules}
 use Rattle.std.proofs.lemmas.Result.{IfOk-weaker}
-use Rattle.ncq_base.specs.Keys.{ByBytes}
-use Rattle.ncq_callback.specs.Gathered.{answer_of, counts_after}
-use Rattle.ncq_plan.specs.Deltas.{signed}
-use Rattle.ncq_plan.specs.Residuals.{passes}
 use Rattle.ncq_engine.proofs.MemberLaws.{entries_are}
 use Rattle.ncq_engine.proofs.member.difference.Goals as goal
 

@@ -1,5 +1,4 @@
-use Rattle.std.proofs.Common.{◌≡◌, rules, true, arith, sym, ◌∙◌, ap, subst, List}
-use Rattle.std.specs.List.{AllByRecursion}
+use Rattle.std.proofs.Common.{◌≡◌, rules, true, arith}
 use Rattle.std.proofs.lemmas.Result.{IfOk-weaker}
 use Rattle.ncq_plan.specs.WellFormed.{slots_fit}
 use Rattle.ncq_plan.specs.declared.expr.Expr.{the_lemmas}

@@ -1,4 +1,4 @@
-use Rattle.std.proofs.Common.{◌≡◌, ◌≤◌, ◌++◌, List, map, length, take, sym, ◌∙◌, ap, arith}
+use Rattle.std.proofs.Common.{◌++◌, List, map, ◌∙◌, ap, arith}
 use Rattle.std.proofs.lemmas.List.{length-map, take_all}
 use Rattle.ncq_tree.specs.declared.model.Element.{Element}
 use Rattle.ncq_plan.specs.Exprs.{scan_rows}

@@ -1,4 +1,4 @@
-use Rattle.std.proofs.Common.{◌≡◌, ◌++◌, take}
+use Rattle.std.proofs.Common.{◌≡◌, take}
 use Rattle.ncq_plan.specs.Exprs.{join_rows}
 use Rattle.ncq_engine.proofs.walk.join.Given as goal
 
