@@ -107,8 +107,8 @@ module _ (text_cmp : List ℕ → List ℕ → Ordering) where
       let own' = recursion_from_All P list' (All-permutation P list list' moved (All-from_recursion P list own)) in
       told_by (text_at list) list' own'
       ∙ ap (map (with_text (text_at list)))
-          (order_unique (firings_of list) (firings_of list') (rises list' sorted) (same_firings list list' moved)
-          ∙ order_made (λ (t : Told). t.firing) (λ (t : Told). t.firing) (λ (f : Firing). f) (λ x. refl) list)
+      (order_unique (firings_of list) (firings_of list') (rises list' sorted) (same_firings list list' moved)
+      ∙ order_made (λ (t : Told). t.firing) (λ (t : Told). t.firing) (λ (f : Firing). f) (λ x. refl) list)
       ∙ sym (told_by (text_at list) (ordered_by (λ t. t.firing) list) (each_ordered (λ t. t.firing) P list own))
 
 -- the notices of members whose install numbers rise

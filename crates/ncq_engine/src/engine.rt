@@ -39,6 +39,7 @@ use ncq_xmlql::{QueryItem, Statement};
 use std::alloc::{AllocError, Global};
 use std::hash::RandomState;
 use std::marker::Model;
+use std::mem;
 use std::sync::ledger::Ledger;
 use thiserror::Error;
 
@@ -76,7 +77,8 @@ impl From<AllocError> for ApplyError {
 }
 
 /// The sources with their elements, the clock, and the live subscriptions in the order of their
-/// creates.
+/// creates. While subscribers are told they are off the roll, so that none stands there half told
+/// where memory runs out.
 #[derive(Drop)]
 pub struct Engine {
     store: Store,
@@ -222,9 +224,10 @@ impl Engine {
         self.store.reserve(&change)?;
         let applied = self.accept(out)?;
         self.store.commit(change);
+        let mut members = mem::replace(&mut self.members, Vec::new(alloc));
         let notices = tell_changed(
             alloc,
-            &mut self.members,
+            &mut members,
             source.as_slice(),
             self.clock,
             &self.store,
@@ -232,6 +235,7 @@ impl Engine {
             out,
             steps,
         )?;
+        self.members = members;
         Ok(applied.with(notices, out))
     }
 
@@ -357,9 +361,10 @@ impl Engine {
             return self.refuse(Refusal::Clock);
         }
         let applied = self.accept(out)?;
+        let mut members = mem::replace(&mut self.members, Vec::new(alloc));
         let notices = tell_due(
             alloc,
-            &mut self.members,
+            &mut members,
             self.clock,
             instant,
             &self.store,
@@ -368,9 +373,10 @@ impl Engine {
             steps,
         )?;
         let applied = applied.with(notices, out);
+        write_expired(members.as_slice(), instant, out)?;
+        drop_expired(&mut members, instant);
+        self.members = members;
         self.clock = instant;
-        write_expired(self.members.as_slice(), instant, out)?;
-        drop_expired(&mut self.members, instant);
         Ok(applied)
     }
 

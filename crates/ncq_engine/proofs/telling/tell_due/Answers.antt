@@ -32,9 +32,9 @@ loop-one-preserved g c =
       text = text_on list at item one (λ (t : Told). t.text) c.args.out.now.items c.loop-one.out.items c.extend_from_slice.new.self.items c.loop-one.invariant.text
           (c.in_ok-extend_from_slice.ensures.items ∙ ap (λ (l : List ℕ). c.loop-one.out.items ++ l) c.as_slice.ensures);
       notices = elim c.if-not-is_empty.branch [
-        then-not-is_empty w ↦ passes_on list at item one (λ (t : Told). nat_lt 0 (length t.text)) c.loop-one.notices c.if-not-is_empty.notices c.loop-one.invariant.notices
+        | then-not-is_empty w ↦ passes_on list at item one (λ (t : Told). nat_lt 0 (length t.text)) c.loop-one.notices c.if-not-is_empty.notices c.loop-one.invariant.notices
             (long ∙ is_some_text (length c.as_slice-in-loop-one.result.now) c.is_empty.result c.is_empty.ensures w.if-not-is_empty.true) w.notices-is
-      | else-not-is_empty w ↦ fails_on list at item one (λ (t : Told). nat_lt 0 (length t.text)) c.loop-one.notices c.if-not-is_empty.notices c.loop-one.invariant.notices
+        | else-not-is_empty w ↦ fails_on list at item one (λ (t : Told). nat_lt 0 (length t.text)) c.loop-one.notices c.if-not-is_empty.notices c.loop-one.invariant.notices
             (long ∙ is_no_text (length c.as_slice-in-loop-one.result.now) c.is_empty.result c.is_empty.ensures w.if-not-is_empty.false) w.notices-is
       ];
     }
@@ -45,9 +45,9 @@ returns-clause-text g c =
     let differ : Differ told = notices_differ (labels c.args.handlers.now.items.items (λ h. h.name) (λ h. h.kind)) c.args.store.now (moved_instant c.args.store.now c.args.now c.args.to) c.args.members.now c.requires.rise in
     let all : take c.loop-one.one-index c.as_slice-one-items.result.now ≡ c.as_slice-one-items.result.now = take_all c.loop-one.one-index c.as_slice-one-items.result.now (omega arith) in
     let is : c.as_slice-one-items.result.now ≡ ordered_by (λ (t : Told). t.firing) told =
-        c.as_slice-one-items.ensures.value
-        ∙ sorted_is (slice_cmp nat_cmp) c.in_ok-told.told.items c.sort_unstable.new.self.items (subst Differ (sym c.in_ok-told.ensures.told) differ) c.sort_unstable.ensures.permutation c.sort_unstable.ensures.sorted
-        ∙ ap (ordered_by (λ (t : Told). t.firing)) c.in_ok-told.ensures.told in
+    c.as_slice-one-items.ensures.value
+    ∙ sorted_is (slice_cmp nat_cmp) c.in_ok-told.told.items c.sort_unstable.new.self.items (subst Differ (sym c.in_ok-told.ensures.told) differ) c.sort_unstable.ensures.permutation c.sort_unstable.ensures.sorted
+    ∙ ap (ordered_by (λ (t : Told). t.firing)) c.in_ok-told.ensures.told in
     c.loop-one.invariant.text ∙ ap (λ (l : List Told). c.args.out.now.items ++ flat_map (λ (t : Told). t.text) l) (all ∙ is)
 
 pub returns-clause-notices : goal.returns-clause-notices
@@ -56,7 +56,7 @@ returns-clause-notices g c =
     let differ : Differ told = notices_differ (labels c.args.handlers.now.items.items (λ h. h.name) (λ h. h.kind)) c.args.store.now (moved_instant c.args.store.now c.args.now c.args.to) c.args.members.now c.requires.rise in
     let all : take c.loop-one.one-index c.as_slice-one-items.result.now ≡ c.as_slice-one-items.result.now = take_all c.loop-one.one-index c.as_slice-one-items.result.now (omega arith) in
     let is : c.as_slice-one-items.result.now ≡ ordered_by (λ (t : Told). t.firing) told =
-        c.as_slice-one-items.ensures.value
-        ∙ sorted_is (slice_cmp nat_cmp) c.in_ok-told.told.items c.sort_unstable.new.self.items (subst Differ (sym c.in_ok-told.ensures.told) differ) c.sort_unstable.ensures.permutation c.sort_unstable.ensures.sorted
-        ∙ ap (ordered_by (λ (t : Told). t.firing)) c.in_ok-told.ensures.told in
+    c.as_slice-one-items.ensures.value
+    ∙ sorted_is (slice_cmp nat_cmp) c.in_ok-told.told.items c.sort_unstable.new.self.items (subst Differ (sym c.in_ok-told.ensures.told) differ) c.sort_unstable.ensures.permutation c.sort_unstable.ensures.sorted
+    ∙ ap (ordered_by (λ (t : Told). t.firing)) c.in_ok-told.ensures.told in
     c.loop-one.invariant.notices ∙ ap (times (λ (t : Told). nat_lt 0 (length t.text))) (all ∙ is) ∙ times_ordered (λ (t : Told). t.firing) (λ (t : Told). nat_lt 0 (length t.text)) told
