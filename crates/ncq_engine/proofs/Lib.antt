@@ -15,3 +15,4 @@ pub mod ChangeLaws
 pub mod MemberLaws
 pub mod TellingLoops
 pub mod SortLaws
+pub mod RollLaws
