@@ -9,3 +9,4 @@ pub mod ToldLaws
 pub mod WalkLaws
 pub mod TellingLoops
 pub mod SortLaws
+pub mod Actions
