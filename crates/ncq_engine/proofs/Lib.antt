@@ -16,3 +16,4 @@ pub mod MemberLaws
 pub mod TellingLoops
 pub mod SortLaws
 pub mod RollLaws
+pub mod Actions

@@ -1,9 +1,11 @@
 -- A list of notices that is sorted is the order of its firings, where no two have one firing.
-use Rattle.std.proofs.Common.{◌≡◌, ℕ, suc, ◌+◌, ◌<◌, Bool, true, false, cond, List, [], ◌∷◌, ◌++◌, map, refl, sym, ◌∙◌, ap, arith, add-one}
+use Rattle.std.proofs.Common.{◌≡◌, ℕ, suc, ◌+◌, ◌<◌, ◌≤◌, Bool, true, false, cond, List, [], ◌∷◌, ◌++◌, map, length, take, refl, sym, ◌∙◌, ap, subst, arith, add-one}
 use Rattle.std.specs.Prelude.{Option, Some, None, if◌then◌else◌}
 use Rattle.std.specs.declared.cmp.Ordering.{Ordering}
 use Rattle.std.specs.declared.cmp.Ordering.TheVariants.{Less, Equal, Greater}
+use Rattle.std.specs.Cmp.Lexicographic.{slice_cmp}
 use Rattle.std.specs.Ordering.{nat_cmp, ordering_then, is_lt}
+use Rattle.std.proofs.lemmas.List.{take_all}
 use Rattle.std.specs.List.{sum_by, flat_map, AllByRecursion}
 use Rattle.std.specs.List.Sorted.{IsPermutation, IsSorted}
 use Rattle.std.proofs.lemmas.Bool.Decides.{nat_tests}
@@ -14,7 +16,7 @@ use native.Mathlib.Numerals.{unary_clauses}
 use Rattle.ncq_base.specs.Keys.{times}
 use Rattle.ncq_callback.specs.Labels.{Label}
 use Rattle.ncq_event.specs.declared.firing.Firing.{Firing}
-use Rattle.ncq_event.specs.Orders.{is_before, is_firing, AreRising, SameFirings, placed_by, ordered, ordered_by}
+use Rattle.ncq_event.specs.Orders.{is_before, is_firing, AreRising, SameFirings, placed_by, ordered_by}
 use Rattle.ncq_event.proofs.OrderLaws.{cmp as firing_cmp, order_unique}
 use Rattle.ncq_source.specs.StoreStates.{StoreState}
 use Rattle.ncq_engine.specs.declared.member.Member.{Member}
@@ -26,7 +28,7 @@ abbrev firings_of : List Told → List Firing
 firings_of list = map (λ t. t.firing) list
 
 -- no two have one firing
-abbrev pub Differ : List Told → Type 0
+abbrev Differ : List Told → Type 0
 Differ [] = Unit {0}
 Differ (t ∷ more) = AllByRecursion (λ y. is_firing y.firing t.firing ≡ false) more × Differ more
 
@@ -70,7 +72,7 @@ module _ {A : Type 0} (firing_of : A → Firing) (P : A → Type 0) where
 
 module _ (text_cmp : List ℕ → List ℕ → Ordering) where
   -- the order by firing, then by text
-  abbrev pub told_cmp : Told → Told → Ordering
+  abbrev told_cmp : Told → Told → Ordering
   told_cmp a b = ordering_then (firing_cmp a.firing b.firing) (text_cmp a.text b.text)
 
   first_not : (x y : Ordering) → is_lt (ordering_then x y) ≡ false → is_lt x ≡ false
@@ -100,7 +102,7 @@ module _ (text_cmp : List ℕ → List ℕ → Ordering) where
   same_firings list list' h firing =
       sym (times_sum (is_firing firing) list') ∙ sum_by-IsPermutation (λ t. cond (is_firing firing t.firing) 1 0) list list' h ∙ times_sum (is_firing firing) list
 
-  pub sorted_is : (list list' : List Told) → Differ list → IsPermutation list list' → IsSorted told_cmp list' → list' ≡ ordered_by (λ t. t.firing) list
+  sorted_is : (list list' : List Told) → Differ list → IsPermutation list list' → IsSorted told_cmp list' → list' ≡ ordered_by (λ t. t.firing) list
   sorted_is list list' differ moved sorted =
       let own = texts list differ in
       let P : Told → Type 0 = λ t. t.text ≡ text_at list t.firing in
@@ -129,10 +131,18 @@ module _ (labels : List Label) (store : StoreState) (instant : Member → Option
           let b : is_firing (record { instant = e; install = m.install }) (record { instant = d; install = n }) ≡ false = grind (arith, nat_tests, less) in
           (b, rest)
 
-  pub notices_differ : (ms : List Member) → InstallsRise ms → Differ (notices_of ms)
+  notices_differ : (ms : List Member) → InstallsRise ms → Differ (notices_of ms)
   notices_differ [] h = tt
   notices_differ (m ∷ ms) h = by_instant (instant m) (notices_differ ms h.1)
     where
       by_instant : (o : Option ℕ) → Differ (notices_of ms) → Differ (told_at labels store m o ++ notices_of ms)
       by_instant None rest = rest
       by_instant (Some e) rest = (behind_differ e m.install ms h.0, rest)
+
+  -- sorted, they are the order of their firings
+  pub told_in_order : (ms : List Member) → InstallsRise ms → (list list' shown : List Told) → list ≡ notices_of ms → IsPermutation list list'
+      → IsSorted (told_cmp (slice_cmp nat_cmp)) list' → shown ≡ list' → (at : ℕ) → length shown ≤ at → take at shown ≡ ordered_by (λ t. t.firing) (notices_of ms)
+  told_in_order ms rise list list' shown is moved sorted same at all =
+      take_all at shown all ∙ same
+      ∙ sorted_is (slice_cmp nat_cmp) list list' (subst Differ (sym is) (notices_differ ms rise)) moved sorted
+      ∙ ap (ordered_by (λ (t : Told). t.firing)) is

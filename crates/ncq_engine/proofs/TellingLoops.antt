@@ -1,8 +1,8 @@
 -- A loop that may change each member in its place: what holds half way, and one step more.
 use Rattle.std.proofs.Common.{◌≡◌, ℕ, zero, suc, ◌+◌, ◌<◌, ◌≤◌, Bool, true, false, cond, List, [], ◌∷◌, ◌++◌, length, take, drop, set, get_or, refl, sym, ◌∙◌, ap, subst, arith, append_assoc}
-use Rattle.std.specs.Prelude.{Option, Some, None, if◌then◌else◌, is_some, nat_lt, ◌==◌}
+use Rattle.std.specs.Prelude.{Some, None, if◌then◌else◌, nat_lt, ◌==◌}
 use Rattle.std.proofs.lemmas.Bool.Decides.{nat_tests}
-use Rattle.std.proofs.lemmas.List.{append-nil, length-set, length-take-le, get_or-drop, get_or_default, set-get_or, drop-set-lt, take_more, take_more_set}
+use Rattle.std.proofs.lemmas.List.{append-nil, length-set, length-take-le, get_or-drop, set-get_or, drop-set-lt, take_more, take_more_set}
 use Rattle.std.proofs.lemmas.Grind.{drop_more_same}
 use Rattle.std.specs.List.{flat_map, AllByRecursion}
 use Rattle.ncq_base.specs.Keys.{times}

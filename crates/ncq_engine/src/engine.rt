@@ -310,10 +310,7 @@ impl Engine {
     {
         let sources = asked_by(alloc, statement.query.items.as_slice())?;
         let plan = plan(alloc, &query)?;
-        let argument = match statement.argument {
-            Some(argument) => argument,
-            None => Bytes::new(alloc),
-        };
+        let argument = statement.argument.unwrap_or(Bytes::new(alloc));
         Ok(Member {
             name: statement.name,
             sources,

@@ -1,8 +1,7 @@
-use Rattle.std.proofs.Common.{◌≡◌, ◌++◌, List, ℕ, nat_lt, length, get_or, ◌+◌, ◌<◌, ◌≤◌, true, false, [], arith, refl, sym, ◌∙◌, ap}
+use Rattle.std.proofs.Common.{◌≡◌, ◌++◌, List, ℕ, nat_lt, length, get_or, ◌<◌, true, false, arith, sym, ◌∙◌, ap}
 use Rattle.std.proofs.lemmas.List.{append-nil, set-get_or}
 use Rattle.ncq_callback.specs.Labels.{labels}
-use Rattle.ncq_engine.specs.declared.member.Member.{Member}
-use Rattle.ncq_engine.specs.Engines.{changed_text, is_told_change}
+use Rattle.ncq_engine.specs.Engines.{is_told_change}
 use Rattle.ncq_engine.proofs.TellingLoops.{counted, fired_if, kept_if, no_change, passed_by, text_more, times_no, times_yes, told_change, with_done}
 use Rattle.ncq_engine.proofs.telling.tell_changed.Goals as goal
 use Rattle.ncq_engine.proofs.telling.tell_changed.Goals.{then-fires_at_change+in_ok-fire+then-branch, else-fires_at_change, else-fires_at_change-via-then-fires_at_change+in_ok-fire+else-branch, else-fires_at_change-via-else-fires_at_change}

@@ -1,14 +1,11 @@
-use Rattle.std.proofs.Common.{◌≡◌, ◌++◌, ◌∷◌, List, [], ℕ, nat_lt, length, take, ◌+◌, ◌<◌, ◌≤◌, true, false, arith, refl, sym, ◌∙◌, ap, subst}
+use Rattle.std.proofs.Common.{◌≡◌, ◌++◌, ◌∷◌, List, [], ℕ, nat_lt, length, take, ◌+◌, ◌<◌, ◌≤◌, true, false, arith, sym, ◌∙◌, ap}
 use Rattle.std.specs.List.{flat_map}
-use Rattle.std.specs.Ordering.{nat_cmp}
-use Rattle.std.specs.Cmp.Lexicographic.{slice_cmp}
-use Rattle.std.proofs.lemmas.List.{take_all, take_more}
+use Rattle.std.proofs.lemmas.List.{take_more}
 use Rattle.ncq_base.specs.Keys.{times}
 use Rattle.ncq_callback.specs.Labels.{labels}
-use Rattle.ncq_event.specs.Orders.{ordered_by}
 use Rattle.ncq_engine.specs.declared.telling.Told.{Told}
 use Rattle.ncq_engine.specs.Engines.{moved_instant, moved_told}
-use Rattle.ncq_engine.proofs.SortLaws.{Differ, notices_differ, sorted_is}
+use Rattle.ncq_engine.proofs.SortLaws.{told_in_order}
 use Rattle.ncq_engine.proofs.TellingLoops.{counted, fails_on, is_no_text, is_some_text, passes_on, text_on}
 use Rattle.ncq_engine.proofs.ToldLaws.{times_ordered}
 use Rattle.ncq_engine.proofs.telling.tell_due.Goals as goal
@@ -41,6 +38,7 @@ loop-one-preserved g c =
 
 pub returns-clause-text : goal.returns-clause-text
 returns-clause-text g c =
+<<<<<<< HEAD
     let told = flat_map (moved_told (labels c.args.handlers.now.items.items (λ h. h.name) (λ h. h.kind)) c.args.store.now c.args.now c.args.to) c.args.members.now in
     let differ : Differ told = notices_differ (labels c.args.handlers.now.items.items (λ h. h.name) (λ h. h.kind)) c.args.store.now (moved_instant c.args.store.now c.args.now c.args.to) c.args.members.now c.requires.rise in
     let all : take c.loop-one.one-index c.as_slice-one-items.result.now ≡ c.as_slice-one-items.result.now = take_all c.loop-one.one-index c.as_slice-one-items.result.now (omega arith) in
@@ -60,3 +58,21 @@ returns-clause-notices g c =
     ∙ sorted_is (slice_cmp nat_cmp) c.in_ok-told.told.items c.sort_unstable.new.self.items (subst Differ (sym c.in_ok-told.ensures.told) differ) c.sort_unstable.ensures.permutation c.sort_unstable.ensures.sorted
     ∙ ap (ordered_by (λ (t : Told). t.firing)) c.in_ok-told.ensures.told in
     c.loop-one.invariant.notices ∙ ap (times (λ (t : Told). nat_lt 0 (length t.text))) (all ∙ is) ∙ times_ordered (λ (t : Told). t.firing) (λ (t : Told). nat_lt 0 (length t.text)) told
+=======
+    let all : length c.as_slice-one-items.result.now ≤ c.loop-one.one-index = omega arith in
+    c.loop-one.invariant.text
+    ∙ ap (λ (list : List Told). c.args.out.now.items ++ flat_map (λ (t : Told). t.text) list)
+    (told_in_order (labels c.args.handlers.now.items.items (λ h. h.name) (λ h. h.kind)) c.args.store.now (moved_instant c.args.store.now c.args.now c.args.to) c.args.members.now
+    c.requires.rise c.in_ok-told.told.items c.sort_unstable.new.self.items c.as_slice-one-items.result.now c.in_ok-told.ensures.told c.sort_unstable.ensures.permutation
+    c.sort_unstable.ensures.sorted c.as_slice-one-items.ensures.value c.loop-one.one-index all)
+
+pub returns-clause-notices : goal.returns-clause-notices
+returns-clause-notices g c =
+    let all : length c.as_slice-one-items.result.now ≤ c.loop-one.one-index = omega arith in
+    c.loop-one.invariant.notices
+    ∙ ap (times (λ (t : Told). nat_lt 0 (length t.text)))
+    (told_in_order (labels c.args.handlers.now.items.items (λ h. h.name) (λ h. h.kind)) c.args.store.now (moved_instant c.args.store.now c.args.now c.args.to) c.args.members.now
+    c.requires.rise c.in_ok-told.told.items c.sort_unstable.new.self.items c.as_slice-one-items.result.now c.in_ok-told.ensures.told c.sort_unstable.ensures.permutation
+    c.sort_unstable.ensures.sorted c.as_slice-one-items.ensures.value c.loop-one.one-index all)
+    ∙ times_ordered (λ (t : Told). t.firing) (λ (t : Told). nat_lt 0 (length t.text)) (flat_map (moved_told (labels c.args.handlers.now.items.items (λ h. h.name) (λ h. h.kind)) c.args.store.now c.args.now c.args.to) c.args.members.now)
+>>>>>>> aa4c6ba83dcc58eb59a0d998789f6a220566e823
