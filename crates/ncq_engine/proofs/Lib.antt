@@ -17,3 +17,4 @@ pub mod TellingLoops
 pub mod SortLaws
 pub mod RollLaws
 pub mod Actions
+pub mod ClockLaws
