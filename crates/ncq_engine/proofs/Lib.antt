@@ -16,4 +16,5 @@ pub mod MemberLaws
 pub mod TellingLoops
 pub mod SortLaws
 pub mod RollLaws
+pub mod CreateLaws
 pub mod Actions
