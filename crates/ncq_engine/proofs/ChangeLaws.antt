@@ -22,7 +22,7 @@ use Rattle.ncq_source.specs.Changes.{prepared, after}
 use Rattle.ncq_source.specs.Changes.Trial.{Good, NoKey, NotThere}
 use Rattle.ncq_source.specs.ChangeStates.{ChangeState}
 use Rattle.ncq_source.specs.declared.change.ChangeError.{ChangeError}
-use Rattle.ncq_source.specs.declared.change.ChangeError.TheVariants.{NoSource, BadKey, NoSuchKey}
+use Rattle.ncq_source.specs.declared.change.ChangeError.TheVariants.{NoSource, BadKey, NoSuchKey, OutOfMemory as NoMemory}
 use Rattle.ncq_source.specs.Stores.{Source as Declared, Follows, without_room}
 use Rattle.ncq_source.specs.StoreStates.{StoreState, IsCommitted, TellsChange, found, names}
 use Rattle.ncq_source.proofs.Folds.{fold_of_entries}
@@ -35,7 +35,18 @@ use Rattle.ncq_engine.specs.Languages.{language_of}
 use Rattle.ncq_engine.specs.Notices.{fired_at, firings, notice_at, told}
 use Rattle.ncq_engine.specs.Output.{delta_refusal, first_refusal, notices, trial_refusal}
 use Rattle.ncq_engine.specs.Stands.{EngineState, Keeps, Stands, content_of}
-use Rattle.ncq_engine.proofs.CommandLaws.{engine}
+use Rattle.ncq_source.specs.Changes.{Trial}
+use Rattle.ncq_source.specs.declared.change.Entry.{Entry}
+use Rattle.ncq_engine.specs.declared.engine.Applied.{Applied}
+use Rattle.ncq_engine.specs.declared.engine.ApplyError.{ApplyError}
+use Rattle.ncq_engine.specs.declared.engine.ApplyError.TheVariants.{Refused, OutOfMemory}
+use Rattle.ncq_engine.specs.Applies.{Applies, change_refusal, ok_text, refused_change}
+use Rattle.ncq_engine.proofs.CommandLaws.{engine, place}
+use Rattle.ncq_engine.proofs.EngineLaws.{accepts, gives_up, refuses}
+use Rattle.ncq_engine.proofs.RollLaws.{pairwise_both}
+use Rattle.std.proofs.Common.{append_assoc}
+use Rattle.std.proofs.lemmas.List.{append-nil}
+use Rattle.std.specs.Prelude.{IfSome}
 use Rattle.ncq_engine.proofs.HistoryLaws.{Installed, installed}
 use Rattle.ncq_engine.proofs.Keeping.{Agrees, keep_all}
 use Rattle.ncq_engine.proofs.Places.{is_found, moved_by, not_found, same_names}
@@ -225,3 +236,79 @@ module _ (store ready after_store : StoreState) (clock count creates : ℕ) (lab
         ∙ ap (times (λ (t : Told). nat_lt 0 (length t.text))) list_is
         ∙ times_of labels h (Delta name items) after_store same_world (firings h (Delta name items))
         ∙ ap (times (λ f. nat_lt 0 (length (notice_at (language_of labels) h (Delta name items) f)))) (sym (told_in_order h name items))
+
+  -- an accepted change, from what the calls give
+  pub change_accepted : (out out1 out' : List ℕ) (news olds : List Member) (known : List Label) (asked : List ℕ) (instant n : ℕ) (applied first : Applied)
+      → olds ≡ members → known ≡ labels → asked ≡ name → instant ≡ clock
+      → Pairwise (λ old new. FiresIf (is_told_change asked instant old) after_store old new) olds news → AllByRecursion (CanFire known) news
+      → out1 ≡ out ++ ok_text (count + 1) → out' ≡ out1 ++ flat_map (changed_text known after_store asked instant) olds
+      → n ≡ times (λ m. nat_lt 0 (length (changed_text known after_store asked instant m))) olds
+      → first ≡ record { from = length out1; to = length out1; notices = 0 } → applied ≡ record { from = first.from; to = length out'; notices = n }
+      → Applies old_engine (Delta name items) out (Ok applied) (engine after_store clock (count + 1) creates labels news) out'
+  change_accepted out out1 out' news olds known asked instant n applied first eo ek ea ec fired can line text counted first_is applied_is =
+      accepts old_engine (Delta name items) out applied (engine after_store clock (count + 1) creates labels news) out' texts []
+      (record {
+        accepted = λ h s. (delta_allowed h s, delta_stands h s news (pairwise_both (λ old new. FiresIf (is_told_change name clock old) after_store old new) (CanFire labels) members news fires_are can_are));
+        tells = λ h s. delta_texts h s;
+        counts = λ h s. ap (λ (a : Applied). a.notices) applied_is ∙ counted
+            ∙ (λ i. times (λ m. nat_lt 0 (length (changed_text (ek i) after_store (ea i) (ec i) m))) (eo i)) ∙ delta_times h s;
+        ends = λ h s. refl;
+        counted = refl;
+        named = refl;
+      })
+      (whole ∙ sym (append-nil ((out ++ ok_text (count + 1)) ++ texts)) ∙ append_assoc (out ++ ok_text (count + 1)) texts [])
+      (ap (λ (a : Applied). a.from) applied_is ∙ ap (λ (a : Applied). a.from) first_is ∙ ap length line)
+      (ap (λ (a : Applied). a.to) applied_is ∙ ap length whole)
+    where
+      texts : List ℕ
+      texts = flat_map (changed_text labels after_store name clock) members
+
+      whole : out' ≡ (out ++ ok_text (count + 1)) ++ texts
+      whole = text ∙ (λ i. line i ++ flat_map (changed_text (ek i) after_store (ea i) (ec i)) (eo i))
+
+      can_are : AllByRecursion (CanFire labels) news
+      can_are = subst (λ (k : List Label). AllByRecursion (CanFire k) news) ek can
+
+      fires_are : Pairwise (λ old new. FiresIf (is_told_change name clock old) after_store old new) members news
+      fires_are = subst (λ (p : List ℕ × (ℕ × List Member)). Pairwise (λ old new. FiresIf (is_told_change p.0 p.1.0 old) after_store old new) p.1.1 news)
+          (λ i. (ea i, (ec i, eo i))) fired
+
+-- a delta that is refused
+module _ (store : StoreState) (clock count creates : ℕ) (labels : List Label) (members : List Member) (name asked : List ℕ) (items : List Item) (called : asked ≡ name) (result : Result ChangeState ChangeError)
+    (none : result ≡ Err NoSource → found store asked ≡ None) (only : found store asked ≡ None → result ≡ Err NoSource)
+    (some : (at : ℕ) (d : Declared) → found store asked ≡ Some at → slice_get store.sources at ≡ Some d → TellsChange result at (prepared d.key 1 d.elements items))
+    (out : List ℕ) (answer : Result Applied ApplyError) (new : EngineState) (out' : List ℕ) (untouched : out' ≡ out) where
+  abbrev was : EngineState
+  was = engine store clock count creates labels members
+
+  refused_for : (why : Refusal) → answer ≡ Err (Refused why) → new ≡ engine store clock (count + 1) creates labels members
+      → ((h : History) → Stands was h → delta_refusal items (source_in name (sources h)) ≡ Some why) → Applies was (Delta name items) out answer new out'
+  refused_for why is same because = refuses was (Delta name items) why out answer new out' is same untouched because
+
+  missing : (h : History) → Stands was h → result ≡ Err NoSource → delta_refusal items (source_in name (sources h)) ≡ Some refusal.NoSource
+  missing h s is = ap (delta_refusal items) (ap (source_in name) (sym s.sources) ∙ not_found name store.sources (ap (found store) (sym called) ∙ none is))
+
+  item_fails : (error : ChangeError) (why : Refusal) → result ≡ Err error → (error ≡ NoSource → ⊥)
+      → ((at : ℕ) (t : Trial (List Entry)) → TellsChange (Err error) at t → trial_refusal t ≡ Some why)
+      → (h : History) → Stands was h → delta_refusal items (source_in name (sources h)) ≡ Some why
+  item_fails error why is other tells h s = elim (place store name) [
+    | inl gone ↦ absurd (other (let e : ◌≡◌ {A = Result ChangeState ChangeError} (Err error) (Err NoSource) = sym is ∙ only (ap (found store) called ∙ gone) in cc))
+    | inr p ↦
+        ap (delta_refusal items) (ap (source_in name) (sym s.sources) ∙ is_found name store.sources p.0 p.1 p.2 p.3)
+        ∙ tells p.0 (prepared p.1.key 1 p.1.elements items) (subst (λ (r : Result ChangeState ChangeError). TellsChange r p.0 (prepared p.1.key 1 p.1.elements items)) is (some p.0 p.1 (ap (found store) called ∙ p.2) p.3))
+  ]
+
+  pub change_refused : (error : ChangeError) → result ≡ Err error → answer ≡ Err (refused_change error)
+      → IfSome (change_refusal error) (λ _. new ≡ engine store clock (count + 1) creates labels members) → Applies was (Delta name items) out answer new out'
+  change_refused NoSource is a e = refused_for refusal.NoSource a e (λ h s. missing h s is)
+  change_refused (BadKey position) is a e = refused_for (refusal.Key position) a e (item_fails (BadKey position) (refusal.Key position) is (λ q. cc) (λ at t g. ap trial_refusal g))
+  change_refused (NoSuchKey position) is a e = refused_for (refusal.NoKey position) a e (item_fails (NoSuchKey position) (refusal.NoKey position) is (λ q. cc) (λ at t g. ap trial_refusal g))
+  change_refused NoMemory is a e = gives_up was (Delta name items) out answer new out' a
+
+-- what a prepared change has, for the source that it was prepared for
+pub good_entries : (store : StoreState) (name : List ℕ) (items : List Item) (result : Result ChangeState ChangeError) (change : ChangeState) → result ≡ Ok change
+    → found store name ≡ Some change.source.0
+    → ((at : ℕ) (d : Declared) → found store name ≡ Some at → slice_get store.sources at ≡ Some d → TellsChange result at (prepared d.key 1 d.elements items))
+    → (d : Declared) → slice_get store.sources change.source.0 ≡ Some d → prepared d.key 1 d.elements items ≡ Good change.entries
+good_entries store name items result change is here some d there =
+    (subst (λ (r : Result ChangeState ChangeError). TellsChange r change.source.0 (prepared d.key 1 d.elements items)) is (some change.source.0 d here there)).1

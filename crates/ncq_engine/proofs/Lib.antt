@@ -18,3 +18,4 @@ pub mod SortLaws
 pub mod RollLaws
 pub mod CreateLaws
 pub mod Actions
+pub mod ClockLaws

@@ -38,27 +38,6 @@ loop-one-preserved g c =
 
 pub returns-clause-text : goal.returns-clause-text
 returns-clause-text g c =
-<<<<<<< HEAD
-    let told = flat_map (moved_told (labels c.args.handlers.now.items.items (λ h. h.name) (λ h. h.kind)) c.args.store.now c.args.now c.args.to) c.args.members.now in
-    let differ : Differ told = notices_differ (labels c.args.handlers.now.items.items (λ h. h.name) (λ h. h.kind)) c.args.store.now (moved_instant c.args.store.now c.args.now c.args.to) c.args.members.now c.requires.rise in
-    let all : take c.loop-one.one-index c.as_slice-one-items.result.now ≡ c.as_slice-one-items.result.now = take_all c.loop-one.one-index c.as_slice-one-items.result.now (omega arith) in
-    let is : c.as_slice-one-items.result.now ≡ ordered_by (λ (t : Told). t.firing) told =
-    c.as_slice-one-items.ensures.value
-    ∙ sorted_is (slice_cmp nat_cmp) c.in_ok-told.told.items c.sort_unstable.new.self.items (subst Differ (sym c.in_ok-told.ensures.told) differ) c.sort_unstable.ensures.permutation c.sort_unstable.ensures.sorted
-    ∙ ap (ordered_by (λ (t : Told). t.firing)) c.in_ok-told.ensures.told in
-    c.loop-one.invariant.text ∙ ap (λ (l : List Told). c.args.out.now.items ++ flat_map (λ (t : Told). t.text) l) (all ∙ is)
-
-pub returns-clause-notices : goal.returns-clause-notices
-returns-clause-notices g c =
-    let told = flat_map (moved_told (labels c.args.handlers.now.items.items (λ h. h.name) (λ h. h.kind)) c.args.store.now c.args.now c.args.to) c.args.members.now in
-    let differ : Differ told = notices_differ (labels c.args.handlers.now.items.items (λ h. h.name) (λ h. h.kind)) c.args.store.now (moved_instant c.args.store.now c.args.now c.args.to) c.args.members.now c.requires.rise in
-    let all : take c.loop-one.one-index c.as_slice-one-items.result.now ≡ c.as_slice-one-items.result.now = take_all c.loop-one.one-index c.as_slice-one-items.result.now (omega arith) in
-    let is : c.as_slice-one-items.result.now ≡ ordered_by (λ (t : Told). t.firing) told =
-    c.as_slice-one-items.ensures.value
-    ∙ sorted_is (slice_cmp nat_cmp) c.in_ok-told.told.items c.sort_unstable.new.self.items (subst Differ (sym c.in_ok-told.ensures.told) differ) c.sort_unstable.ensures.permutation c.sort_unstable.ensures.sorted
-    ∙ ap (ordered_by (λ (t : Told). t.firing)) c.in_ok-told.ensures.told in
-    c.loop-one.invariant.notices ∙ ap (times (λ (t : Told). nat_lt 0 (length t.text))) (all ∙ is) ∙ times_ordered (λ (t : Told). t.firing) (λ (t : Told). nat_lt 0 (length t.text)) told
-=======
     let all : length c.as_slice-one-items.result.now ≤ c.loop-one.one-index = omega arith in
     c.loop-one.invariant.text
     ∙ ap (λ (list : List Told). c.args.out.now.items ++ flat_map (λ (t : Told). t.text) list)
@@ -75,4 +54,3 @@ returns-clause-notices g c =
     c.requires.rise c.in_ok-told.told.items c.sort_unstable.new.self.items c.as_slice-one-items.result.now c.in_ok-told.ensures.told c.sort_unstable.ensures.permutation
     c.sort_unstable.ensures.sorted c.as_slice-one-items.ensures.value c.loop-one.one-index all)
     ∙ times_ordered (λ (t : Told). t.firing) (λ (t : Told). nat_lt 0 (length t.text)) (flat_map (moved_told (labels c.args.handlers.now.items.items (λ h. h.name) (λ h. h.kind)) c.args.store.now c.args.now c.args.to) c.args.members.now)
->>>>>>> aa4c6ba83dcc58eb59a0d998789f6a220566e823
