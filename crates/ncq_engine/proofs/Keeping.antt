@@ -92,7 +92,7 @@ abbrev pub Agrees : Bool → Option ℕ → Type 0
 Agrees test fired = test ≡ is_some fired
 
 module _ (labels : List Label) (h : History) (command : Command) (store : StoreState) (same : world (sources (command ∷ h)) ≡ world_in store) (count : store.changes ≡ changes (command ∷ h)) where
-  keeps_one : (s : Subscription) (old new : Member) (test : Bool) → Agrees test (fires s h command) → Keeps labels h s old → FiresIf test store old new → CanFire labels new → Keeps labels (command ∷ h) s new
+  pub keeps_one : (s : Subscription) (old new : Member) (test : Bool) → Agrees test (fires s h command) → Keeps labels h s old → FiresIf test store old new → CanFire labels new → Keeps labels (command ∷ h) s new
   keeps_one s old new test agrees k fired can =
       by_firing (fires s h command) refl test agrees fired
     where

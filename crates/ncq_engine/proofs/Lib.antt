@@ -16,5 +16,6 @@ pub mod MemberLaws
 pub mod TellingLoops
 pub mod SortLaws
 pub mod RollLaws
+pub mod CreateLaws
 pub mod Actions
 pub mod ClockLaws

@@ -19,7 +19,7 @@ pairwise_length R (x ∷ xs) [] p = absurd p
 pairwise_length R (x ∷ xs) (y ∷ ys) p = ap suc (pairwise_length R xs ys p.1)
 
 module _ (test : Member → Bool) (store : StoreState) where
-  one_install : (t : Bool) (old new : Member) → FiresIf t store old new → new.install ≡ old.install
+  pub one_install : (t : Bool) (old new : Member) → FiresIf t store old new → new.install ≡ old.install
   one_install true old new f = ap (λ (m : Member). m.install) f.rest
   one_install false old new f = ap (λ (m : Member). m.install) f
 

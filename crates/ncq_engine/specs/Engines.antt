@@ -100,6 +100,11 @@ abbrev pub changed_text : List Label → StoreState → List ℕ → ℕ → Mem
 changed_text labels store source now m =
     if is_told_change source now m then told_text labels m now (rows_over store m) else []
 
+-- the notice of a new one, where it starts now
+abbrev pub started_text : List Label → StoreState → ℕ → Member → List ℕ
+started_text labels store now m =
+    if m.timing.start == now then told_text labels m now (rows_over store m) else []
+
 -- its notice at a move of the clock, with the firing
 abbrev pub told_at : List Label → StoreState → Member → Option ℕ → List Told
 told_at labels store m None = []

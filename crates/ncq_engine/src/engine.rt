@@ -271,12 +271,7 @@ impl Engine {
         }
         let mut member = self.member(alloc, statement, query, action, timing)?;
         let applied = self.accept(out)?;
-        let mut notices = 0;
-        if timing.start == self.clock
-            && member.fire(alloc, self.clock, &self.store, handlers, out, steps)?
-        {
-            notices = 1;
-        }
+        let notices = member.start(alloc, self.clock, &self.store, handlers, out, steps)?;
         self.creates += 1;
         if self.members.push(member).is_err() {
             return Err(ApplyError::OutOfMemory);

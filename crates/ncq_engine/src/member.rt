@@ -1,5 +1,6 @@
 //! A live subscription: what it asks, when it fires, and what it was told of.
-ghost use Rattle.std.specs.Prelude.{◌≡◌, ◌++◌, nat_lt, length, IfOk, OnOk};
+ghost use Rattle.std.specs.Prelude.{◌≡◌, ◌==◌, ◌++◌, nat_lt, length, IfOk, OnOk};
+ghost use Rattle.std.specs.Prelude.{if◌then◌else◌};
 ghost use Rattle.std.specs.List.{list_any, AllByRecursion};
 ghost use Rattle.std.specs.Str.{bytes_eq};
 ghost use Rattle.ncq_bag.specs.Bags.{difference};
@@ -10,7 +11,7 @@ ghost use Rattle.ncq_plan.specs.Residuals.{passes};
 ghost use Rattle.ncq_plan.specs.Deltas.{signed};
 ghost use Rattle.ncq_engine.specs.Engines.{answers_in, told_text, rows_over, last_in};
 ghost use Rattle.ncq_engine.specs.Engines.{is_told_change, has_news_in, moved_instant};
-ghost use Rattle.ncq_engine.specs.Engines.{CanFire, HasFired};
+ghost use Rattle.ncq_engine.specs.Engines.{CanFire, FiresIf, HasFired, started_text};
 
 use crate::walk::rows_of;
 use ncq_base::{Bytes, Copied, Sequence, Steps};
@@ -92,6 +93,37 @@ impl Member {
             .as_slice()
             .iter()
             .any(|name| last_change(store, name) > mark)
+    }
+
+    /// Fires where it starts now, and tells how many notices were appended.
+    pub(crate) fn start<L: Ledger>(
+        &mut self,
+        alloc: Global,
+        now: u64,
+        store: &Store,
+        handlers: &Handlers,
+        out: &mut Vec<u8>,
+        steps: &mut Steps<L>,
+    ) -> Result<u64, AllocError>
+        requires can { CanFire (labels handlers.now.items.items (λ h. h.name) (λ h. h.kind))
+            self.old }
+        ensures fired { OnOk result
+            (FiresIf (self.old.timing.start == now) store.now self.old self.new) }
+        ensures text { OnOk result (out.new.items ≡ out.old.items
+            ++ started_text (labels handlers.now.items.items (λ h. h.name) (λ h. h.kind))
+            store.now now self.old) }
+        ensures notices { IfOk result (λ n. n
+            ≡ (if nat_lt 0 (length (started_text
+            (labels handlers.now.items.items (λ h. h.name) (λ h. h.kind))
+            store.now now self.old)) then 1 else 0)) }
+        ensures can { OnOk result (CanFire
+            (labels handlers.now.items.items (λ h. h.name) (λ h. h.kind)) self.new) }
+    {
+        if self.timing.start == now && self.fire(alloc, now, store, handlers, out, steps)? {
+            Ok(1)
+        } else {
+            Ok(0)
+        }
     }
 
     /// Fires: appends what its answer gained and lost since its latest firing, and tells whether
