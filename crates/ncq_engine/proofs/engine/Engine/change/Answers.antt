@@ -42,12 +42,14 @@ invariant_of-self-3 g c =
     ((let few : c.commit.new.self.changes ≤ c.self-2.inside.count = omega (arith, before, same, done, store, count) in few), i.1, r.0, r.1, r.2)
 
 pub returns-in-Err : goal.returns-in-Err
-returns-in-Err g c = record { applies =
-    told_as c.args.self.now _ (Delta c.args.source.now c.args.items) c.args.out.now.items c.refuse_change.result c.refuse_change.new.self c.refuse_change.new.self c.args.out.now.items c.self.view_is refl
-    (change_refused c.self.inside.store c.self.inside.clock c.self.inside.count c.self.inside.creates c.self.inside.labels.items c.self.inside.members.items c.args.source.now c.as_slice.result.now c.args.items
-    c.as_slice.ensures c.prepare.result c.prepare.ensures.only c.prepare.ensures.none c.prepare.ensures.some c.args.out.now.items c.refuse_change.result c.refuse_change.new.self c.args.out.now.items refl
-    c.in-Err.error c.in-Err.is c.refuse_change.ensures.refused
-    (subst (λ (e : EngineState). IfSome (change_refusal c.in-Err.error) (λ _. c.refuse_change.new.self ≡ record e { count = e.count + 1 })) (sym c.self.view_is) c.refuse_change.ensures.counted)) }
+returns-in-Err g c = record {
+  applies =
+      told_as c.args.self.now _ (Delta c.args.source.now c.args.items) c.args.out.now.items c.refuse_change.result c.refuse_change.new.self c.refuse_change.new.self c.args.out.now.items c.self.view_is refl
+      (change_refused c.self.inside.store c.self.inside.clock c.self.inside.count c.self.inside.creates c.self.inside.labels.items c.self.inside.members.items c.args.source.now c.as_slice.result.now c.args.items
+      c.as_slice.ensures c.prepare.result c.prepare.ensures.only c.prepare.ensures.none c.prepare.ensures.some c.args.out.now.items c.refuse_change.result c.refuse_change.new.self c.args.out.now.items refl
+      c.in-Err.error c.in-Err.is c.refuse_change.ensures.refused
+      (subst (λ (e : EngineState). IfSome (change_refusal c.in-Err.error) (λ _. c.refuse_change.new.self ≡ record e { count = e.count + 1 })) (sym c.self.view_is) c.refuse_change.ensures.counted));
+}
 
 pub returns : goal.returns
 returns g c =
@@ -63,14 +65,16 @@ returns g c =
     ∙ ap length olds ∙ len) in
     let here : found c.self.inside.store c.args.source.now ≡ Some c.in-Ok.change.source.0 = ap (found c.self.inside.store) (sym c.as_slice.ensures) ∙ c.in-Ok.ensures.source in
     let same_labels : c.self.inside.labels.items ≡ c.args.self.now.labels = ap (λ (e : EngineState). e.labels) c.self.view_is in
-    record { applies =
-      told_as c.args.self.now _ (Delta c.args.source.now c.args.items) c.args.out.now.items (Ok c.with.result) _
-      (engine c.commit.new.self c.self.inside.clock (c.self.inside.count + 1) c.self.inside.creates c.self.inside.labels.items news) c.tell_changed.new.out.items c.self.view_is
-      ((λ j. engine c.commit.new.self (two j).clock (two j).count (two j).creates (two j).labels (back j)))
-      (change_accepted c.self.inside.store c.reserve.new.self c.commit.new.self c.self.inside.clock c.self.inside.count c.self.inside.creates c.self.inside.labels.items c.self.inside.members.items c.args.source.now c.args.items c.in-Ok.change
-      here c.in_ok-reserve.ensures.same.sources c.in_ok-reserve.ensures.same.changes
-      (good_entries c.self.inside.store c.args.source.now c.args.items c.prepare.result c.in-Ok.change c.in-Ok.is here (λ at d f there. c.prepare.ensures.some at d (ap (found c.self.inside.store) c.as_slice.ensures ∙ f) there))
-      (subst (λ (st : StoreState). IsCommitted st c.in-Ok.change c.commit.new.self) (ap (λ (e : EngineState). e.store) two) c.commit.ensures.done)
-      c.args.out.now.items c.accept.new.out.items c.tell_changed.new.out.items news c.deref_mut.result.now _ c.as_slice-2.result.now c.self-2.inside.clock c.in_ok-notices.notices c.with.result c.in_ok-applied.applied
-      (olds ∙ kept ∙ ap (λ (e : EngineState). e.members) two) (sym c.requires.handlers ∙ sym same_labels) c.as_slice-2.ensures (ap (λ (e : EngineState). e.clock) two) paired c.in_ok-notices.ensures.can
-      c.in_ok-applied.ensures.text c.in_ok-notices.ensures.text c.in_ok-notices.ensures.notices c.in_ok-applied.ensures.places c.with.ensures) }
+    record {
+      applies =
+          told_as c.args.self.now _ (Delta c.args.source.now c.args.items) c.args.out.now.items (Ok c.with.result) _
+          (engine c.commit.new.self c.self.inside.clock (c.self.inside.count + 1) c.self.inside.creates c.self.inside.labels.items news) c.tell_changed.new.out.items c.self.view_is
+          ((λ j. engine c.commit.new.self (two j).clock (two j).count (two j).creates (two j).labels (back j)))
+          (change_accepted c.self.inside.store c.reserve.new.self c.commit.new.self c.self.inside.clock c.self.inside.count c.self.inside.creates c.self.inside.labels.items c.self.inside.members.items c.args.source.now c.args.items c.in-Ok.change
+          here c.in_ok-reserve.ensures.same.sources c.in_ok-reserve.ensures.same.changes
+          (good_entries c.self.inside.store c.args.source.now c.args.items c.prepare.result c.in-Ok.change c.in-Ok.is here (λ at d f there. c.prepare.ensures.some at d (ap (found c.self.inside.store) c.as_slice.ensures ∙ f) there))
+          (subst (λ (st : StoreState). IsCommitted st c.in-Ok.change c.commit.new.self) (ap (λ (e : EngineState). e.store) two) c.commit.ensures.done)
+          c.args.out.now.items c.accept.new.out.items c.tell_changed.new.out.items news c.deref_mut.result.now _ c.as_slice-2.result.now c.self-2.inside.clock c.in_ok-notices.notices c.with.result c.in_ok-applied.applied
+          (olds ∙ kept ∙ ap (λ (e : EngineState). e.members) two) (sym c.requires.handlers ∙ sym same_labels) c.as_slice-2.ensures (ap (λ (e : EngineState). e.clock) two) paired c.in_ok-notices.ensures.can
+          c.in_ok-applied.ensures.text c.in_ok-notices.ensures.text c.in_ok-notices.ensures.notices c.in_ok-applied.ensures.places c.with.ensures);
+    }
