@@ -1,9 +1,9 @@
 -- One subscriber's notices do not depend on the others: what a command does to the subscriptions of a name, apart from their install numbers.
-use Rattle.std.proofs.Common.{◌≡◌, ℕ, ◌+◌, ◌<◌, ◌≤◌, Bool, true, false, not, ◌&&◌, ◌||◌, ◌==◌, List, [], ◌∷◌, ◌++◌, map, refl, sym, ◌∙◌, ap, arith, cond, true≢false, append_assoc}
+use Rattle.std.proofs.Common.{◌≡◌, ℕ, ◌+◌, ◌<◌, ◌≤◌, Bool, true, false, not, ◌&&◌, ◌||◌, ◌==◌, List, [], ◌∷◌, ◌++◌, map, refl, sym, ◌∙◌, ap, arith, cond, true≢false}
 use Rattle.std.specs.Prelude.{Option, Some, None, nat_le, nat_lt, if◌then◌else◌}
 use Rattle.std.specs.Option.{unwrap_or, is_some}
 use Rattle.std.proofs.lemmas.Bool.Decides.{nat_tests}
-use Rattle.std.specs.List.{filter, flat_map, list_any, AllByRecursion}
+use Rattle.std.specs.List.{filter, flat_map, list_any}
 use Rattle.std.proofs.lemmas.List.{append-nil}
 use Rattle.ncq_base.specs.Keys.{times}
 use Rattle.std.specs.Str.{bytes_eq}
@@ -17,14 +17,13 @@ use Rattle.ncq_script.specs.declared.command.Command.TheVariants.{Declare, Delta
 use Rattle.ncq_event.specs.declared.timing.Timing.{Timing}
 use Rattle.ncq_event.specs.declared.firing.Firing.{Firing}
 use Rattle.ncq_event.specs.Instants.{is_past, is_expired, due}
-use Rattle.ncq_event.specs.Orders.{ordered_by}
-use Rattle.ncq_engine.specs.History.{History, moved, now, is_create, is_delta, is_delta_of, changes, creates, last_change, Source, sources_after, sources, source_in, up_to, Subscription, start_of, created, timing_of, is_named, live_after, live}
-use Rattle.ncq_engine.specs.Firing.{sources_of, is_installed, is_new, has_news, is_told_of, fires_at, marked, mark, fires}
-use Rattle.ncq_engine.specs.Notices.{Language, kind_in, rendered, answer_over, answer_at, news, notice_at, with_new, fired_at, firings, told}
+use Rattle.ncq_engine.specs.History.{History, moved, now, is_delta, is_delta_of, changes, creates, last_change, Source, sources_after, sources, source_in, up_to, Subscription, start_of, created, timing_of, is_named, live}
+use Rattle.ncq_engine.specs.Firing.{sources_of, is_installed, is_new, has_news, is_told_of, marked, mark, fires}
+use Rattle.ncq_engine.specs.Notices.{Language, kind_in, rendered, answer_over, answer_at, notice_at, with_new, fired_at, firings}
 use Rattle.ncq_engine.specs.Output.{or_else, refused_if, delta_refusal, is_at_odds, ends_early, is_taken, first_refusal, with_accepted, after}
-use Rattle.ncq_engine.specs.Alone.{is_of_another, only, notices_of, unless_refused, notes, StandsAlone}
-use Rattle.ncq_engine.proofs.Lists.{times_push, times_append, times_filter, none_any, filter_none, flat_map_append, filter_append, ordered_part}
-use Rattle.ncq_engine.proofs.HistoryLaws.{key_is, key_itself, creates_grow, Installed, installed, not_yet, never, up_to_whole}
+use Rattle.ncq_engine.specs.Alone.{is_of_another, only, notices_of, unless_refused, notes}
+use Rattle.ncq_engine.proofs.Lists.{times_push, times_append, times_filter, none_any, flat_map_append, filter_append, ordered_part}
+use Rattle.ncq_engine.proofs.HistoryLaws.{key_is, key_itself, Installed, installed, never, up_to_whole}
 
 -- a subscription with its mark, apart from its install number
 pub record Core : Type 0 where
@@ -519,5 +518,6 @@ module _ (name : List ℕ) where
 pub start : (name : List ℕ) → Alike name [] []
 start name = record { now_is = refl; changes_are = refl; lasts = λ n. refl; sources_are = refl; older = λ n. refl; cores_are = refl; once = omega arith; once' = omega arith }
 
-pub stands_alone : StandsAlone
+pub stands_alone : (language : Language) (name : List ℕ) (commands : List Command)
+    → notes language name [] commands ≡ notes language name [] (only name commands)
 stands_alone language name commands = alone name language commands [] [] (start name)

@@ -1,45 +1,43 @@
 -- What the engine stands for behind a change of a source.
-use Rattle.std.proofs.Common.{◌≡◌, ℕ, zero, suc, ◌+◌, ◌<◌, ◌≤◌, Bool, true, false, not, ◌&&◌, ◌==◌, cond, List, [], ◌∷◌, ◌++◌, map, length, get_or, slice_get, slice_set, refl, sym, ◌∙◌, ap, subst, arith, true≢false, inl, inr, zero-add}
+use Rattle.std.proofs.Common.{◌≡◌, ℕ, zero, suc, ◌+◌, ◌<◌, ◌≤◌, Bool, true, false, ◌&&◌, ◌==◌, cond, List, [], ◌∷◌, ◌++◌, map, length, get_or, slice_get, refl, sym, ◌∙◌, ap, subst, arith, inl, inr, zero-add}
 use Rattle.std.specs.Prelude.{Option, Some, None, Result, Ok, Err, if◌then◌else◌, nat_lt, nat_le, is_some}
 use Rattle.std.specs.Option.{option_and_then}
 use Rattle.std.proofs.lemmas.Bool.Decides.{nat_tests}
 use Rattle.std.proofs.lemmas.List.Quantifiers.{position-Some}
-use Rattle.std.proofs.lemmas.Option.{slice_get_within, slice_get-get_or, get_or_from_slice_get}
 use Rattle.std.specs.List.{flat_map, list_any, AllByRecursion, position}
 use Rattle.std.specs.Str.{bytes_eq}
 use Rattle.ncq_base.specs.Keys.{times}
 use Rattle.ncq_callback.specs.Labels.{Label}
 use Rattle.ncq_event.specs.declared.firing.Firing.{Firing}
-use Rattle.ncq_event.specs.Orders.{ordered_by}
-use Rattle.ncq_change.specs.Stores.{source_named, world_in}
+use Rattle.ncq_change.specs.Stores.{world_in}
 use Rattle.ncq_change.proofs.CommitLaws.{found_name}
 use Rattle.ncq_pyx.specs.declared.item.Item.{Item}
 use Rattle.ncq_script.specs.declared.command.Command.{Command}
 use Rattle.ncq_script.specs.declared.command.Command.TheVariants.{Delta}
 use Rattle.ncq_script.specs.declared.refusal.Refusal.{Refusal}
 use Rattle.ncq_script.specs.declared.refusal.Refusal.TheVariants as refusal
-use Rattle.ncq_source.specs.Changes.{prepared, after}
-use Rattle.ncq_source.specs.Changes.Trial.{Good, NoKey, NotThere}
+use Rattle.ncq_source.specs.Changes.{prepared}
+use Rattle.ncq_source.specs.Changes.Trial.{Good}
 use Rattle.ncq_source.specs.ChangeStates.{ChangeState}
 use Rattle.ncq_source.specs.declared.change.ChangeError.{ChangeError}
 use Rattle.ncq_source.specs.declared.change.ChangeError.TheVariants.{NoSource, BadKey, NoSuchKey, OutOfMemory as NoMemory}
-use Rattle.ncq_source.specs.Stores.{Source as Declared, Follows, without_room}
+use Rattle.ncq_source.specs.Stores.{Source as Declared, without_room}
 use Rattle.ncq_source.specs.StoreStates.{StoreState, IsCommitted, TellsChange, found, names}
 use Rattle.ncq_source.proofs.Folds.{fold_of_entries}
 use Rattle.ncq_engine.specs.declared.member.Member.{Member}
 use Rattle.ncq_engine.specs.declared.telling.Told.{Told}
 use Rattle.ncq_engine.specs.Engines.{CanFire, FiresIf, Pairwise, changed_text, is_told_change, last_in, rows_over, told_at, told_text}
 use Rattle.ncq_engine.specs.Firing.{fires, is_installed, is_told_of, sources_of}
-use Rattle.ncq_engine.specs.History.{History, Source, Subscription, changes, creates, creates as creates_of, last_change, live, now, source_in, sources, with_items, world}
+use Rattle.ncq_engine.specs.History.{History, Subscription, changes, creates, creates as creates_of, last_change, live, now, source_in, sources, with_items, world}
 use Rattle.ncq_engine.specs.Languages.{language_of}
-use Rattle.ncq_engine.specs.Notices.{fired_at, firings, notice_at, told}
-use Rattle.ncq_engine.specs.Output.{delta_refusal, first_refusal, notices, trial_refusal}
+use Rattle.ncq_engine.specs.Notices.{firings, notice_at, told}
+use Rattle.ncq_engine.specs.Output.{delta_refusal, notices, trial_refusal}
 use Rattle.ncq_engine.specs.Stands.{EngineState, Keeps, Stands, content_of}
 use Rattle.ncq_source.specs.Changes.{Trial}
 use Rattle.ncq_source.specs.declared.change.Entry.{Entry}
 use Rattle.ncq_engine.specs.declared.engine.Applied.{Applied}
 use Rattle.ncq_engine.specs.declared.engine.ApplyError.{ApplyError}
-use Rattle.ncq_engine.specs.declared.engine.ApplyError.TheVariants.{Refused, OutOfMemory}
+use Rattle.ncq_engine.specs.declared.engine.ApplyError.TheVariants.{Refused}
 use Rattle.ncq_engine.specs.Applies.{Applies, change_refusal, ok_text, refused_change}
 use Rattle.ncq_engine.proofs.CommandLaws.{engine, place}
 use Rattle.ncq_engine.proofs.EngineLaws.{accepts, gives_up, refuses}

@@ -1,6 +1,6 @@
 -- What the engine stands for behind a declaration and behind a delete.
-use Rattle.std.proofs.Common.{◌≡◌, ℕ, zero, suc, ◌+◌, ◌<◌, ◌≤◌, Bool, true, false, not, ◌||◌, cond, List, [], ◌∷◌, ◌++◌, map, length, slice_get, slice_set, refl, sym, ◌∙◌, ap, subst, arith, true≢false, inl, inr, zero-add}
-use Rattle.std.specs.Prelude.{Option, Some, None, Result, Ok, Err, codes, decimal, if◌then◌else◌, IfOk, OnOk, OnErr, IsSome, is_some, ◌⊎◌}
+use Rattle.std.proofs.Common.{◌≡◌, ℕ, ◌+◌, ◌<◌, ◌≤◌, Bool, true, false, not, cond, List, [], ◌∷◌, ◌++◌, length, slice_get, refl, sym, ◌∙◌, ap, subst, arith, inl, inr, zero-add}
+use Rattle.std.specs.Prelude.{Option, Some, None, Result, Ok, Err, IfOk, OnOk, OnErr, IsSome, is_some, ◌⊎◌}
 use Rattle.std.specs.List.{filter, flat_map, list_any, AllByRecursion}
 use Rattle.std.specs.FinMap.{empty}
 use Rattle.std.specs.Str.{bytes_eq}
@@ -8,11 +8,11 @@ use Rattle.std.proofs.lemmas.Option.{slice_get_cases}
 use Rattle.ncq_base.specs.Keys.{times}
 use Rattle.ncq_callback.specs.Labels.{Label}
 use Rattle.ncq_script.specs.declared.command.Command.{Command}
-use Rattle.ncq_script.specs.declared.command.Command.TheVariants.{Declare, Delta, Create, Delete, Clock, Report, Malformed}
+use Rattle.ncq_script.specs.declared.command.Command.TheVariants.{Declare, Delete, Report, Malformed}
 use Rattle.ncq_script.specs.declared.refusal.Refusal.{Refusal}
 use Rattle.ncq_script.specs.declared.refusal.Refusal.TheVariants as refusal
 use Rattle.ncq_source.specs.declared.key.Key.{Key}
-use Rattle.ncq_source.specs.Stores.{Source as Declared, without_room}
+use Rattle.ncq_source.specs.Stores.{Source as Declared}
 use Rattle.ncq_source.specs.StoreStates.{StoreState, Declares, found}
 use Rattle.ncq_source.specs.declared.change.SourceId.{SourceId}
 use Rattle.ncq_source.specs.declared.store.DeclareError.{DeclareError}
@@ -24,11 +24,10 @@ use Rattle.ncq_engine.specs.declared.member.Member.{Member}
 use Rattle.ncq_engine.specs.Applies.{Applies, ok_text}
 use Rattle.ncq_engine.specs.Engines.{CanFire, InstallsAreUpTo, InstallsRise, Pairwise}
 use Rattle.ncq_engine.proofs.Lists.{each_filter}
-use Rattle.ncq_engine.specs.History.{History, Source, Subscription, changes, creates as creates_of, is_named, live, source_in, sources}
-use Rattle.ncq_engine.specs.Languages.{language_of}
-use Rattle.ncq_engine.specs.Output.{first_refusal, is_taken, refused_if}
-use Rattle.ncq_engine.specs.Stands.{EngineState, Keeps, Stands, content_of}
-use Rattle.ncq_engine.proofs.EngineLaws.{Tells, accepts_quietly, keep_quiet, pairwise_any, pairwise_filter, refuses, told_nobody}
+use Rattle.ncq_engine.specs.History.{History, Source, Subscription, changes, creates as creates_of, is_named, live, source_in}
+use Rattle.ncq_engine.specs.Output.{is_taken, refused_if}
+use Rattle.ncq_engine.specs.Stands.{EngineState, Keeps}
+use Rattle.ncq_engine.proofs.EngineLaws.{accepts_quietly, keep_quiet, pairwise_any, pairwise_filter, refuses, told_nobody}
 use Rattle.ncq_engine.proofs.Places.{found_within, is_found, not_found, one_declared}
 use Rattle.ncq_engine.proofs.StoreLaws.{last_declared}
 

@@ -1,29 +1,24 @@
 -- What the engine stands for behind each kind of command: what all kinds share.
-use Rattle.std.proofs.Common.{◌≡◌, ℕ, zero, suc, ◌+◌, ◌<◌, ◌≤◌, Bool, true, false, not, ◌||◌, cond, List, [], ◌∷◌, ◌++◌, map, length, slice_get, slice_set, refl, sym, ◌∙◌, ap, subst, arith, true≢false, append_assoc, length-append}
-use Rattle.std.specs.Prelude.{Option, Some, None, Result, Ok, Err, codes, decimal, if◌then◌else◌, IfOk, OnOk, OnErr, nat_lt, is_some}
-use Rattle.std.specs.List.{filter, flat_map, list_any, AllByRecursion}
+use Rattle.std.proofs.Common.{◌≡◌, ℕ, ◌+◌, Bool, true, false, ◌||◌, cond, List, [], ◌∷◌, ◌++◌, length, refl, sym, ◌∙◌, ap, subst, true≢false, append_assoc, length-append}
+use Rattle.std.specs.Prelude.{Some, None, Result, Ok, Err, IfOk, OnOk, OnErr, nat_lt}
+use Rattle.std.specs.List.{filter, flat_map, list_any}
 use Rattle.std.proofs.lemmas.List.{append-nil}
-use Rattle.std.specs.Str.{bytes_eq}
 use Rattle.ncq_base.specs.Keys.{times}
 use Rattle.ncq_callback.specs.Labels.{Label}
-use Rattle.ncq_event.specs.declared.firing.Firing.{Firing}
-use Rattle.ncq_event.specs.Instants.{is_expired}
 use Rattle.ncq_event.specs.Orders.{ordered_by}
 use Rattle.ncq_script.specs.declared.command.Command.{Command}
 use Rattle.ncq_script.specs.declared.refusal.Refusal.{Refusal}
-use Rattle.ncq_source.specs.Stores.{Source as Declared, without_room}
-use Rattle.ncq_source.specs.StoreStates.{StoreState}
 use Rattle.ncq_engine.specs.declared.engine.Applied.{Applied}
 use Rattle.ncq_engine.specs.declared.engine.ApplyError.{ApplyError}
 use Rattle.ncq_engine.specs.declared.engine.ApplyError.TheVariants.{Refused, OutOfMemory}
 use Rattle.ncq_engine.specs.declared.member.Member.{Member}
-use Rattle.ncq_engine.specs.Applies.{Applies, Accepts, Refuses, WritesNotices, ok_text}
-use Rattle.ncq_engine.specs.Engines.{CanFire, Pairwise}
+use Rattle.ncq_engine.specs.Applies.{Applies, ok_text}
+use Rattle.ncq_engine.specs.Engines.{Pairwise}
 use Rattle.ncq_engine.specs.Firing.{fires}
-use Rattle.ncq_engine.specs.History.{History, Subscription, live, is_named, timing_of}
+use Rattle.ncq_engine.specs.History.{History, Subscription}
 use Rattle.ncq_engine.specs.Languages.{language_of}
-use Rattle.ncq_engine.specs.Notices.{firings, fired_at, notice_at, told}
-use Rattle.ncq_engine.specs.Output.{accepted_text, expired_text, first_refusal, notices}
+use Rattle.ncq_engine.specs.Notices.{fired_at, notice_at, told}
+use Rattle.ncq_engine.specs.Output.{expired_text, first_refusal, notices}
 use Rattle.ncq_engine.specs.Stands.{EngineState, Keeps, Stands}
 use Rattle.ncq_engine.proofs.Keeping.{keeps_quiet}
 

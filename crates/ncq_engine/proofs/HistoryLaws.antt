@@ -1,19 +1,18 @@
 -- Laws of histories: names, install numbers, marks of subscriptions that are not there yet, and histories up to a change.
-use Rattle.std.proofs.Common.{◌≡◌, ℕ, ◌+◌, ◌<◌, ◌≤◌, Bool, true, false, not, ◌&&◌, ◌==◌, List, [], ◌∷◌, ◌++◌, map, refl, sym, ◌∙◌, ap, arith, cond, true≢false}
-use Rattle.std.specs.Prelude.{Option, Some, None, nat_le, nat_lt, if◌then◌else◌}
+use Rattle.std.proofs.Common.{◌≡◌, ℕ, ◌+◌, ◌<◌, ◌≤◌, true, false, not, ◌&&◌, ◌==◌, List, [], ◌∷◌, refl, sym, ◌∙◌, arith}
+use Rattle.std.specs.Prelude.{Option, Some, None, nat_le, if◌then◌else◌}
 use Rattle.std.proofs.lemmas.Bool.Decides.{nat_tests}
-use Rattle.std.specs.List.{filter, AllByRecursion}
+use Rattle.std.specs.List.{AllByRecursion}
 use Rattle.std.specs.Ordering.{nat_cmp}
 use Rattle.std.specs.Cmp.{eq_by_cmp_equiv}
 use Rattle.std.specs.Cmp.Lexicographic.{slice_cmp, texts_ties, nat_list_cmp_total}
-use Rattle.ncq_base.specs.Keys.{times}
 use Rattle.std.specs.Str.{bytes_eq}
 use Rattle.ncq_base.proofs.Keyed.{bytes_apart}
 use Rattle.ncq_base.proofs.Totals.{is_equal}
 use Rattle.ncq_script.specs.declared.command.Command.{Command}
 use Rattle.ncq_script.specs.declared.command.Command.TheVariants.{Declare, Delta, Create, Delete, Clock, Report, Malformed}
 use Rattle.ncq_event.specs.Instants.{is_expired, due}
-use Rattle.ncq_engine.specs.History.{History, now, is_create, is_delta, changes, creates, up_to, Subscription, created, timing_of, is_named, live_after, live}
+use Rattle.ncq_engine.specs.History.{History, now, changes, creates, up_to, Subscription, created, timing_of, is_named, live}
 use Rattle.ncq_engine.specs.Firing.{is_installed, is_new, is_told_of, has_news, fires_at, marked, mark}
 use Rattle.ncq_engine.proofs.Lists.{each_more, each_push, each_filter}
 

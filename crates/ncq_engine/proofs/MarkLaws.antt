@@ -1,21 +1,20 @@
 -- A change-based subscription's mark is the greatest of the number at its first firing and the last changes of its sources.
-use Rattle.std.proofs.Common.{◌≡◌, ◌≢◌, ℕ, ◌+◌, ◌<◌, ◌≤◌, max, Bool, true, false, not, ◌&&◌, ◌||◌, ◌==◌, List, [], ◌∷◌, ◌++◌, map, refl, sym, ◌∙◌, ap, arith, cond, true≢false, ◌⊎◌, inl, inr}
+use Rattle.std.proofs.Common.{◌≡◌, ℕ, ◌<◌, ◌≤◌, max, Bool, true, false, ◌&&◌, ◌||◌, ◌==◌, List, [], ◌∷◌, refl, sym, ◌∙◌, ap, arith, true≢false, inl, inr}
 use Rattle.std.specs.Prelude.{Option, Some, None, nat_le, nat_lt, if◌then◌else◌}
 use Rattle.std.specs.Option.{option_map}
 use Rattle.std.proofs.lemmas.Bool.Decides.{nat_tests}
 use Rattle.std.specs.List.{list_any}
-use Rattle.ncq_base.specs.Keys.{times}
 use Rattle.std.specs.Str.{bytes_eq}
 use Rattle.ncq_base.proofs.Tests.{both_true}
 use Rattle.ncq_script.specs.declared.command.Command.{Command}
 use Rattle.ncq_script.specs.declared.command.Command.TheVariants.{Declare, Delta, Create, Delete, Clock, Report, Malformed}
-use Rattle.ncq_event.specs.Instants.{due, is_instant, IsLeastDue}
+use Rattle.ncq_event.specs.Instants.{due}
 use Rattle.std.proofs.lemmas.Bool.{cases_lt}
 use Rattle.ncq_event.proofs.DueLaws.{due_some, early}
-use Rattle.ncq_engine.specs.History.{History, moved, now, is_delta, is_delta_of, changes, creates, last_change, Subscription, timing_of}
+use Rattle.ncq_engine.specs.History.{History, moved, now, is_delta_of, changes, creates, last_change, Subscription, timing_of}
 use Rattle.ncq_engine.specs.Firing.{sources_of, is_installed, is_new, has_news, is_told_of, fires_at, marked, mark, fires}
-use Rattle.ncq_engine.specs.Marks.{first_marked, first_mark, latest_change, noted, mark_from, IsRising, MarksFollow}
-use Rattle.ncq_engine.proofs.HistoryLaws.{key_is, key_itself, never, not_yet, creates_grow}
+use Rattle.ncq_engine.specs.Marks.{first_marked, first_mark, latest_change, noted, mark_from, IsRising}
+use Rattle.ncq_engine.proofs.HistoryLaws.{key_is, key_itself, not_yet, creates_grow}
 
 -- no last change is above the number of changes
 pub last_few : (name : List ℕ) (history : History) → last_change name history ≤ changes history
@@ -249,7 +248,8 @@ based_mark s based (command ∷ before) rising =
     let e = based_mark s based before rising.1 in
     step s command before (first_few s before) (way s based before command rising.1 e) e
 
-pub marks_follow : MarksFollow
+pub marks_follow : (s : Subscription) (history : History) → IsRising history
+    → mark s history ≡ mark_from (noted s history) s history
 marks_follow s history rising =
     elim (s.statement.every == 0) as (λ t. s.statement.every == 0 ≡ t → mark s history ≡ (if t then option_map (λ first. max first (latest_change (sources_of s.statement) history)) (if t then first_mark s history else mark s history) else (if t then first_mark s history else mark s history))) [
       | true ↦ λ p. based_mark s p history rising

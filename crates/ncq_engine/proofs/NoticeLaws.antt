@@ -1,18 +1,15 @@
 -- What a member is told is what the notice of its subscription says.
-use Rattle.std.proofs.Common.{◌≡◌, ℕ, ◌+◌, ◌≤◌, Bool, true, false, cond, List, [], ◌∷◌, ◌++◌, map, refl, sym, ◌∙◌, ap, arith, slice_get}
-use Rattle.std.specs.Prelude.{Option, Some, None, Ok, if◌then◌else◌}
-use Rattle.std.specs.Option.{option_map, unwrap_or}
+use Rattle.std.proofs.Common.{◌≡◌, ℕ, true, false, List, [], ◌∷◌, ◌++◌, map, refl, sym, ◌∙◌, ap, arith}
+use Rattle.std.specs.Prelude.{Option, Some, None, Ok}
 use Rattle.std.specs.List.{filter}
-use Rattle.ncq_base.specs.Counts.{SameCounts, total_by}
+use Rattle.ncq_base.specs.Counts.{SameCounts}
 use Rattle.ncq_bag.specs.Bags.{difference}
-use Rattle.ncq_bag.specs.declared.bag.Difference.{Difference}
 use Rattle.ncq_bind.specs.Answers.{answer}
 use Rattle.ncq_bind.specs.Bindings.{Binds, Roots}
 use Rattle.ncq_bind.proofs.AnswerLaws.{plan_answers}
-use Rattle.ncq_callback.specs.Gathered.{answers, answer_of}
+use Rattle.ncq_callback.specs.Gathered.{answer_of}
 use Rattle.ncq_callback.specs.Labels.{Label}
 use Rattle.ncq_callback.proofs.TellLaws.{counts_tell}
-use Rattle.ncq_callback.specs.declared.notice.Kind.{Kind}
 use Rattle.ncq_change.specs.Stores.{world_in}
 use Rattle.ncq_plan.specs.declared.query.NormalQuery.{NormalQuery}
 use Rattle.ncq_plan.specs.Deltas.{signed}
@@ -20,7 +17,7 @@ use Rattle.ncq_plan.specs.Exprs.{World, rows_in}
 use Rattle.ncq_plan.specs.Plans.{plan_of}
 use Rattle.ncq_plan.specs.Residuals.{passes}
 use Rattle.ncq_plan.specs.Templates.{constructed}
-use Rattle.ncq_plan.specs.Totals.{SignedRow, LeadsTo, plus_total, minus_total}
+use Rattle.ncq_plan.specs.Totals.{SignedRow, LeadsTo}
 use Rattle.ncq_plan.proofs.CallerLemmas.{plus_total-append, minus_total-append}
 use Rattle.ncq_plan.proofs.DeltaLaws.{plus_total-signed, minus_total-signed}
 use Rattle.ncq_pyx.specs.Canonical.{pyx}
@@ -29,13 +26,12 @@ use Rattle.ncq_source.specs.StoreStates.{StoreState}
 use Rattle.ncq_script.specs.declared.command.Command.{Command}
 use Rattle.ncq_xmlql.specs.declared.model.Statement.{Statement}
 use Rattle.ncq_xmlql.specs.WellFormed.{IsWellFormed}
-use Rattle.ncq_event.specs.declared.firing.Firing.{Firing}
 use Rattle.ncq_engine.specs.declared.member.Member.{Member}
 use Rattle.ncq_engine.specs.Engines.{answers_in, rows_over, told_text}
 use Rattle.ncq_engine.specs.Firing.{mark}
-use Rattle.ncq_engine.specs.History.{History, Source, Subscription, sources, up_to, world}
+use Rattle.ncq_engine.specs.History.{History, Subscription, sources, up_to, world}
 use Rattle.ncq_engine.specs.Languages.{language_of}
-use Rattle.ncq_engine.specs.Notices.{answer_at, answer_over, kind_in, news, notice_at, rendered}
+use Rattle.ncq_engine.specs.Notices.{answer_at, answer_over, news, notice_at, rendered}
 use Rattle.ncq_engine.specs.Stands.{Keeps, rows_at}
 
 -- going from rows to others: each of the ones goes, and each of the others comes

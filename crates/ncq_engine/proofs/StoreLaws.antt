@@ -1,14 +1,12 @@
 -- The last changes of sources, behind a declaration and behind a change.
-use Rattle.std.proofs.Common.{◌≡◌, ℕ, zero, suc, ◌+◌, ◌<◌, arith, Bool, true, false, List, [], ◌∷◌, ◌++◌, map, length, slice_get, slice_set, refl, sym, ◌∙◌, ap, subst, true≢false}
-use Rattle.std.specs.Prelude.{Option, Some, None, if◌then◌else◌}
+use Rattle.std.proofs.Common.{◌≡◌, ℕ, zero, suc, ◌<◌, arith, true, false, List, [], ◌∷◌, ◌++◌, map, slice_get, slice_set, refl, sym, ◌∙◌, ap}
+use Rattle.std.specs.Prelude.{Some, None, if◌then◌else◌}
 use Rattle.std.specs.Str.{bytes_eq}
 use Rattle.ncq_source.specs.Stores.{Source as Declared, declared, without_room}
 use Rattle.ncq_source.specs.StoreStates.{StoreState, found}
 use Rattle.ncq_source.specs.declared.key.Key.{Key}
-use Rattle.ncq_change.specs.Stores.{source_named}
-use Rattle.ncq_change.proofs.CommitLaws.{found_name}
 use Rattle.ncq_engine.specs.Engines.{last_in, last_of}
-use Rattle.ncq_engine.proofs.HistoryLaws.{key_is, key_itself}
+use Rattle.ncq_engine.proofs.HistoryLaws.{key_is}
 use Rattle.ncq_engine.proofs.Worlds.{named, source_named_is}
 
 last_named : (store : StoreState) (name : List ℕ) → last_in store name ≡ last_of (named name store.sources)

@@ -1,8 +1,7 @@
 -- Who fires, in which order, and what they are told: the members against the subscriptions.
-use Rattle.std.proofs.Common.{◌≡◌, ℕ, suc, ◌+◌, ◌<◌, ◌≤◌, Bool, true, false, ◌==◌, ◌||◌, ◌&&◌, not, cond, List, [], ◌∷◌, ◌++◌, map, length, refl, sym, ◌∙◌, ap, arith, true≢false}
-use Rattle.std.specs.Prelude.{Option, Some, None, nat_lt, nat_le, if◌then◌else◌, is_some}
+use Rattle.std.proofs.Common.{◌≡◌, ℕ, ◌+◌, ◌<◌, ◌≤◌, Bool, true, false, not, cond, List, [], ◌∷◌, ◌++◌, map, length, refl, sym, ◌∙◌, ap, arith}
+use Rattle.std.specs.Prelude.{Option, Some, None, nat_lt, if◌then◌else◌}
 use Rattle.std.proofs.lemmas.Bool.Decides.{nat_tests}
-use Rattle.std.proofs.lemmas.List.{append-nil}
 use Rattle.std.specs.List.{filter, flat_map, AllByRecursion}
 use Rattle.ncq_base.specs.Keys.{times}
 use Rattle.ncq_callback.specs.Labels.{Label}
@@ -14,15 +13,15 @@ use Rattle.ncq_script.specs.declared.command.Command.TheVariants.{Declare, Delta
 use Rattle.ncq_source.specs.StoreStates.{StoreState}
 use Rattle.ncq_engine.specs.declared.member.Member.{Member}
 use Rattle.ncq_engine.specs.declared.telling.Told.{Told}
-use Rattle.ncq_engine.specs.Engines.{Pairwise, rows_over, told_at, told_text}
+use Rattle.ncq_engine.specs.Engines.{Pairwise, told_at}
 use Rattle.ncq_engine.specs.Firing.{fires}
 use Rattle.ncq_event.specs.Instants.{is_expired}
 use Rattle.ncq_engine.specs.History.{History, Subscription, created, creates, is_named, live, sources, timing_of, world}
 use Rattle.ncq_engine.specs.Languages.{language_of}
-use Rattle.ncq_engine.specs.Notices.{fired_at, firings, notice_at, told, with_new}
+use Rattle.ncq_engine.specs.Notices.{fired_at, firings, notice_at, told}
 use Rattle.ncq_engine.specs.Stands.{Keeps}
-use Rattle.ncq_engine.proofs.Lists.{each_filter, each_more, each_push, flat_map_append}
-use Rattle.ncq_engine.proofs.HistoryLaws.{Installed, installed}
+use Rattle.ncq_engine.proofs.Lists.{each_filter, each_push}
+use Rattle.ncq_engine.proofs.HistoryLaws.{installed}
 use Rattle.ncq_engine.proofs.NoticeLaws.{text_is}
 
 abbrev Fired : Type 0

@@ -1,8 +1,8 @@
 -- The sources of a history and those of a store: their worlds, their roots, and the world at a mark.
-use Rattle.std.proofs.Common.{◌≡◌, ℕ, zero, suc, ◌+◌, ◌<◌, ◌≤◌, Bool, true, false, cond, not, List, [], ◌∷◌, ◌++◌, map, length, slice_get, refl, sym, ◌∙◌, ap, arith, true≢false}
+use Rattle.std.proofs.Common.{◌≡◌, ℕ, suc, ◌+◌, ◌≤◌, true, false, cond, not, List, [], ◌∷◌, ◌++◌, map, length, slice_get, refl, sym, ◌∙◌, ap, arith, true≢false}
 use Rattle.std.specs.Prelude.{Option, Some, None, nat_le, nat_lt, if◌then◌else◌}
 use Rattle.std.specs.Option.{option_map, option_and_then}
-use Rattle.std.specs.List.{position, position_or_len}
+use Rattle.std.specs.List.{position_or_len}
 use Rattle.std.specs.FinMap.{empty, entries, len-entries, len-empty}
 use Rattle.std.proofs.lemmas.List.{nil_from_length}
 use Rattle.std.specs.Ordering.{nat_cmp}
@@ -10,16 +10,14 @@ use Rattle.std.specs.Cmp.Lexicographic.{slice_cmp}
 use Rattle.std.proofs.lemmas.Bool.Decides.{nat_tests}
 use Rattle.std.specs.Str.{bytes_eq}
 use Rattle.ncq_tree.specs.declared.model.Element.{Element}
-use Rattle.ncq_pyx.specs.declared.item.Item.{Item}
 use Rattle.ncq_source.specs.declared.key.Key.{Key}
 use Rattle.ncq_source.specs.Stores.{Source as Declared}
-use Rattle.ncq_source.specs.StoreStates.{StoreState, found, names}
-use Rattle.ncq_plan.specs.Exprs.{World}
-use Rattle.ncq_bind.specs.Bindings.{Roots, roots_in}
-use Rattle.ncq_change.specs.Stores.{source_named, kept_in, world_in, elements_of as kept_of}
+use Rattle.ncq_source.specs.StoreStates.{StoreState}
+use Rattle.ncq_bind.specs.Bindings.{roots_in}
+use Rattle.ncq_change.specs.Stores.{source_named, world_in, elements_of as kept_of}
 use Rattle.ncq_script.specs.declared.command.Command.{Command}
 use Rattle.ncq_script.specs.declared.command.Command.TheVariants.{Declare, Delta, Create, Delete, Clock, Report, Malformed}
-use Rattle.ncq_engine.specs.History.{History, Source, changes, elements_of, source_in, sources, sources_after, up_to, world}
+use Rattle.ncq_engine.specs.History.{History, Source, changes, elements_of, source_in, sources, up_to, world}
 use Rattle.ncq_engine.specs.Languages.{roots_of}
 use Rattle.ncq_engine.specs.Stands.{content_of}
 use Rattle.ncq_engine.proofs.HistoryLaws.{up_to_whole}

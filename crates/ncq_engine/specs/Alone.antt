@@ -1,12 +1,11 @@
 -- The notices of one subscriber, and the commands that are left without the others.
-use Rattle.std.specs.Prelude.{◌≡◌, ℕ, Bool, true, false, not, List, [], ◌∷◌, ◌++◌, Option, Some}
+use Rattle.std.specs.Prelude.{ℕ, Bool, false, not, List, [], ◌∷◌, ◌++◌, Option, Some}
 use Rattle.std.specs.Prelude.{None}
 use Rattle.std.specs.List.{flat_map, filter}
 use Rattle.std.specs.Str.{bytes_eq}
 use Rattle.ncq_script.specs.declared.refusal.Refusal.{Refusal}
 use Rattle.ncq_script.specs.declared.command.Command.{Command}
-use Rattle.ncq_script.specs.declared.command.Command.TheVariants.{Declare, Delta, Create, Delete}
-use Rattle.ncq_script.specs.declared.command.Command.TheVariants.{Clock, Report, Malformed}
+use Rattle.ncq_script.specs.declared.command.Command.TheVariants.{Create, Delete}
 use Rattle.ncq_engine.specs.History.{History, is_named}
 use Rattle.ncq_engine.specs.Notices.{Language, notice_at, told}
 use Rattle.ncq_engine.specs.Output.{first_refusal, after}
@@ -39,8 +38,3 @@ module _ (language : Language) where
   notes name history (command ∷ more) =
       unless_refused (first_refusal language history command) (notices_of name history command)
       ++ notes name (after language history command) more
-
--- the notices of a name are what they are without the other subscribers
-abbrev pub StandsAlone : Type 0
-StandsAlone = (language : Language) (name : List ℕ) (commands : List Command)
-    → notes language name [] commands ≡ notes language name [] (only name commands)

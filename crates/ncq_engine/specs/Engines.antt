@@ -1,19 +1,17 @@
 -- An engine and its subscriptions, as contracts see them, and what a firing makes of a
 -- subscription.
-use Rattle.std.specs.Prelude.{◌≡◌, ◌<◌, ◌≤◌, ◌==◌, ◌&&◌, ℕ, Bool, true, false, if◌then◌else◌, List, []}
+use Rattle.std.specs.Prelude.{◌≡◌, ◌<◌, ◌≤◌, ◌==◌, ◌&&◌, ℕ, Bool, true, false, if◌then◌else◌}
+use Rattle.std.specs.Prelude.{List, []}
 use Rattle.std.specs.Prelude.{◌∷◌, length}
 use Rattle.std.specs.Prelude.{Option, Some, None, nat_lt, nat_le, slice_get}
 use Rattle.std.specs.Option.{option_map}
-use Rattle.std.specs.List.{flat_map, list_any, AllByRecursion}
+use Rattle.std.specs.List.{list_any, AllByRecursion}
 use Rattle.std.specs.Str.{bytes_eq}
 use Rattle.ncq_base.specs.Counts.{SameCounts}
 use Rattle.ncq_bag.specs.Bags.{difference}
-use Rattle.ncq_bag.specs.declared.bag.Difference.{Difference}
 use Rattle.ncq_callback.specs.Gathered.{answers, answer_of}
 use Rattle.ncq_callback.specs.Labels.{Label}
 use Rattle.ncq_change.specs.Stores.{source_named, world_in}
-use Rattle.ncq_event.specs.declared.firing.Firing.{Firing}
-use Rattle.ncq_event.specs.declared.timing.Timing.{Timing}
 use Rattle.ncq_event.specs.Instants.{due}
 use Rattle.ncq_plan.specs.declared.query.NormalQuery.{NormalQuery}
 use Rattle.ncq_plan.specs.Exprs.{rows_in, expr_width}

@@ -1,5 +1,5 @@
 -- When a subscription fires, and its mark.
-use Rattle.std.specs.Prelude.{ℕ, ◌+◌, Bool, true, false, ◌==◌, ◌&&◌, nat_le, nat_lt, if◌then◌else◌}
+use Rattle.std.specs.Prelude.{ℕ, ◌+◌, Bool, true, ◌==◌, ◌&&◌, nat_le, nat_lt, if◌then◌else◌}
 use Rattle.std.specs.Prelude.{List, [], ◌∷◌, Option, Some, None}
 use Rattle.std.specs.List.{flat_map, list_any}
 use Rattle.std.specs.Str.{bytes_eq}
@@ -7,8 +7,8 @@ use Rattle.ncq_xmlql.specs.declared.model.QueryItem.{QueryItem}
 use Rattle.ncq_xmlql.specs.declared.model.QueryItem.TheVariants.{Match, Condition}
 use Rattle.ncq_xmlql.specs.declared.model.Statement.{Statement}
 use Rattle.ncq_script.specs.declared.command.Command.{Command}
-use Rattle.ncq_script.specs.declared.command.Command.TheVariants.{Declare, Delta, Create, Delete}
-use Rattle.ncq_script.specs.declared.command.Command.TheVariants.{Clock, Report, Malformed}
+use Rattle.ncq_script.specs.declared.command.Command.TheVariants.{Delta, Create}
+use Rattle.ncq_script.specs.declared.command.Command.TheVariants.{Clock}
 use Rattle.ncq_event.specs.Instants.{due}
 use Rattle.ncq_engine.specs.History.{History, now, changes, creates, last_change, Subscription}
 use Rattle.ncq_engine.specs.History.{timing_of}

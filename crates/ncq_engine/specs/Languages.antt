@@ -1,5 +1,5 @@
 -- The language of this engine: what queries answer, which of them bind, and its handlers.
-use Rattle.std.specs.Prelude.{ℕ, Bool, if◌then◌else◌, List, Option, Some, None}
+use Rattle.std.specs.Prelude.{if◌then◌else◌, List, Option, Some, None}
 use Rattle.std.specs.Option.{option_map}
 use Rattle.ncq_bind.specs.Answers.{answer}
 use Rattle.ncq_bind.specs.Bindings.{Roots, are_declared, have_roots}

@@ -1,9 +1,8 @@
 -- What has to be written down so that each mark is known: a change-based subscription's mark
 -- follows from its first firing and the last changes of its sources.
-use Rattle.std.specs.Prelude.{◌≡◌, ℕ, ◌≤◌, max, Bool, true, false, ◌==◌, if◌then◌else◌, List, []}
+use Rattle.std.specs.Prelude.{ℕ, ◌≤◌, max, ◌==◌, if◌then◌else◌, List, []}
 use Rattle.std.specs.Prelude.{◌∷◌, Option, Some, None}
 use Rattle.std.specs.Option.{option_map}
-use Rattle.ncq_script.specs.declared.command.Command.{Command}
 use Rattle.ncq_engine.specs.History.{History, moved, now, changes, last_change, Subscription}
 use Rattle.ncq_engine.specs.Firing.{sources_of, marked, mark, fires}
 
@@ -38,8 +37,3 @@ mark_from note s history = if s.statement.every == 0 then option_map
 abbrev pub IsRising : History → Type 0
 IsRising [] = Unit {0}
 IsRising (command ∷ before) = (now before ≤ moved command (now before)) × IsRising before
-
--- each mark follows from what is written down
-abbrev pub MarksFollow : Type 0
-MarksFollow = (s : Subscription) (history : History) → IsRising history
-    → mark s history ≡ mark_from (noted s history) s history

@@ -10,10 +10,8 @@ use Rattle.ncq_bag.specs.declared.bag.Difference.{Difference}
 use Rattle.ncq_callback.specs.declared.notice.Kind.{Kind}
 use Rattle.ncq_callback.specs.Texts.{render}
 use Rattle.ncq_xmlql.specs.declared.model.Query.{Query}
-use Rattle.ncq_xmlql.specs.declared.model.Statement.{Statement}
 use Rattle.ncq_script.specs.declared.command.Command.{Command}
-use Rattle.ncq_script.specs.declared.command.Command.TheVariants.{Declare, Delta, Create, Delete}
-use Rattle.ncq_script.specs.declared.command.Command.TheVariants.{Clock, Report, Malformed}
+use Rattle.ncq_script.specs.declared.command.Command.TheVariants.{Create}
 use Rattle.ncq_script.specs.declared.refusal.Refusal.{Refusal}
 use Rattle.ncq_event.specs.declared.firing.Firing.{Firing}
 use Rattle.ncq_event.specs.Orders.{ordered_by}

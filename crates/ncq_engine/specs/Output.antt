@@ -1,5 +1,5 @@
 -- What is written for commands: the answer of each in turn.
-use Rattle.std.specs.Prelude.{ℕ, ◌+◌, Bool, true, false, not, if◌then◌else◌, nat_lt, ◌||◌, List, []}
+use Rattle.std.specs.Prelude.{ℕ, ◌+◌, Bool, true, false, not, nat_lt, List, []}
 use Rattle.std.specs.Prelude.{◌∷◌, ◌++◌, codes, Option, Some, None, decimal}
 use Rattle.std.specs.Option.{is_some, is_none}
 use Rattle.std.specs.List.{flat_map, filter, list_any}

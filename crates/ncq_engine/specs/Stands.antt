@@ -1,5 +1,6 @@
 -- The engine stands for a history.
-use Rattle.std.specs.Prelude.{◌≡◌, ◌≤◌, ℕ, List, [], Option, Some, None, Ok, slice_get, map, length, refl}
+use Rattle.std.specs.Prelude.{◌≡◌, ℕ, List, [], Option, Some, None, Ok, slice_get, map}
+use Rattle.std.specs.Prelude.{refl}
 use Rattle.std.specs.Option.{option_map, unwrap_or}
 use Rattle.std.specs.Coded.{Coded, code_by, coded×, coded_ℕ, coded_list}
 use Rattle.ncq_base.specs.Counts.{SameCounts}

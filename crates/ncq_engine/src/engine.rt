@@ -153,6 +153,14 @@ impl Engine {
         self.members.len()
     }
 
+    /// Answers a command. Ok appends the answer of an accepted one: the line `<k> ok` with its number,
+    /// the notices by instant and then by install number, and a line for each subscription that
+    /// expires. `Refused` comes exactly with the first refusal that the command meets; then `out` is
+    /// as before, and the engine stands for what it stood for. Either counts the command. After want
+    /// of memory the engine can only be dropped.
+    ///
+    /// The handlers are those that the engine was made for. The command is one that a `ScriptReader`
+    /// gives: the elements that it puts are proper, and its statement is well formed.
     pub fn apply<L: Ledger>(
         &mut self,
         alloc: Global,
@@ -466,7 +474,8 @@ fn action_of(handlers: &Handlers, statement: &Statement) -> Option<usize>
         (kind_at (labels handlers.now.items.items (λ h. h.name) (λ h. h.kind)) at
         ≡ kind_in statement.now.action
         (labels handlers.now.items.items (λ h. h.name) (λ h. h.kind)))
-        × (is_at_odds (kind_at (labels handlers.now.items.items (λ h. h.name) (λ h. h.kind)) at) statement.now.argument ≡ false)) }
+        × (is_at_odds (kind_at (labels handlers.now.items.items (λ h. h.name) (λ h. h.kind)) at)
+        statement.now.argument ≡ false)) }
     ensures within { IfSome result
         (λ at. at < length (labels handlers.now.items.items (λ h. h.name) (λ h. h.kind))) }
     ensures none { IfNone result
@@ -535,7 +544,8 @@ fn asked_by(alloc: Global, items: &[QueryItem]) -> Result<Sequence<Bytes>, Alloc
 /// Appends the lines of those that expire at a move of the clock.
 fn write_expired(members: &[Member], instant: u64, out: &mut Vec<u8>) -> Result<(), AllocError>
     ensures { OnOk result (out.new.items ≡ out.old.items
-        ++ flat_map (λ m. expired_name m.name) (filter (λ m. is_expired m.timing instant) members.now)) }
+        ++ flat_map (λ m. expired_name m.name)
+        (filter (λ m. is_expired m.timing instant) members.now)) }
 {
     for member in members {
         if is_expired(&member.timing, instant) {

@@ -1,14 +1,21 @@
 //! Laws of histories: each function's contract is the law, and it does nothing.
-ghost use Rattle.ncq_engine.specs.Alone.{StandsAlone};
-ghost use Rattle.ncq_engine.specs.Marks.{MarksFollow};
+ghost use Rattle.std.specs.Prelude.{◌≡◌, ℕ, List, []};
+ghost use Rattle.ncq_script.specs.declared.command.Command.{Command};
+ghost use Rattle.ncq_engine.specs.Alone.{notes, only};
+ghost use Rattle.ncq_engine.specs.Firing.{mark};
+ghost use Rattle.ncq_engine.specs.History.{History, Subscription};
+ghost use Rattle.ncq_engine.specs.Marks.{IsRising, mark_from, noted};
+ghost use Rattle.ncq_engine.specs.Notices.{Language};
 
 /// The notices of one name are what they are without the creates and deletes of all others.
 pub fn subscribers_are_apart()
-    ensures { StandsAlone }
+    ensures { (language : Language) (name : List ℕ) (commands : List Command)
+        → notes language name [] commands ≡ notes language name [] (only name commands) }
 {}
 
-/// A change-based subscription's mark is the greatest of the number at its first firing and the
-/// last changes of its sources.
+/// Where no command moves the clock back, a change-based subscription's mark is the greatest of the
+/// number at its first firing and the last changes of its sources: no change has to write it.
 pub fn marks_follow()
-    ensures { MarksFollow }
+    ensures { (s : Subscription) (history : History) → IsRising history
+        → mark s history ≡ mark_from (noted s history) s history }
 {}

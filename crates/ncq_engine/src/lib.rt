@@ -1,4 +1,12 @@
-//! The engine.
+//! The engine: commands come in one by one, and out goes the answer to each.
+//!
+//! What is answered is defined by the history of the accepted commands alone: the sources, the
+//! clock, the live subscriptions, when each fires, and what its answer over the whole sources gained
+//! and lost since its latest firing. The engine stands for that history (`specs/Stands`): its store
+//! has the sources, and each subscription keeps its normal query and the rows of its plan at its
+//! latest firing. A firing makes the rows of the plan anew by walking it over the store; nothing is
+//! shared between subscriptions yet. `report` is refused as not built yet: that is the one command
+//! whose answer is not that of the whole language.
 #![tactic(auto)]
 
 mod engine;

@@ -43,7 +43,8 @@ pub(crate) fn tell_changed<L: Ledger>(
     ensures can { OnOk result (AllByRecursion
         (CanFire (labels handlers.now.items.items (λ h. h.name) (λ h. h.kind))) members.new) }
     ensures text { OnOk result (out.new.items ≡ out.old.items
-        ++ flat_map (changed_text (labels handlers.now.items.items (λ h. h.name) (λ h. h.kind)) store.now source.now now) members.old) }
+        ++ flat_map (changed_text (labels handlers.now.items.items (λ h. h.name) (λ h. h.kind))
+        store.now source.now now) members.old) }
     ensures notices { IfOk result (λ n. n ≡ times
         (λ m. nat_lt 0 (length (changed_text
         (labels handlers.now.items.items (λ h. h.name) (λ h. h.kind)) store.now source.now now
@@ -78,7 +79,8 @@ fn fire_due<L: Ledger>(
     ensures can { OnOk result (AllByRecursion
         (CanFire (labels handlers.now.items.items (λ h. h.name) (λ h. h.kind))) members.new) }
     ensures told { IfOk result (λ told. told.items
-        ≡ flat_map (moved_told (labels handlers.now.items.items (λ h. h.name) (λ h. h.kind)) store.now now to) members.old) }
+        ≡ flat_map (moved_told (labels handlers.now.items.items (λ h. h.name) (λ h. h.kind))
+        store.now now to) members.old) }
 {
     let mut told = Vec::new(alloc);
     for member in members.iter_mut() {

@@ -1,4 +1,4 @@
-use Rattle.std.proofs.Common.{◌≡◌, ◌++◌, List, [], ℕ, length, get_or, ◌+◌, ◌<◌, arith, sym, ◌∙◌, ap}
+use Rattle.std.proofs.Common.{◌≡◌, ◌++◌, List, [], ℕ, length, get_or, ◌<◌, arith, sym, ◌∙◌, ap}
 use Rattle.std.specs.Prelude.{Some, None, is_some}
 use Rattle.std.proofs.lemmas.List.{append-nil, set-get_or}
 use Rattle.ncq_callback.specs.Labels.{labels}

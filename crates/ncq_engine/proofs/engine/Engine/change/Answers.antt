@@ -1,14 +1,11 @@
-use Rattle.std.proofs.Common.{◌≡◌, ◌≤◌, ◌<◌, ◌+◌, ◌∙◌, ◌++◌, ap, subst, sym, refl, arith, rules, List, length, take, drop, Some, ℕ}
-use Rattle.std.specs.Prelude.{Ok, Err, Result, Option, IfSome}
+use Rattle.std.proofs.Common.{◌≡◌, ◌≤◌, ◌+◌, ◌∙◌, ◌++◌, ap, subst, sym, refl, arith, rules, List, length, take, drop, Some}
+use Rattle.std.specs.Prelude.{Ok, IfSome}
 use Rattle.std.specs.List.{AllByRecursion}
 use Rattle.ncq_callback.specs.Labels.{Label}
 use Rattle.ncq_script.specs.declared.command.Command.TheVariants.{Delta}
-use Rattle.ncq_source.specs.ChangeStates.{ChangeState}
-use Rattle.ncq_source.specs.Stores.{Source as Declared}
 use Rattle.ncq_source.specs.StoreStates.{StoreState, IsCommitted, found}
-use Rattle.ncq_engine.specs.declared.member.Member.{Member}
-use Rattle.ncq_engine.specs.Applies.{ok_text, change_refusal}
-use Rattle.ncq_engine.specs.Engines.{CanFire, Pairwise, FiresIf, is_told_change}
+use Rattle.ncq_engine.specs.Applies.{change_refusal}
+use Rattle.ncq_engine.specs.Engines.{CanFire, FiresIf, is_told_change}
 use Rattle.ncq_engine.specs.Stands.{EngineState}
 use Rattle.ncq_engine.proofs.CommandLaws.{engine, AreOnRoll, told_as}
 use Rattle.ncq_engine.proofs.ChangeLaws.{change_accepted, change_refused, good_entries}

@@ -1,7 +1,6 @@
-use Rattle.std.proofs.Common.{◌≡◌, ◌∙◌, ap, subst, sym, refl, ◌+◌}
-use Rattle.std.specs.Prelude.{Err, Ok, Result}
+use Rattle.std.proofs.Common.{◌∙◌, ap, refl, ◌+◌}
+use Rattle.std.specs.Prelude.{Err}
 use Rattle.ncq_script.specs.declared.command.Command.TheVariants.{Declare}
-use Rattle.ncq_source.specs.declared.store.DeclareError.{DeclareError}
 use Rattle.ncq_engine.proofs.CommandLaws.{declare_accepted, declare_refused, told_as, not_exists, engine}
 use Rattle.ncq_source.specs.StoreStates.{StoreState}
 use Rattle.ncq_engine.proofs.engine.Engine.declare.Goals as goal

@@ -1,5 +1,5 @@
-use Rattle.std.proofs.Common.{◌≡◌, ◌∙◌, ◌+◌, ap, subst, sym, refl, List, not, rules, true, false}
-use Rattle.std.specs.Prelude.{Ok, Result}
+use Rattle.std.proofs.Common.{◌≡◌, ◌∙◌, ◌+◌, ap, subst, sym, refl, List, not, true, false}
+use Rattle.std.specs.Prelude.{Result}
 use Rattle.std.specs.List.{list_any, filter}
 use Rattle.std.specs.Str.{bytes_eq}
 use Rattle.ncq_script.specs.declared.command.Command.TheVariants.{Delete}
@@ -7,7 +7,6 @@ use Rattle.ncq_engine.specs.declared.member.Member.{Member}
 use Rattle.ncq_engine.specs.declared.engine.Applied.{Applied}
 use Rattle.ncq_engine.specs.declared.engine.ApplyError.{ApplyError}
 use Rattle.ncq_engine.specs.Applies.{Applies}
-use Rattle.ncq_engine.specs.Stands.{EngineState}
 use Rattle.ncq_engine.proofs.CommandLaws.{delete_accepted, delete_refused, told_as, engine, roll_filter, other_members}
 use Rattle.ncq_engine.proofs.engine.Engine.delete.Goals as goal
 
