@@ -1,8 +1,5 @@
 mod EndLaws
-pub mod Engines
-pub mod HistoryLaws
-pub mod Locating
+pub mod Answering
 pub mod Outputs
 pub mod Turns
-pub mod WeightLaws
 pub mod Words

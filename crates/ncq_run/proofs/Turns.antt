@@ -7,16 +7,19 @@ use Rattle.std.proofs.lemmas.List.{take-append-drop, take-take, length-take, app
 use Rattle.std.proofs.Math.Seq.{take-append_seam}
 use Rattle.ncq_outside.specs.Causes.{Rose, RoseBy}
 use Rattle.ncq_outside.proofs.CallerLemmas.{RoseBy-at_least, RoseBy-at_most}
-use Rattle.ncq_source.specs.StoreStates.{StoreState}
-use Rattle.ncq_script.specs.Script.{whole_script}
+use Rattle.ncq_script.specs.Script.{script, whole_script}
 use Rattle.ncq_script.specs.ScriptReading.{ScriptState, FollowsScript, limit_of}
 use Rattle.ncq_script.proofs.CallerLemmas.{whole_script-nil}
-use Rattle.ncq_run.specs.declared.command.Subscription.{Subscription}
-use Rattle.ncq_run.specs.Stands.{Stands}
+use Rattle.ncq_callback.specs.Labels.{Label}
+use Rattle.ncq_engine.specs.Languages.{language_of}
+use Rattle.ncq_engine.specs.Notices.{Language}
+use Rattle.ncq_engine.specs.Output.{history_of}
+use Rattle.ncq_engine.specs.Stands.{EngineState, Stands}
 use Rattle.ncq_run.proofs.Outputs.{nothing_whole, nothing_happened}
 use Rattle.ncq_run.specs.Output.{output_of, output_of_whole, history_of_whole}
-use Rattle.ncq_run.specs.Status.{Told, told, IsDone, IsReadFault, IsWriteFault, IsTooLong, IsOutOfMemory, AppendsPrefix, AppendsProperPrefix}
+use Rattle.ncq_run.specs.Status.{Told, told, Ended, StandsForAll, IsDone, IsReadFault, IsWriteFault, IsTooLong, IsOutOfMemory, AppendsPrefix, AppendsProperPrefix}
 use Rattle.ncq_run.specs.Session.{SoFar}
+use Rattle.ncq_run.specs.declared.session.Status.{Status}
 
 with_rest : (a b : Option (List ℕ)) (bs : List ℕ) (P : List ℕ → Type 0) → Consumes a b bs → ((rest : List ℕ) → P (bs ++ rest)) → IfSome a P
 with_rest None b bs P h p = tt
@@ -33,9 +36,9 @@ split_piece bytes buffer rest inside n le =
 rose_later : (a b c : ℕ) → a ≤ b → Rose b c → Rose a c
 rose_later a b c le rose = omega arith
 
-module _ (reader : ScriptState) (store : StoreState) (live : List Subscription) (count taken most : ℕ) (start : Told) (left held : Option (List ℕ)) (given rf wf : ℕ) (so : SoFar reader store live count taken start (told left held given rf wf)) (within : taken ≤ most)
+module _ (language : Language) (reader : ScriptState) (engine : EngineState) (taken most : ℕ) (start : Told) (left held : Option (List ℕ)) (given rf wf : ℕ) (so : SoFar language reader engine taken start (told left held given rf wf)) (within : taken ≤ most)
     (left' held' : Option (List ℕ)) (given' rf' wf' : ℕ) where
-  pub turn_read_fault : Keeps left left' → Rose rf rf' → IsReadFault (limit_of reader) start (told left' held given' rf' wf)
+  pub turn_read_fault : Keeps left left' → Rose rf rf' → IsReadFault language (limit_of reader) start (told left' held given' rf' wf)
   turn_read_fault kept rose = record { rose = rose_later _ _ _ so.read_later rose; bytes = so.bytes; read = Consumes-kept _ _ _ _ so.read kept; written = so.written }
 
   module _ (buffer : List ℕ) (n : ℕ) (read : Consumes left left' (take n buffer)) where
@@ -44,22 +47,28 @@ module _ (reader : ScriptState) (store : StoreState) (live : List Subscription) 
         let e : so.bytes ++ take n buffer ≡ so.bytes = ap (λ (k : ℕ). so.bytes ++ take k buffer) none ∙ append-nil so.bytes in
         subst (λ (bs : List ℕ). Consumes start.left left' bs) e (Consumes-trans _ _ _ _ _ so.read read)
 
-    pub turn_done : n ≡ 0 → IsAtEnd left' → RoseBy given n given' → Appends start.held held' (output_of (limit_of reader) so.bytes) → IsDone (limit_of reader) most start (told left' held' given' rf' wf')
+    pub turn_done : n ≡ 0 → IsAtEnd left' → RoseBy given n given' → Appends start.held held' (output_of language (limit_of reader) so.bytes) → IsDone language (limit_of reader) most start (told left' held' given' rf' wf')
     turn_done none end rose written = record {
       at_end = end;
-      written = Consumes-whole start.left left' so.bytes (λ script. Appends start.held held' (output_of (limit_of reader) script)) (all_read none) end written;
+      written = Consumes-whole start.left left' so.bytes (λ script. Appends start.held held' (output_of language (limit_of reader) script)) (all_read none) end written;
       within = omega (arith, so.given.at_most, RoseBy-at_most _ _ _ rose);
     }
 
-    pub end_out_of_memory : n ≡ 0 → IsAtEnd left' → AppendsPrefix start.held held' (output_of (limit_of reader) so.bytes) → IsOutOfMemory (limit_of reader) start (told left' held' given' rf' wf')
+    pub turn_stands : n ≡ 0 → IsAtEnd left' → (engine' : EngineState) → Stands engine' (history_of language [] (script (limit_of reader) so.bytes)) → engine'.count ≡ length (script (limit_of reader) so.bytes)
+        → StandsForAll language (limit_of reader) start.left engine'
+    turn_stands none end engine' stands counted =
+        Consumes-whole start.left left' so.bytes (λ bytes. Stands engine' (history_of language [] (script (limit_of reader) bytes)) × (engine'.count ≡ length (script (limit_of reader) bytes)))
+        (all_read none) end (stands, counted)
+
+    pub end_out_of_memory : n ≡ 0 → IsAtEnd left' → AppendsPrefix start.held held' (output_of language (limit_of reader) so.bytes) → IsOutOfMemory language (limit_of reader) start (told left' held' given' rf' wf')
     end_out_of_memory none end written = record {
-      written = Consumes-whole start.left left' so.bytes (λ script. AppendsPrefix start.held held' (output_of (limit_of reader) script)) (all_read none) end written;
+      written = Consumes-whole start.left left' so.bytes (λ script. AppendsPrefix start.held held' (output_of language (limit_of reader) script)) (all_read none) end written;
     }
 
-    pub end_write_fault : n ≡ 0 → IsAtEnd left' → Rose wf wf' → AppendsProperPrefix start.held held' (output_of (limit_of reader) so.bytes) → IsWriteFault (limit_of reader) start (told left' held' given' rf' wf')
+    pub end_write_fault : n ≡ 0 → IsAtEnd left' → Rose wf wf' → AppendsProperPrefix start.held held' (output_of language (limit_of reader) so.bytes) → IsWriteFault language (limit_of reader) start (told left' held' given' rf' wf')
     end_write_fault none end rose written = record {
       rose = rose_later _ _ _ so.write_later rose;
-      written = Consumes-whole start.left left' so.bytes (λ script. AppendsProperPrefix start.held held' (output_of (limit_of reader) script)) (all_read none) end written;
+      written = Consumes-whole start.left left' so.bytes (λ script. AppendsProperPrefix start.held held' (output_of language (limit_of reader) script)) (all_read none) end written;
     }
 
     module _ (inside : ℕ) (le : inside ≤ n) where
@@ -67,38 +76,38 @@ module _ (reader : ScriptState) (store : StoreState) (live : List Subscription) 
       over_rest P p = with_rest start.left left' (so.bytes ++ take n buffer) P (Consumes-trans _ _ _ _ _ so.read read)
           (λ rest. subst P (sym (split_piece so.bytes buffer rest inside n le)) (p (drop inside (take n buffer) ++ rest)))
 
-      pub turn_out_of_memory : ((more : List ℕ) → AppendsPrefix start.held held' (output_of (limit_of reader) ((so.bytes ++ take inside buffer) ++ more))) → IsOutOfMemory (limit_of reader) start (told left' held' given' rf' wf')
-      turn_out_of_memory p = record { written = over_rest (λ script. AppendsPrefix start.held held' (output_of (limit_of reader) script)) p }
+      pub turn_out_of_memory : ((more : List ℕ) → AppendsPrefix start.held held' (output_of language (limit_of reader) ((so.bytes ++ take inside buffer) ++ more))) → IsOutOfMemory language (limit_of reader) start (told left' held' given' rf' wf')
+      turn_out_of_memory p = record { written = over_rest (λ script. AppendsPrefix start.held held' (output_of language (limit_of reader) script)) p }
 
-      pub turn_write_fault : Rose wf wf' → ((more : List ℕ) → AppendsProperPrefix start.held held' (output_of (limit_of reader) ((so.bytes ++ take inside buffer) ++ more))) → IsWriteFault (limit_of reader) start (told left' held' given' rf' wf')
-      turn_write_fault rose p = record { rose = rose_later _ _ _ so.write_later rose; written = over_rest (λ script. AppendsProperPrefix start.held held' (output_of (limit_of reader) script)) p }
+      pub turn_write_fault : Rose wf wf' → ((more : List ℕ) → AppendsProperPrefix start.held held' (output_of language (limit_of reader) ((so.bytes ++ take inside buffer) ++ more))) → IsWriteFault language (limit_of reader) start (told left' held' given' rf' wf')
+      turn_write_fault rose p = record { rose = rose_later _ _ _ so.write_later rose; written = over_rest (λ script. AppendsProperPrefix start.held held' (output_of language (limit_of reader) script)) p }
 
-      pub turn_too_long : n ≤ length buffer → RoseBy given n given' → inside ≡ min n (most - taken) → most - taken < n → Appends start.held held' (output_of_whole (limit_of reader) (so.bytes ++ take inside buffer))
-          → IsTooLong (limit_of reader) most start (told left' held' given' rf' wf')
+      pub turn_too_long : n ≤ length buffer → RoseBy given n given' → inside ≡ min n (most - taken) → most - taken < n → Appends start.held held' (output_of_whole language (limit_of reader) (so.bytes ++ take inside buffer))
+          → IsTooLong language (limit_of reader) most start (told left' held' given' rf' wf')
       turn_too_long room rose small long written =
           let full : most ≡ length (so.bytes ++ take inside buffer) = omega (arith, length-append so.bytes (take inside buffer), length-take inside buffer, so.long) in
           record {
             more = omega (arith, so.given.at_least, RoseBy-at_least _ _ _ rose);
             long = with_rest start.left left' (so.bytes ++ take n buffer) (λ script. most < length script) (Consumes-trans _ _ _ _ _ so.read read)
                 (λ rest. omega (arith, length-append (so.bytes ++ take n buffer) rest, length-append so.bytes (take n buffer), length-take n buffer, so.long));
-            written = over_rest (λ script. Appends start.held held' (output_of_whole (limit_of reader) (take most script)))
+            written = over_rest (λ script. Appends start.held held' (output_of_whole language (limit_of reader) (take most script)))
                 (λ more. let e : take most ((so.bytes ++ take inside buffer) ++ more) ≡ so.bytes ++ take inside buffer = ap (λ (k : ℕ). take k ((so.bytes ++ take inside buffer) ++ more)) full ∙ take-append_seam (so.bytes ++ take inside buffer) more in
-                subst (λ (bs : List ℕ). Appends start.held held' (output_of_whole (limit_of reader) bs)) (sym e) written);
+                subst (λ (bs : List ℕ). Appends start.held held' (output_of_whole language (limit_of reader) bs)) (sym e) written);
           }
 
-    pub turn_goes_on : (reader' : ScriptState) (store' : StoreState) (live' : List Subscription) (count' inside : ℕ) → inside ≡ n → n ≤ length buffer → RoseBy given n given' → rf ≤ rf' → wf ≤ wf' → (limit_of reader') ≡ (limit_of reader)
-        → FollowsScript reader' (so.bytes ++ take inside buffer) count' → count' ≡ length (whole_script (limit_of reader) (so.bytes ++ take inside buffer))
-        → Stands store' live' (history_of_whole (limit_of reader) (so.bytes ++ take inside buffer))
-        → Appends start.held held' (output_of_whole (limit_of reader) (so.bytes ++ take inside buffer))
-        → SoFar reader' store' live' count' (taken + n) start (told left' held' given' rf' wf')
-    turn_goes_on reader' store' live' count' inside same room rose later later' e follows counted stands written = record {
+    pub turn_goes_on : (reader' : ScriptState) (engine' : EngineState) (inside : ℕ) → inside ≡ n → n ≤ length buffer → RoseBy given n given' → rf ≤ rf' → wf ≤ wf' → (limit_of reader') ≡ (limit_of reader)
+        → FollowsScript reader' (so.bytes ++ take inside buffer) engine'.count → engine'.count ≡ length (whole_script (limit_of reader) (so.bytes ++ take inside buffer))
+        → Stands engine' (history_of_whole language (limit_of reader) (so.bytes ++ take inside buffer))
+        → Appends start.held held' (output_of_whole language (limit_of reader) (so.bytes ++ take inside buffer))
+        → SoFar language reader' engine' (taken + n) start (told left' held' given' rf' wf')
+    turn_goes_on reader' engine' inside same room rose later later' e follows counted stands written = record {
       bytes = so.bytes ++ take inside buffer;
       follows = follows;
       long = omega (arith, length-append so.bytes (take inside buffer), length-take inside buffer, so.long);
       counted = counted ∙ ap (λ (l : ℕ). length (whole_script l (so.bytes ++ take inside buffer))) (sym e);
-      stands = subst (λ (l : ℕ). Stands store' live' (history_of_whole l (so.bytes ++ take inside buffer))) (sym e) stands;
+      stands = subst (λ (l : ℕ). Stands engine' (history_of_whole language l (so.bytes ++ take inside buffer))) (sym e) stands;
       read = subst (λ (k : ℕ). Consumes start.left left' (so.bytes ++ take k buffer)) (sym same) (Consumes-trans _ _ _ _ _ so.read read);
-      written = subst (λ (l : ℕ). Appends start.held held' (output_of_whole l (so.bytes ++ take inside buffer))) (sym e) written;
+      written = subst (λ (l : ℕ). Appends start.held held' (output_of_whole language l (so.bytes ++ take inside buffer))) (sym e) written;
       given = record { at_least = omega (arith, so.given.at_least, RoseBy-at_least _ _ _ rose); at_most = omega (arith, so.given.at_most, RoseBy-at_most _ _ _ rose) };
       read_later = omega (arith, so.read_later, later);
       write_later = omega (arith, so.write_later, later');
@@ -107,21 +116,32 @@ module _ (reader : ScriptState) (store : StoreState) (live : List Subscription) 
 pub written_back : (len : ℕ) (new items : List ℕ) → length new ≡ len → take len (new ++ drop (length new) items) ≡ new
 written_back len new items same = rw (← same) (take-append_seam new (drop (length new) items))
 
-pub nothing_written : (left held : Option (List ℕ)) (limit : ℕ) → IfSome left (λ script. AppendsPrefix held held (output_of limit script))
-nothing_written None held limit = tt
-nothing_written (Some script) held limit = ([], output_of limit script, refl, Appends-nil held)
+pub nothing_written : (language : Language) (left held : Option (List ℕ)) (limit : ℕ) → IfSome left (λ script. AppendsPrefix held held (output_of language limit script))
+nothing_written language None held limit = tt
+nothing_written language (Some script) held limit = ([], output_of language limit script, refl, Appends-nil held)
 
-pub at_start : (reader : ScriptState) (store : StoreState) (live : List Subscription) (left held : Option (List ℕ)) (given rf wf : ℕ) → FollowsScript reader [] 0 → Stands store live []
-    → SoFar reader store live 0 0 (told left held given rf wf) (told left held given rf wf)
-at_start reader store live left held given rf wf follows stands = record {
+pub at_start : (language : Language) (reader : ScriptState) (engine : EngineState) (left held : Option (List ℕ)) (given rf wf : ℕ) → FollowsScript reader [] engine.count → engine.count ≡ 0 → Stands engine []
+    → SoFar language reader engine 0 (told left held given rf wf) (told left held given rf wf)
+at_start language reader engine left held given rf wf follows none stands = record {
   bytes = [];
   follows = follows;
   long = refl;
-  counted = sym (ap length (whole_script-nil (limit_of reader)));
-  stands = rw (nothing_happened (limit_of reader)) stands;
+  counted = none ∙ sym (ap length (whole_script-nil (limit_of reader)));
+  stands = rw (nothing_happened language (limit_of reader)) stands;
   read = Consumes-nil left;
-  written = rw (nothing_whole (limit_of reader)) (Appends-nil held);
+  written = rw (nothing_whole language (limit_of reader)) (Appends-nil held);
   given = record { at_least = omega arith; at_most = omega arith };
   read_later = omega arith;
   write_later = omega arith;
 }
+
+-- labels that stay leave the language
+module _ (labels labels' : List Label) (same : labels ≡ labels') where
+  pub so_far_same : (reader : ScriptState) (engine : EngineState) (taken : ℕ) (start now : Told) → SoFar (language_of labels) reader engine taken start now → SoFar (language_of labels') reader engine taken start now
+  so_far_same reader engine taken start now so = subst (λ (ls : List Label). SoFar (language_of ls) reader engine taken start now) same so
+
+  pub ended_same : (limit limit' most most' : ℕ) (start now : Told) (status : Status) → limit ≡ limit' → most ≡ most' → Ended (language_of labels) limit most start now status → Ended (language_of labels') limit' most' start now status
+  ended_same limit limit' most most' start now status e f ended = rw (← same, ← e, ← f) ended
+
+  pub stands_same : (limit limit' : ℕ) (left : Option (List ℕ)) (engine : EngineState) → limit ≡ limit' → StandsForAll (language_of labels) limit left engine → StandsForAll (language_of labels') limit' left engine
+  stands_same limit limit' left engine e stands = rw (← same, ← e) stands

@@ -1,10 +1,4 @@
-pub mod Built
-pub mod History
 pub mod Limits
-pub mod Answer
-pub mod Firing
 pub mod Output
-pub mod Weights
-pub mod Stands
-pub mod Session
 pub mod Status
+pub mod Session

@@ -1,13 +1,20 @@
 -- What each status says of the source and the sink, before and after.
-use Rattle.std.specs.Prelude.{◌≡◌, ◌+◌, ◌<◌, ◌≤◌, ◌-◌, ◌^◌, min, ℕ, List, [], ◌∷◌, ◌++◌, length, take, map, codes, Option, Some, IfSome, ◌⊎◌}
+use Rattle.std.specs.Prelude.{◌≡◌, ◌+◌, ◌<◌, ◌≤◌, ◌-◌, ◌^◌, min, ℕ, List, [], ◌∷◌, ◌++◌}
+use Rattle.std.specs.Prelude.{length, take, map, codes, Option, Some, IfSome, ◌⊎◌}
 use Rattle.std.specs.Borrow.{Bor}
 use Rattle.std.specs.Io.KnownBytes.{Appends, Consumes, IsAtEnd}
 use Rattle.ncq_outside.specs.Causes.{Rose}
+use Rattle.ncq_script.specs.Script.{script}
+use Rattle.ncq_engine.specs.Notices.{Language}
+use Rattle.ncq_engine.specs.Output.{history_of}
+use Rattle.ncq_engine.specs.Stands.{EngineState, Stands}
 use Rattle.ncq_run.specs.declared.session.Status.{Status}
-use Rattle.ncq_run.specs.declared.session.Status.TheVariants.{Done, Usage, ReadFault, WriteFault, NoMemory, ScriptTooLong}
+use Rattle.ncq_run.specs.declared.session.Status.TheVariants.{Done, Usage, ReadFault}
+use Rattle.ncq_run.specs.declared.session.Status.TheVariants.{WriteFault, NoMemory, ScriptTooLong}
 use Rattle.ncq_run.specs.Output.{output_of, output_of_whole}
 
--- what is told of a source and a sink: the bytes left and held, the bytes given, and the faults of each
+-- what is told of a source and a sink: the bytes left and held, the bytes given, and the faults of
+-- each
 pub record Told : Type 0 where
   pub left : Option (List ℕ)
   pub held : Option (List ℕ)
@@ -16,65 +23,87 @@ pub record Told : Type 0 where
   pub write_faults : ℕ
 
 abbrev pub told : Option (List ℕ) → Option (List ℕ) → ℕ → ℕ → ℕ → Told
-told left held given read_faults write_faults = record { left = left; held = held; given = given; read_faults = read_faults; write_faults = write_faults }
+told left held given read_faults write_faults = record {
+  left = left;
+  held = held;
+  given = given;
+  read_faults = read_faults;
+  write_faults = write_faults;
+}
 
 -- some front of these bytes was appended
 abbrev pub AppendsPrefix : Option (List ℕ) → Option (List ℕ) → List ℕ → Type 0
-AppendsPrefix old new bytes = (front : List ℕ) × (rest : List ℕ) × (bytes ≡ front ++ rest) × Appends old new front
+AppendsPrefix old new bytes = (front : List ℕ) × (rest : List ℕ)
+    × (bytes ≡ front ++ rest) × Appends old new front
 
 -- some front of these bytes was appended, and not all of them
 abbrev pub AppendsProperPrefix : Option (List ℕ) → Option (List ℕ) → List ℕ → Type 0
-AppendsProperPrefix old new bytes = (front : List ℕ) × (rest : List ℕ) × (bytes ≡ front ++ rest) × (0 < length rest) × Appends old new front
+AppendsProperPrefix old new bytes = (front : List ℕ) × (rest : List ℕ)
+    × (bytes ≡ front ++ rest) × (0 < length rest) × Appends old new front
 
 -- the source gave more than n bytes, or its count stands at its end
 abbrev pub GaveMore : ℕ → ℕ → ℕ → Type 0
 GaveMore before n now = min (before + (n + 1)) (2 ^ 64 - 1) ≤ now
 
 -- done: the source was read to its end within the limit, and the whole output was written
-pub record IsDone (limit most : ℕ) (old new : Told) : Type 0 where
+pub record IsDone (language : Language) (limit most : ℕ) (old new : Told) : Type 0 where
   pub at_end : IsAtEnd new.left
-  pub written : IfSome old.left (λ script. Appends old.held new.held (output_of limit script))
+  pub written : IfSome old.left (λ script.
+      Appends old.held new.held (output_of language limit script))
   pub within : new.given ≤ old.given + most
 
 -- a read fault: the source failed, and the commands that were whole in the bytes read are answered
-pub record IsReadFault (limit : ℕ) (old new : Told) : Type 0 where
+pub record IsReadFault (language : Language) (limit : ℕ) (old new : Told) : Type 0 where
   pub rose : Rose old.read_faults new.read_faults
   pub bytes : List ℕ
   pub read : Consumes old.left new.left bytes
-  pub written : Appends old.held new.held (output_of_whole limit bytes)
+  pub written : Appends old.held new.held (output_of_whole language limit bytes)
 
 -- a write fault: the sink failed, and not all of the output was written
-pub record IsWriteFault (limit : ℕ) (old new : Told) : Type 0 where
+pub record IsWriteFault (language : Language) (limit : ℕ) (old new : Told) : Type 0 where
   pub rose : Rose old.write_faults new.write_faults
-  pub written : IfSome old.left (λ script. AppendsProperPrefix old.held new.held (output_of limit script))
+  pub written : IfSome old.left (λ script.
+      AppendsProperPrefix old.held new.held (output_of language limit script))
 
--- too long a script: the source gave more than the limit, and the commands that were whole within it are answered
-pub record IsTooLong (limit most : ℕ) (old new : Told) : Type 0 where
+-- too long a script: the source gave more than the limit, and the commands that were whole within
+-- it are answered
+pub record IsTooLong (language : Language) (limit most : ℕ) (old new : Told) : Type 0 where
   pub more : GaveMore old.given most new.given
   pub long : IfSome old.left (λ script. most < length script)
-  pub written : IfSome old.left (λ script. Appends old.held new.held (output_of_whole limit (take most script)))
+  pub written : IfSome old.left (λ script.
+      Appends old.held new.held (output_of_whole language limit (take most script)))
 
 -- want of memory: some front of the output was written
-pub record IsOutOfMemory (limit : ℕ) (old new : Told) : Type 0 where
-  pub written : IfSome old.left (λ script. AppendsPrefix old.held new.held (output_of limit script))
+pub record IsOutOfMemory (language : Language) (limit : ℕ) (old new : Told) : Type 0 where
+  pub written : IfSome old.left (λ script.
+      AppendsPrefix old.held new.held (output_of language limit script))
+
+-- the engine stands for the whole script, and counted its commands
+abbrev pub StandsForAll : Language → ℕ → Option (List ℕ) → EngineState → Type 0
+StandsForAll language limit left engine = IfSome left (λ bytes.
+    Stands engine (history_of language [] (script limit bytes))
+    × (engine.count ≡ length (script limit bytes)))
 
 -- how a session with good words ends
-abbrev pub Ended : ℕ → ℕ → Told → Told → Status → Type 0
-Ended limit most old new Done = IsDone limit most old new
-Ended limit most old new Usage = ⊥
-Ended limit most old new ReadFault = IsReadFault limit old new
-Ended limit most old new WriteFault = IsWriteFault limit old new
-Ended limit most old new NoMemory = IsOutOfMemory limit old new
-Ended limit most old new ScriptTooLong = IsTooLong limit most old new
+abbrev pub Ended : Language → ℕ → ℕ → Told → Told → Status → Type 0
+Ended language limit most old new Done = IsDone language limit most old new
+Ended language limit most old new Usage = ⊥
+Ended language limit most old new ReadFault = IsReadFault language limit old new
+Ended language limit most old new WriteFault = IsWriteFault language limit old new
+Ended language limit most old new NoMemory = IsOutOfMemory language limit old new
+Ended language limit most old new ScriptTooLong = IsTooLong language limit most old new
 
--- the script is within the limit: its bytes are told and are no more, or the count of the bytes given says so
+-- the script is within the limit: its bytes are told and are no more, or the count of the bytes
+-- given says so
 abbrev pub IsShort : ℕ → Told → Told → Type 0
-IsShort most old new = ((script : List ℕ) × (old.left ≡ Some script) × (length script ≤ most)) ⊎ ¬ GaveMore old.given most new.given
+IsShort most old new = ((script : List ℕ) × (old.left ≡ Some script) × (length script ≤ most))
+    ⊎ ¬ GaveMore old.given most new.given
 
 -- the sink is sure to hold what it holds already and the whole output
-abbrev pub HoldsAll : ℕ → ℕ → Told → Type 0
-HoldsAll limit sure old = (script : List ℕ) × (held : List ℕ) × (old.left ≡ Some script) × (old.held ≡ Some held)
-    × (length held + length (output_of limit script) ≤ sure)
+abbrev pub HoldsAll : Language → ℕ → ℕ → Told → Type 0
+HoldsAll language limit sure old = (script : List ℕ) × (held : List ℕ)
+    × (old.left ≡ Some script) × (old.held ≡ Some held)
+    × (length held + length (output_of language limit script) ≤ sure)
 
 -- the words are the one word `run`
 abbrev pub IsRun : List (Bor (List ℕ)) → Type 0

@@ -1,6 +1,7 @@
 //! Laws of how a session ends. The functions do nothing: each is its contract.
 ghost use Rattle.std.specs.Prelude.{◌≡◌, ◌⊎◌, ℕ};
 ghost use Rattle.ncq_outside.specs.Causes.{IsFull, Rose};
+ghost use Rattle.ncq_engine.specs.Notices.{Language};
 ghost use Rattle.ncq_run.specs.declared.session.Status.{Status};
 ghost use Rattle.ncq_run.specs.declared.session.Status.TheVariants.{Done, NoMemory, WriteFault};
 ghost use Rattle.ncq_run.specs.Status.{Ended, HoldsAll, IsShort, Told};
@@ -8,7 +9,8 @@ ghost use Rattle.ncq_run.specs.Status.{Ended, HoldsAll, IsShort, Told};
 /// Where no count of faults rose and the script is within the limit, a session is done, or memory
 /// ran out.
 pub fn nothing_but_memory_ends_it()
-    ensures { (limit most : ℕ) (old new : Told) (status : Status) → Ended limit most old new status
+    ensures { (language : Language) (limit most : ℕ) (old new : Told) (status : Status)
+        → Ended language limit most old new status
         → ¬ Rose old.read_faults new.read_faults → ¬ Rose old.write_faults new.write_faults
         → IsShort most old new → (status ≡ Done) ⊎ (status ≡ NoMemory) }
 {}
@@ -16,6 +18,7 @@ pub fn nothing_but_memory_ends_it()
 /// A sink that is sure to hold the whole output behind what it holds gives no write fault: then it
 /// would be full, and a write fault leaves some of the output unwritten.
 pub fn a_sure_sink_is_enough()
-    ensures { (limit most sure : ℕ) (old new : Told) → HoldsAll limit sure old
-        → IsFull sure new.held → ¬ Ended limit most old new WriteFault }
+    ensures { (language : Language) (limit most sure : ℕ) (old new : Told)
+        → HoldsAll language limit sure old
+        → IsFull sure new.held → ¬ Ended language limit most old new WriteFault }
 {}

@@ -1,16 +1,13 @@
-//! The top call: a script comes in from a source, and the answer to each of its commands goes out to a sink.
-//! `run` carries the promise of the whole program as its contract: the bytes written are the defined output of the script.
+//! The top call: a script comes in from a source, and the answer to each of its commands goes out
+//! to a sink.
+//! `run` carries the promise of the whole program as its contract: the bytes written are the
+//! defined output of the script, in the language of the engine's handlers.
 //! Between two turns the engine stands for the history of the commands that were answered.
 #![tactic(auto)]
 
 mod answer;
-mod built;
-mod command;
-mod engine;
 mod laws;
 mod session;
-mod tell;
 
-pub use command::{BuiltCommand, ChildQuery, Subscription};
 pub use laws::{a_sure_sink_is_enough, nothing_but_memory_ends_it};
 pub use session::{Status, exit_code, run};

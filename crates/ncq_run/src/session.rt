@@ -1,22 +1,28 @@
 //! The top call: a session over a source and a sink.
-ghost use Rattle.std.specs.Prelude.{◌≡◌, ◌≢◌, ◌+◌, ◌-◌, ◌<◌, ◌≤◌, ◌^◌, ◌++◌, ℕ, List, Option, OnOk, OnErr, IfOk, IfSome, IfNone, IsErrOf, IsOk, IsTrue, Some, ◌↔◌, true, false, length, take};
+ghost use Rattle.std.specs.Prelude.{◌≡◌, ◌+◌, ◌-◌, ◌<◌, ◌≤◌, ◌^◌, ◌++◌, ℕ, List, [], Option};
+ghost use Rattle.std.specs.Prelude.{OnOk, OnErr, IfOk, IfSome, IfNone, IsErrOf, IsOk, IsTrue, Some};
+ghost use Rattle.std.specs.Prelude.{◌↔◌, true, false, length, take};
 ghost use Rattle.std.specs.Io.KnownBytes.{Appends, Consumes, Keeps, IsAtEnd};
+ghost use Rattle.ncq_callback.specs.Labels.{labels};
 ghost use Rattle.ncq_outside.specs.Causes.{HasCause, IsFull, Rose, RoseBy};
 ghost use Rattle.ncq_script.specs.Script.{script, whole_script};
 ghost use Rattle.ncq_script.specs.ScriptReading.{FollowsScript, limit_of, is_finished};
+ghost use Rattle.ncq_engine.specs.Languages.{language_of};
+ghost use Rattle.ncq_engine.specs.Output.{history_of};
+ghost use Rattle.ncq_engine.specs.Stands.{Stands};
 ghost use Rattle.ncq_run.specs.Limits.{longest_line, longest_script};
-ghost use Rattle.ncq_run.specs.Status.{Told, told, Ended, IsRun, exit_code_of, AppendsPrefix, AppendsProperPrefix};
+ghost use Rattle.ncq_run.specs.Status.{Told, told, Ended, IsRun, exit_code_of, StandsForAll};
+ghost use Rattle.ncq_run.specs.Status.{AppendsPrefix, AppendsProperPrefix};
 ghost use Rattle.ncq_run.specs.Session.{SoFar, IsReady};
-ghost use Rattle.ncq_run.specs.Stands.{Stands};
 ghost use Rattle.ncq_run.specs.Output.{output_of, output_of_whole, history_of_whole};
 
 use crate::answer::{Stop, answer_commands};
-use crate::engine::Engine;
 use ncq_base::Steps;
+use ncq_callback::Handlers;
+use ncq_engine::Engine;
 use ncq_outside::{Failed, Sink, Source};
 use ncq_script::ScriptReader;
 use std::alloc::{AllocError, Global};
-use std::hash::RandomState;
 use std::sync::ledger::Ledger;
 
 /// The longest script, in bytes.
@@ -50,10 +56,12 @@ fn fill<I: Source>(input: &mut I, buffer: &mut [u8], most: usize) -> Result<usiz
     requires some { 0 < most }
     requires room { most ≤ length buffer.old }
     ensures small { IfOk result (λ n. n ≤ most) }
-    ensures bytes { IfOk result (λ n. Consumes (I.left input.old) (I.left input.new) (take n buffer.new)) }
+    ensures bytes { IfOk result (λ n.
+        Consumes (I.left input.old) (I.left input.new) (take n buffer.new)) }
     ensures end { IfOk result (λ n. n ≡ 0 → IsAtEnd (I.left input.new)) }
     ensures given { IfOk result (λ n. RoseBy (I.given input.old) n (I.given input.new)) }
-    ensures stays { OnErr result (Keeps (I.left input.old) (I.left input.new) × (I.given input.new ≡ I.given input.old)) }
+    ensures stays { OnErr result (Keeps (I.left input.old) (I.left input.new)
+        × (I.given input.new ≡ I.given input.old)) }
     ensures cause { HasCause (I.faults input.old) (I.faults input.new) result }
     ensures sure { I.is_sure input.old ≡ true → IsOk result }
     ensures keeps { I.is_sure input.new ≡ I.is_sure input.old }
@@ -62,72 +70,134 @@ fn fill<I: Source>(input: &mut I, buffer: &mut [u8], most: usize) -> Result<usiz
 }
 
 /// Pushes a piece, and answers the commands that are whole now.
-fn answer_piece<O: Sink>(
+fn answer_piece<O: Sink, L: Ledger>(
     alloc: Global,
     reader: &mut ScriptReader,
     engine: &mut Engine,
-    count: &mut u64,
+    handlers: &Handlers,
     output: &mut O,
     piece: &[u8],
+    steps: &mut Steps<L>,
 ) -> Result<(), Stop>
-    requires some { (pushed : List ℕ) × FollowsScript reader.old pushed count.old × (length pushed + length piece.now < 2 ^ 59) }
-    requires few { engine.old.store.changes ≤ count.old }
+    requires some { (pushed : List ℕ) × FollowsScript reader.old pushed engine.old.count
+        × (length pushed + length piece.now < 2 ^ 48) }
     requires is_open { is_finished reader.old ≡ false }
-    ensures follows { OnOk result ((pushed : List ℕ) → FollowsScript reader.old pushed count.old → FollowsScript reader.new (pushed ++ piece.now) count.new) }
-    ensures counted { OnOk result ((pushed : List ℕ) → FollowsScript reader.old pushed count.old →
-        count.new ≡ length (whole_script (limit_of reader.old) (pushed ++ piece.now))) }
-    ensures few { OnOk result (engine.new.store.changes ≤ count.new) }
-    ensures written { OnOk result ((pushed : List ℕ) → FollowsScript reader.old pushed count.old → count.old ≡ length (whole_script (limit_of reader.old) pushed) →
-        Stands engine.old.store engine.old.subscriptions.items (history_of_whole (limit_of reader.old) pushed) → (before : Option (List ℕ)) →
-        Appends before (O.held output.old) (output_of_whole (limit_of reader.old) pushed) → Appends before (O.held output.new) (output_of_whole (limit_of reader.old) (pushed ++ piece.now))
-        × Stands engine.new.store engine.new.subscriptions.items (history_of_whole (limit_of reader.old) (pushed ++ piece.now))) }
-    ensures no_memory { IsErrOf result Stop.NoMemory → (pushed : List ℕ) → FollowsScript reader.old pushed count.old → count.old ≡ length (whole_script (limit_of reader.old) pushed) →
-        Stands engine.old.store engine.old.subscriptions.items (history_of_whole (limit_of reader.old) pushed) → (before : Option (List ℕ)) →
-        Appends before (O.held output.old) (output_of_whole (limit_of reader.old) pushed) → (more : List ℕ) → AppendsPrefix before (O.held output.new) (output_of (limit_of reader.old) ((pushed ++ piece.now) ++ more)) }
-    ensures write { IsErrOf result Stop.WriteFault → (pushed : List ℕ) → FollowsScript reader.old pushed count.old → count.old ≡ length (whole_script (limit_of reader.old) pushed) →
-        Stands engine.old.store engine.old.subscriptions.items (history_of_whole (limit_of reader.old) pushed) → (before : Option (List ℕ)) →
-        Appends before (O.held output.old) (output_of_whole (limit_of reader.old) pushed) → (more : List ℕ) → AppendsProperPrefix before (O.held output.new) (output_of (limit_of reader.old) ((pushed ++ piece.now) ++ more)) }
+    requires handlers { engine.old.labels
+        ≡ (labels handlers.now.items.items (λ h. h.name) (λ h. h.kind)) }
+    ensures follows { OnOk result ((pushed : List ℕ)
+        → FollowsScript reader.old pushed engine.old.count
+        → FollowsScript reader.new (pushed ++ piece.now) engine.new.count) }
+    ensures counted { OnOk result ((pushed : List ℕ)
+        → FollowsScript reader.old pushed engine.old.count
+        → engine.new.count ≡ length (whole_script (limit_of reader.old) (pushed ++ piece.now))) }
+    ensures labels { OnOk result (engine.new.labels ≡ engine.old.labels) }
+    ensures written { OnOk result ((pushed : List ℕ)
+        → FollowsScript reader.old pushed engine.old.count
+        → engine.old.count ≡ length (whole_script (limit_of reader.old) pushed)
+        → Stands engine.old
+        (history_of_whole (language_of engine.old.labels) (limit_of reader.old) pushed)
+        → (before : Option (List ℕ)) → Appends before (O.held output.old)
+        (output_of_whole (language_of engine.old.labels) (limit_of reader.old) pushed)
+        → Appends before (O.held output.new)
+        (output_of_whole (language_of engine.old.labels) (limit_of reader.old)
+        (pushed ++ piece.now))
+        × Stands engine.new (history_of_whole (language_of engine.old.labels)
+        (limit_of reader.old) (pushed ++ piece.now))) }
+    ensures no_memory { IsErrOf result Stop.NoMemory → (pushed : List ℕ)
+        → FollowsScript reader.old pushed engine.old.count
+        → engine.old.count ≡ length (whole_script (limit_of reader.old) pushed)
+        → Stands engine.old
+        (history_of_whole (language_of engine.old.labels) (limit_of reader.old) pushed)
+        → (before : Option (List ℕ)) → Appends before (O.held output.old)
+        (output_of_whole (language_of engine.old.labels) (limit_of reader.old) pushed)
+        → (more : List ℕ) → AppendsPrefix before (O.held output.new)
+        (output_of (language_of engine.old.labels) (limit_of reader.old)
+        ((pushed ++ piece.now) ++ more)) }
+    ensures write { IsErrOf result Stop.WriteFault → (pushed : List ℕ)
+        → FollowsScript reader.old pushed engine.old.count
+        → engine.old.count ≡ length (whole_script (limit_of reader.old) pushed)
+        → Stands engine.old
+        (history_of_whole (language_of engine.old.labels) (limit_of reader.old) pushed)
+        → (before : Option (List ℕ)) → Appends before (O.held output.old)
+        (output_of_whole (language_of engine.old.labels) (limit_of reader.old) pushed)
+        → (more : List ℕ) → AppendsProperPrefix before (O.held output.new)
+        (output_of (language_of engine.old.labels) (limit_of reader.old)
+        ((pushed ++ piece.now) ++ more)) }
     ensures later { O.faults output.old ≤ O.faults output.new }
-    ensures cause { IsErrOf result Stop.WriteFault → Rose (O.faults output.old) (O.faults output.new) }
-    ensures full { IsErrOf result Stop.WriteFault → IsFull (O.sure output.old) (O.held output.new) }
+    ensures cause { IsErrOf result Stop.WriteFault
+        → Rose (O.faults output.old) (O.faults output.new) }
+    ensures full { IsErrOf result Stop.WriteFault
+        → IsFull (O.sure output.old) (O.held output.new) }
     ensures sure { O.sure output.new ≡ O.sure output.old }
     ensures limit { limit_of reader.new ≡ limit_of reader.old }
     ensures is_open { is_finished reader.new ≡ false }
 {
     match reader.push(piece) {
-        Ok(()) => answer_commands(alloc, reader, engine, count, output),
+        Ok(()) => answer_commands(alloc, reader, engine, handlers, output, steps),
         Err(AllocError) => Err(Stop::NoMemory),
     }
 }
 
 /// Marks the end, and answers the last command.
-fn answer_rest<O: Sink>(
+fn answer_rest<O: Sink, L: Ledger>(
     alloc: Global,
     reader: &mut ScriptReader,
     engine: &mut Engine,
-    count: &mut u64,
+    handlers: &Handlers,
     output: &mut O,
+    steps: &mut Steps<L>,
 ) -> Result<(), Stop>
-    requires some { (pushed : List ℕ) × FollowsScript reader.old pushed count.old × (length pushed < 2 ^ 59) }
-    requires few { engine.old.store.changes ≤ count.old }
-    ensures counted { OnOk result ((pushed : List ℕ) → FollowsScript reader.old pushed count.old → count.new ≡ length (script (limit_of reader.old) pushed)) }
-    ensures written { OnOk result ((pushed : List ℕ) → FollowsScript reader.old pushed count.old → count.old ≡ length (whole_script (limit_of reader.old) pushed) →
-        Stands engine.old.store engine.old.subscriptions.items (history_of_whole (limit_of reader.old) pushed) → (before : Option (List ℕ)) →
-        Appends before (O.held output.old) (output_of_whole (limit_of reader.old) pushed) → Appends before (O.held output.new) (output_of (limit_of reader.old) pushed)) }
-    ensures no_memory { IsErrOf result Stop.NoMemory → (pushed : List ℕ) → FollowsScript reader.old pushed count.old → count.old ≡ length (whole_script (limit_of reader.old) pushed) →
-        Stands engine.old.store engine.old.subscriptions.items (history_of_whole (limit_of reader.old) pushed) → (before : Option (List ℕ)) →
-        Appends before (O.held output.old) (output_of_whole (limit_of reader.old) pushed) → AppendsPrefix before (O.held output.new) (output_of (limit_of reader.old) pushed) }
-    ensures write { IsErrOf result Stop.WriteFault → (pushed : List ℕ) → FollowsScript reader.old pushed count.old → count.old ≡ length (whole_script (limit_of reader.old) pushed) →
-        Stands engine.old.store engine.old.subscriptions.items (history_of_whole (limit_of reader.old) pushed) → (before : Option (List ℕ)) →
-        Appends before (O.held output.old) (output_of_whole (limit_of reader.old) pushed) → AppendsProperPrefix before (O.held output.new) (output_of (limit_of reader.old) pushed) }
+    requires some { (pushed : List ℕ) × FollowsScript reader.old pushed engine.old.count
+        × (length pushed < 2 ^ 48) }
+    requires handlers { engine.old.labels
+        ≡ (labels handlers.now.items.items (λ h. h.name) (λ h. h.kind)) }
+    ensures counted { OnOk result ((pushed : List ℕ)
+        → FollowsScript reader.old pushed engine.old.count
+        → engine.new.count ≡ length (script (limit_of reader.old) pushed)) }
+    ensures stands { OnOk result ((pushed : List ℕ)
+        → FollowsScript reader.old pushed engine.old.count
+        → engine.old.count ≡ length (whole_script (limit_of reader.old) pushed)
+        → Stands engine.old
+        (history_of_whole (language_of engine.old.labels) (limit_of reader.old) pushed)
+        → Stands engine.new
+        (history_of (language_of engine.old.labels) [] (script (limit_of reader.old) pushed))) }
+    ensures written { OnOk result ((pushed : List ℕ)
+        → FollowsScript reader.old pushed engine.old.count
+        → engine.old.count ≡ length (whole_script (limit_of reader.old) pushed)
+        → Stands engine.old
+        (history_of_whole (language_of engine.old.labels) (limit_of reader.old) pushed)
+        → (before : Option (List ℕ)) → Appends before (O.held output.old)
+        (output_of_whole (language_of engine.old.labels) (limit_of reader.old) pushed)
+        → Appends before (O.held output.new)
+        (output_of (language_of engine.old.labels) (limit_of reader.old) pushed)) }
+    ensures no_memory { IsErrOf result Stop.NoMemory → (pushed : List ℕ)
+        → FollowsScript reader.old pushed engine.old.count
+        → engine.old.count ≡ length (whole_script (limit_of reader.old) pushed)
+        → Stands engine.old
+        (history_of_whole (language_of engine.old.labels) (limit_of reader.old) pushed)
+        → (before : Option (List ℕ)) → Appends before (O.held output.old)
+        (output_of_whole (language_of engine.old.labels) (limit_of reader.old) pushed)
+        → AppendsPrefix before (O.held output.new)
+        (output_of (language_of engine.old.labels) (limit_of reader.old) pushed) }
+    ensures write { IsErrOf result Stop.WriteFault → (pushed : List ℕ)
+        → FollowsScript reader.old pushed engine.old.count
+        → engine.old.count ≡ length (whole_script (limit_of reader.old) pushed)
+        → Stands engine.old
+        (history_of_whole (language_of engine.old.labels) (limit_of reader.old) pushed)
+        → (before : Option (List ℕ)) → Appends before (O.held output.old)
+        (output_of_whole (language_of engine.old.labels) (limit_of reader.old) pushed)
+        → AppendsProperPrefix before (O.held output.new)
+        (output_of (language_of engine.old.labels) (limit_of reader.old) pushed) }
     ensures later { O.faults output.old ≤ O.faults output.new }
-    ensures cause { IsErrOf result Stop.WriteFault → Rose (O.faults output.old) (O.faults output.new) }
-    ensures full { IsErrOf result Stop.WriteFault → IsFull (O.sure output.old) (O.held output.new) }
+    ensures cause { IsErrOf result Stop.WriteFault
+        → Rose (O.faults output.old) (O.faults output.new) }
+    ensures full { IsErrOf result Stop.WriteFault
+        → IsFull (O.sure output.old) (O.held output.new) }
     ensures sure { O.sure output.new ≡ O.sure output.old }
     ensures limit { limit_of reader.new ≡ limit_of reader.old }
 {
     reader.finish();
-    answer_commands(alloc, reader, engine, count, output)
+    answer_commands(alloc, reader, engine, handlers, output, steps)
 }
 
 /// The bytes up to a place.
@@ -142,49 +212,65 @@ fn front_of(bytes: &[u8], end: usize) -> &[u8]
 #[derive(Drop)]
 struct Session {
     reader: ScriptReader,
-    engine: Engine,
     buffer: Vec<u8>,
-    count: u64,
     taken: usize,
     most: usize,
 }
 
 /// Reads a piece and answers what is whole now. It tells how the session ends, where it does.
-fn turn<I: Source, O: Sink>(
+fn turn<I: Source, O: Sink, L: Ledger>(
     alloc: Global,
     session: &mut Session,
     input: &mut I,
     output: &mut O,
+    handlers: &Handlers,
+    engine: &mut Engine,
+    steps: &mut Steps<L>,
 ) -> Option<Status>
-    requires { IsReady session.old.reader session.old.engine.store.changes session.old.count session.old.taken session.old.most (length session.old.buffer.items) }
-    ensures ready { IfNone result (IsReady session.new.reader session.new.engine.store.changes session.new.count session.new.taken session.old.most (length session.new.buffer.items)) }
+    requires ready { IsReady session.old.reader engine.old.count session.old.taken session.old.most
+        (length session.old.buffer.items) }
+    requires handlers { engine.old.labels
+        ≡ (labels handlers.now.items.items (λ h. h.name) (λ h. h.kind)) }
+    ensures ready { IfNone result (IsReady session.new.reader engine.new.count session.new.taken
+        session.old.most (length session.new.buffer.items)) }
     ensures falls { IfNone result (session.old.taken < session.new.taken) }
-    ensures goes_on { IfNone result ((start : Told) → SoFar session.old.reader session.old.engine.store session.old.engine.subscriptions.items session.old.count session.old.taken start
-        (told (I.left input.old) (O.held output.old) (I.given input.old) (I.faults input.old) (O.faults output.old)) →
-        SoFar session.new.reader session.new.engine.store session.new.engine.subscriptions.items session.new.count session.new.taken start
-        (told (I.left input.new) (O.held output.new) (I.given input.new) (I.faults input.new) (O.faults output.new))) }
-    ensures ends { IfSome result (λ status. (start : Told) → SoFar session.old.reader session.old.engine.store session.old.engine.subscriptions.items session.old.count session.old.taken start
-        (told (I.left input.old) (O.held output.old) (I.given input.old) (I.faults input.old) (O.faults output.old)) →
-        Ended (limit_of session.old.reader) session.old.most start
-        (told (I.left input.new) (O.held output.new) (I.given input.new) (I.faults input.new) (O.faults output.new)) status) }
-    ensures within { I.given input.new ≤ I.given input.old + (session.old.most - session.old.taken + 1) }
-    ensures limits { (session.new.most ≡ session.old.most) × (limit_of session.new.reader ≡ limit_of session.old.reader) }
+    ensures labels { IfNone result (engine.new.labels ≡ engine.old.labels) }
+    ensures goes_on { IfNone result ((start : Told)
+        → SoFar (language_of engine.old.labels) session.old.reader engine.old session.old.taken
+        start (told (I.left input.old) (O.held output.old) (I.given input.old)
+        (I.faults input.old) (O.faults output.old))
+        → SoFar (language_of engine.old.labels) session.new.reader engine.new session.new.taken
+        start (told (I.left input.new) (O.held output.new) (I.given input.new)
+        (I.faults input.new) (O.faults output.new))) }
+    ensures ends { IfSome result (λ status. (start : Told)
+        → SoFar (language_of engine.old.labels) session.old.reader engine.old session.old.taken
+        start (told (I.left input.old) (O.held output.old) (I.given input.old)
+        (I.faults input.old) (O.faults output.old))
+        → Ended (language_of engine.old.labels) (limit_of session.old.reader) session.old.most start
+        (told (I.left input.new) (O.held output.new) (I.given input.new)
+        (I.faults input.new) (O.faults output.new)) status) }
+    ensures stands { IfSome result (λ status. status ≡ Status.Done → (start : Told)
+        → SoFar (language_of engine.old.labels) session.old.reader engine.old session.old.taken
+        start (told (I.left input.old) (O.held output.old) (I.given input.old)
+        (I.faults input.old) (O.faults output.old))
+        → StandsForAll (language_of engine.old.labels) (limit_of session.old.reader) start.left
+        engine.new) }
+    ensures within { I.given input.new
+        ≤ I.given input.old + (session.old.most - session.old.taken + 1) }
+    ensures limits { (session.new.most ≡ session.old.most)
+        × (limit_of session.new.reader ≡ limit_of session.old.reader) }
     ensures sure_source { result ≡ Some Status.ReadFault → I.is_sure input.old ≡ true → ⊥ }
-    ensures sure_sink { result ≡ Some Status.WriteFault → IsFull (O.sure output.old) (O.held output.new) }
-    ensures stays { (I.is_sure input.new ≡ I.is_sure input.old) × (O.sure output.new ≡ O.sure output.old) }
+    ensures sure_sink { result ≡ Some Status.WriteFault
+        → IsFull (O.sure output.old) (O.held output.new) }
+    ensures stays { (I.is_sure input.new ≡ I.is_sure input.old)
+        × (O.sure output.new ≡ O.sure output.old) }
 {
     let room = session.most - session.taken;
     let Ok(got) = fill(input, &mut session.buffer, PIECE.min(room + 1)) else {
         return Some(Status::ReadFault);
     };
     if got == 0 {
-        return match answer_rest(
-            alloc,
-            &mut session.reader,
-            &mut session.engine,
-            &mut session.count,
-            output,
-        ) {
+        return match answer_rest(alloc, &mut session.reader, engine, handlers, output, steps) {
             Ok(()) => Some(Status::Done),
             Err(Stop::NoMemory) => Some(Status::NoMemory),
             Err(Stop::WriteFault) => Some(Status::WriteFault),
@@ -195,10 +281,11 @@ fn turn<I: Source, O: Sink>(
     match answer_piece(
         alloc,
         &mut session.reader,
-        &mut session.engine,
-        &mut session.count,
+        engine,
+        handlers,
         output,
         piece,
+        steps,
     ) {
         Ok(()) if got > room => Some(Status::ScriptTooLong),
         Ok(()) => {
@@ -211,36 +298,45 @@ fn turn<I: Source, O: Sink>(
 }
 
 /// A session on a script of at most `most` bytes, with lines of at most `limit` bytes.
-fn serve<I: Source, O: Sink>(
+fn serve<I: Source, O: Sink, L: Ledger>(
     alloc: Global,
-    seed: RandomState,
     input: &mut I,
     output: &mut O,
+    handlers: &Handlers,
+    engine: &mut Engine,
+    steps: &mut Steps<L>,
     most: usize,
     limit: usize,
 ) -> Status
-    requires most { most < 2 ^ 59 }
+    requires most { most < 2 ^ 48 }
     requires limit { limit < 2 ^ 59 }
-    ensures ended { Ended limit most
-        (told (I.left input.old) (O.held output.old) (I.given input.old) (I.faults input.old) (O.faults output.old))
-        (told (I.left input.new) (O.held output.new) (I.given input.new) (I.faults input.new) (O.faults output.new)) result }
+    requires stands { Stands engine.old [] }
+    requires fresh { engine.old.count ≡ 0 }
+    requires handlers { engine.old.labels
+        ≡ (labels handlers.now.items.items (λ h. h.name) (λ h. h.kind)) }
+    ensures ended { Ended (language_of engine.old.labels) limit most
+        (told (I.left input.old) (O.held output.old) (I.given input.old)
+        (I.faults input.old) (O.faults output.old))
+        (told (I.left input.new) (O.held output.new) (I.given input.new)
+        (I.faults input.new) (O.faults output.new)) result }
+    ensures stands { result ≡ Status.Done
+        → StandsForAll (language_of engine.old.labels) limit (I.left input.old) engine.new }
     ensures within { I.given input.new ≤ I.given input.old + (most + 1) }
     ensures sure_source { result ≡ Status.ReadFault → I.is_sure input.old ≡ true → ⊥ }
-    ensures sure_sink { result ≡ Status.WriteFault → IsFull (O.sure output.old) (O.held output.new) }
+    ensures sure_sink { result ≡ Status.WriteFault
+        → IsFull (O.sure output.old) (O.held output.new) }
 {
     let Ok(buffer) = vec![in alloc; 0u8; PIECE] else {
         return Status::NoMemory;
     };
     let mut session = Session {
         reader: ScriptReader::new(alloc, limit),
-        engine: Engine::new(alloc, seed),
         buffer,
-        count: 0,
         taken: 0,
         most,
     };
     'turns: loop {
-        if let Some(status) = turn(alloc, &mut session, input, output) {
+        if let Some(status) = turn(alloc, &mut session, input, output, handlers, engine, steps) {
             return status;
         }
     }
@@ -258,41 +354,51 @@ fn is_run(words: &[&str]) -> bool
 
 /// Reads the script from `input` and writes the answer to each of its commands to `output`.
 ///
-/// `Usage` comes exactly where the words are not the one word `run`; then nothing is read or written.
+/// `Usage` comes exactly where the words are not the one word `run`; then nothing is read or
+/// written, and the engine stays.
 /// `Done` means that the script was read to its end and that `output` was extended by the whole
 /// defined output. `ReadFault` and `WriteFault` come only where a read or a write failed in this
 /// call, `ScriptTooLong` only where the source gave more than 268,435,456 bytes in this call. After
 /// each of them, and after `NoMemory`, `output` was extended by a front of the defined output. No
-/// more than one byte past 268,435,456 is read. A source that is sure never gives a `ReadFault`, and
-/// a sink gives a `WriteFault` only where it holds all that it was sure to hold.
-/// Keys are placed by the seed, so that nobody who does not know it can choose keys that fall
-/// together; nothing that is written depends on it. No row is made yet, so `steps` stays.
+/// more than one byte past 268,435,456 is read. A source that is sure never gives a `ReadFault`,
+/// and a sink gives a `WriteFault` only where it holds all that it was sure to hold.
+/// The engine is a new one, for these handlers. After `Done` it stands for the whole script, and
+/// counted its commands. Each row that is made ticks `steps`, of which no clause tells.
 pub fn run<I: Source, O: Sink, L: Ledger>(
     alloc: Global,
-    seed: RandomState,
     words: &[&str],
     input: &mut I,
     output: &mut O,
+    handlers: &Handlers,
+    engine: &mut Engine,
     steps: &mut Steps<L>,
 ) -> Status
+    requires stands { Stands engine.old [] }
+    requires fresh { engine.old.count ≡ 0 }
+    requires handlers { engine.old.labels
+        ≡ (labels handlers.now.items.items (λ h. h.name) (λ h. h.kind)) }
     ensures usage { result ≡ Status.Usage ↔ ¬ IsRun words.now }
-    ensures untouched { result ≡ Status.Usage → (input.new ≡ input.old) × (output.new ≡ output.old) }
-    ensures ended { IsRun words.now → Ended longest_line longest_script
+    ensures untouched { result ≡ Status.Usage
+        → (input.new ≡ input.old) × (output.new ≡ output.old) × (engine.new ≡ engine.old) }
+    ensures ended { IsRun words.now
+        → Ended (language_of engine.old.labels) longest_line longest_script
         (told (I.left input.old) (O.held output.old) (I.given input.old)
         (I.faults input.old) (O.faults output.old))
         (told (I.left input.new) (O.held output.new) (I.given input.new)
         (I.faults input.new) (O.faults output.new)) result }
+    ensures stands { result ≡ Status.Done
+        → StandsForAll (language_of engine.old.labels) longest_line (I.left input.old) engine.new }
     ensures within { I.given input.new ≤ I.given input.old + (longest_script + 1) }
     ensures sure_source { result ≡ Status.ReadFault → I.is_sure input.old ≡ true → ⊥ }
     ensures sure_sink { result ≡ Status.WriteFault
         → IsFull (O.sure output.old) (O.held output.new) }
-    ensures steps { steps.new ≡ steps.old }
 {
-    let _ = steps;
     if !is_run(words) {
         return Status::Usage;
     }
-    serve(alloc, seed, input, output, MAX_SCRIPT, MAX_LINE)
+    serve(
+        alloc, input, output, handlers, engine, steps, MAX_SCRIPT, MAX_LINE,
+    )
 }
 
 /// The exit code of a status: 0, 2, 3, 4, 5, 6 in the order of the statuses.

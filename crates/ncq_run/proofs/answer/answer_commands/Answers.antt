@@ -1,26 +1,14 @@
-use Rattle.std.proofs.Common.{◌+◌, ◌++◌, ℕ, List, arith, ap, ◌∙◌}
+use Rattle.std.proofs.Common.{arith, ◌∙◌}
 use Rattle.std.proofs.lemmas.Result.{err_from_is_err_and}
 use Rattle.ncq_script.proofs.CallerLemmas.{given_few}
-use Rattle.ncq_run.proofs.Outputs.{next_out, same_next, stopped_later, done_more}
+use Rattle.ncq_run.proofs.Outputs.{same_next, follows_counted, done_next, stopped_next}
 use Rattle.ncq_run.proofs.answer.answer_commands.Goals as goal
 
-pub answer_one-requires-clause-small : goal.answer_one-requires-clause-small
-answer_one-requires-clause-small g c =
+pub answer_one-requires-clause-few : goal.answer_one-requires-clause-few
+answer_one-requires-clause-few g c =
     let some = c.commands.invariant.some in
     let next = rw c.in-Ok-Command.field-0-is at c.in-Ok-Command.ensures.next in
-    omega (arith, given_few _ _ _ _ _ (next some.0 c.commands.count some.1).0, some.2)
-
-pub overflow_add-count : goal.overflow_add-count
-overflow_add-count g c =
-    let some = c.commands.invariant.some in
-    let next = rw c.in-Ok-Command.field-0-is at c.in-Ok-Command.ensures.next in
-    omega (arith, given_few _ _ _ _ _ (next some.0 c.commands.count some.1).0, some.2)
-
-pub overflow_add-count-in-Ok-Command : goal.overflow_add-count-in-Ok-Command
-overflow_add-count-in-Ok-Command g c =
-    let some = c.commands.invariant.some in
-    let next = rw c.in-Ok-Command.field-0-is at c.in-Ok-Command.ensures.next in
-    omega (arith, given_few _ _ _ _ _ (next some.0 c.commands.count some.1).0, some.2)
+    omega (arith, given_few _ _ _ _ _ (next some.0 c.commands.engine.count some.1).0, some.2)
 
 pub returns-in_err-answer_one-in-Ok-Command-clause-write : goal.returns-in_err-answer_one-in-Ok-Command-clause-write
 returns-in_err-answer_one-in-Ok-Command-clause-write g c failed pushed history follows stands =
@@ -28,24 +16,24 @@ returns-in_err-answer_one-in-Ok-Command-clause-write g c failed pushed history f
     let e = p.1 in let f = p.2 in
     let next = rw c.in-Ok-Command.field-0-is at c.in-Ok-Command.ensures.next in
     let was = c.commands.invariant.written pushed history follows stands in
-    let this = (next pushed c.commands.count (c.commands.invariant.follows pushed follows)).0 in
-    let at = same_next _ _ _ _ pushed c.commands.count _ c.commands.invariant.limit c.commands.invariant.finished this in
-    let piece = next_out was.1 (c.commands.count + 1) c.commands.count _ _ at in
-    stopped_later _ _ _ _ was.0 _ _ (was.4 ∙ ap (λ (xs : List ℕ). was.0 ++ xs) piece) was.2 (c.in_err-answer_one-in-Ok-Command.ensures.write (cc) was.1 was.3)
+    let this = (next pushed c.commands.engine.count (c.commands.invariant.follows pushed follows)).0 in
+    let at = same_next _ _ _ _ pushed c.commands.engine.count _ c.commands.invariant.limit c.commands.invariant.finished this in
+    stopped_next _ _ _ _ c.commands.engine history _ _ _ c.commands.invariant.labels at was (c.in_err-answer_one-in-Ok-Command.ensures.write (cc) was.1 was.3)
 
 pub commands-preserved : goal.commands-preserved
 commands-preserved g c =
     let next = rw c.in-Ok-Command.field-0-is at c.in-Ok-Command.ensures.next in
     let some = c.commands.invariant.some in
+    let counted = c.in_ok-answer_one-in-Ok-Command.ensures.counted in
     record {
-      some = (some.0, (next some.0 c.commands.count some.1).1, some.2);
-      few = c.answer_one.ensures.few;
-      follows = λ pushed f. (next pushed c.commands.count (c.commands.invariant.follows pushed f)).1;
+      some = (some.0, follows_counted _ some.0 _ _ counted (next some.0 c.commands.engine.count some.1).1, some.2);
+      labels = c.in_ok-answer_one-in-Ok-Command.ensures.labels ∙ c.commands.invariant.labels;
+      follows = λ pushed f. follows_counted _ pushed _ _ counted (next pushed c.commands.engine.count (c.commands.invariant.follows pushed f)).1;
       written = λ pushed history f s.
           let was = c.commands.invariant.written pushed history f s in
-          let this = (next pushed c.commands.count (c.commands.invariant.follows pushed f)).0 in
-          let at = same_next _ _ _ _ pushed c.commands.count _ c.commands.invariant.limit c.commands.invariant.finished this in
-          done_more _ _ _ _ _ _ _ _ _ c.commands.count _ _ at was (c.in_ok-answer_one-in-Ok-Command.ensures.ok was.1 was.3);
+          let this = (next pushed c.commands.engine.count (c.commands.invariant.follows pushed f)).0 in
+          let at = same_next _ _ _ _ pushed c.commands.engine.count _ c.commands.invariant.limit c.commands.invariant.finished this in
+          done_next _ _ _ _ c.commands.engine history _ _ _ c.commands.invariant.labels at was _ counted c.in_ok-answer_one-in-Ok-Command.ensures.ok;
       sure = c.answer_one.ensures.sure ∙ c.commands.invariant.sure;
       later = omega (arith, c.commands.invariant.later, c.answer_one.ensures.later);
       limit = c.in-Ok-Command.ensures.limit ∙ c.commands.invariant.limit;
