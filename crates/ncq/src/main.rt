@@ -4,7 +4,8 @@
 //! and which code a status ends with is proved, and the stored run and the tests show the rest.
 #![tactic(auto)]
 
-ghost use Rattle.std.specs.Prelude.{◌≡◌, ◌<◌, ◌↔◌, ◌∷◌, [], MatchResult, OnOk, codes};
+ghost use Rattle.std.specs.Prelude.{◌≡◌, ◌<◌, ◌↔◌, ◌++◌, ◌∷◌, [], MatchResult, OnOk};
+ghost use Rattle.std.specs.Prelude.{codes};
 ghost use Rattle.ncq_callback.specs.Facts.{Writes};
 ghost use Rattle.ncq_callback.specs.Labels.{labels};
 ghost use Rattle.ncq_callback.specs.Texts.{render};
@@ -13,7 +14,7 @@ ghost use Rattle.ncq_run.specs.Status.{IsRun, exit_code_of};
 
 use ncq_base::{Steps, bytes_of};
 use ncq_callback::{
-    AddError, Call, Handler, Handlers, Kind, Notice, count_notice, mail_notice, print_notice,
+    Call, Handler, Handlers, Kind, Notice, count_notice, mail_notice, print_notice,
 };
 use ncq_engine::Engine;
 use ncq_outside::{StdSink, StdSource};
@@ -46,11 +47,11 @@ fn words_of<R: Env + AllocGlobal>(rt: &R) -> Result<Vec<String>, AllocError> {
     Ok(words)
 }
 
-/// Adds the handler of this name: `print`, `count` or `mailto`, which writes the notices of its kind.
+/// Adds a handler behind the others. Each name is added once, so memory alone can be wanting.
 fn add_handler(
     alloc: Global,
     handlers: &mut Handlers,
-    name: &str,
+    name: &[u8],
     kind: Kind,
     call: Call,
 ) -> Result<(), AllocError>
@@ -60,15 +61,23 @@ fn add_handler(
         → Writes
         (render kind argument.now notice.now.name notice.now.instant notice.now.entries)
         out.now.items after.now.items result }
+    ensures added { OnOk result (labels handlers.new.items.items (λ h. h.name) (λ h. h.kind)
+        ≡ labels handlers.old.items.items (λ h. h.name) (λ h. h.kind)
+        ++ (name.now, kind) ∷ []) }
 {
-    match handlers.add(Handler::new(bytes_of(alloc, name.as_bytes())?, kind, call)) {
-        Ok(()) | Err(AddError::NameTaken) => Ok(()),
-        Err(AddError::OutOfMemory) => Err(AllocError),
+    match handlers.add(Handler::new(bytes_of(alloc, name)?, kind, call)) {
+        Ok(()) => Ok(()),
+        Err(_) => Err(AllocError),
     }
 }
 
-/// Adds the handlers `print`, `count` and `mailto`.
-fn add_handlers(alloc: Global, handlers: &mut Handlers) -> Result<(), AllocError> {
+/// Adds the handlers `print`, `count` and `mailto` behind the others.
+fn add_handlers(alloc: Global, handlers: &mut Handlers) -> Result<(), AllocError>
+    ensures added { OnOk result (labels handlers.new.items.items (λ h. h.name) (λ h. h.kind)
+        ≡ labels handlers.old.items.items (λ h. h.name) (λ h. h.kind)
+        ++ (codes "print", Kind.Print) ∷ (codes "count", Kind.Count)
+        ∷ (codes "mailto", Kind.MailTo) ∷ []) }
+{
     let print: Call = Box::new(
         alloc,
         |argument: &[u8], notice: &Notice, out: &mut Vec<u8>| -> Result<(), AllocError>
@@ -78,7 +87,7 @@ fn add_handlers(alloc: Global, handlers: &mut Handlers) -> Result<(), AllocError
                 out.old.items out.new.items result }
         { print_notice(argument, notice, out) },
     )?;
-    add_handler(alloc, handlers, "print", Kind::Print, print)?;
+    add_handler(alloc, handlers, b"print", Kind::Print, print)?;
     let count: Call = Box::new(
         alloc,
         |argument: &[u8], notice: &Notice, out: &mut Vec<u8>| -> Result<(), AllocError>
@@ -88,7 +97,7 @@ fn add_handlers(alloc: Global, handlers: &mut Handlers) -> Result<(), AllocError
                 out.old.items out.new.items result }
         { count_notice(argument, notice, out) },
     )?;
-    add_handler(alloc, handlers, "count", Kind::Count, count)?;
+    add_handler(alloc, handlers, b"count", Kind::Count, count)?;
     let mail: Call = Box::new(
         alloc,
         |argument: &[u8], notice: &Notice, out: &mut Vec<u8>| -> Result<(), AllocError>
@@ -98,10 +107,11 @@ fn add_handlers(alloc: Global, handlers: &mut Handlers) -> Result<(), AllocError
                 out.old.items out.new.items result }
         { mail_notice(argument, notice, out) },
     )?;
-    add_handler(alloc, handlers, "mailto", Kind::MailTo, mail)
+    add_handler(alloc, handlers, b"mailto", Kind::MailTo, mail)
 }
 
-/// A session of a new engine over this reader and this writer, whose steps are counted in a ledger of its own.
+/// A session of a new engine over this reader and this writer, whose steps are counted in a ledger
+/// of its own.
 /// It ends with `Usage` exactly where the words are not the one word `run`.
 fn session<R: Read, W: Write, L: Ledger>(
     alloc: Global,

@@ -150,7 +150,7 @@ where
 }
 
 /// A run over these handlers, with a counter of its own.
-fn run_over<I: Source, O: Sink>(
+fn run_on<I: Source, O: Sink>(
     alloc: Global,
     words: &[&str],
     input: &mut I,
@@ -161,7 +161,7 @@ fn run_over<I: Source, O: Sink>(
 }
 
 /// A run over the handlers of the program.
-fn run_on<I: Source, O: Sink>(
+fn run_program<I: Source, O: Sink>(
     alloc: Global,
     words: &[&str],
     input: &mut I,
@@ -169,7 +169,7 @@ fn run_on<I: Source, O: Sink>(
 ) -> Status {
     let mut handlers = Handlers::new(alloc);
     match add_handlers(alloc, &mut handlers) {
-        Ok(()) => run_over(alloc, words, input, output, &handlers),
+        Ok(()) => run_on(alloc, words, input, output, &handlers),
         Err(AllocError) => Status::NoMemory,
     }
 }
@@ -181,7 +181,7 @@ fn outcome_of(alloc: Global, script: &[u8], outside: Outside<'_>) -> Result<Outc
     let script = bytes_of(alloc, script)?;
     let mut input = memory_source(script, outside.piece.max(1), read_faults);
     let mut output = memory_sink(alloc, outside.room, write_faults)?;
-    let status = run_on(alloc, &["run"], &mut input, &mut output);
+    let status = run_program(alloc, &["run"], &mut input, &mut output);
     Ok(Outcome {
         status,
         written: Vec::from_slice(alloc, output.held())?,

@@ -1,6 +1,20 @@
 //! What is done with a notice: the texts of `print`, `count` and `mailto`.
 
-use super::{DELETE, PUT_95, PUT_96, Parts, SOURCE, expect_parts};
+ghost use Rattle.std.specs.Prelude.{◌≡◌};
+ghost use Rattle.ncq_callback.specs.Facts.{Writes};
+ghost use Rattle.ncq_callback.specs.Texts.{render};
+
+use super::{
+    DELETE, PUT_95, PUT_96, Parts, SOURCE, TOLD_95, WATCH, calls_of, expect_bytes, expect_parts,
+    joined, run_on,
+};
+use crate::{add_handler, add_handlers};
+use ncq_base::bytes_of;
+use ncq_callback::{Call, Handlers, Kind, Notice, print_notice};
+use ncq_outside::{memory_sink, memory_source};
+use ncq_run::Status;
+use std::alloc::{AllocError, Global};
+use std::process::Abort;
 use std::test::Fail;
 
 /// The query of `WATCH` up to its action, and the end of its block.
@@ -74,4 +88,87 @@ const TEXTS: &[Parts<'_>] = &[
 #[test]
 fn each_action_has_its_text(rt: HostRuntime) -> Result<(), Fail> {
     expect_parts(&rt, rt.alloc(), TEXTS)
+}
+
+/// The lines of the quote that `PUT_95` puts.
+const QUOTE_95: &str = "(Quote\n(Symbol\n-INTC\n)Symbol\n(Price\n-95.5\n)Price\n)Quote\n";
+
+/// Whether the notice has one entry, the gain of the quote at 95.5.
+fn is_gain_of_95(notice: &Notice) -> bool {
+    match notice.entries.as_slice() {
+        [entry] => {
+            entry.gain && entry.count == 1 && entry.bytes.as_slice() == QUOTE_95.as_bytes()
+        }
+        _ => false,
+    }
+}
+
+/// Adds `tell`, which writes what `print` writes, and `picky`, which does so for one notice and
+/// finds no memory for any other.
+fn add_others(alloc: Global, handlers: &mut Handlers) -> Result<(), AllocError> {
+    let tell: Call = Box::new(
+        alloc,
+        |argument: &[u8], notice: &Notice, out: &mut Vec<u8>| -> Result<(), AllocError>
+            ensures { Writes
+                (render Kind.Print argument.now
+                notice.now.name notice.now.instant notice.now.entries)
+                out.old.items out.new.items result }
+        { print_notice(argument, notice, out) },
+    )?;
+    add_handler(alloc, handlers, b"tell", Kind::Print, tell)?;
+    let picky: Call = Box::new(
+        alloc,
+        |argument: &[u8], notice: &Notice, out: &mut Vec<u8>| -> Result<(), AllocError>
+            ensures { Writes
+                (render Kind.Print argument.now
+                notice.now.name notice.now.instant notice.now.entries)
+                out.old.items out.new.items result }
+        {
+            if is_gain_of_95(notice) {
+                print_notice(argument, notice, out)
+            } else {
+                Err(AllocError)
+            }
+        },
+    )?;
+    add_handler(alloc, handlers, b"picky", Kind::Print, picky)
+}
+
+/// The session on this script, over the handlers of the program and these two, ends so, with this
+/// written.
+fn expect_told(
+    rt: &impl Abort,
+    alloc: Global,
+    script: &[&str],
+    status: Status,
+    written: &[&str],
+) -> Result<(), Fail> {
+    let mut handlers = Handlers::new(alloc);
+    add_handlers(alloc, &mut handlers)?;
+    add_others(alloc, &mut handlers)?;
+    let script = bytes_of(alloc, &joined(alloc, script)?)?;
+    let mut input = memory_source(script, 64, calls_of(alloc, &[])?);
+    let mut output = memory_sink(alloc, 4096, calls_of(alloc, &[])?)?;
+    let got = run_on(alloc, &["run"], &mut input, &mut output, &handlers);
+    assert_eq!(rt; got, status);
+    expect_bytes(rt, output.held(), &joined(alloc, written)?, "");
+    Ok(())
+}
+
+/// What is written where the quote is put at 95.5.
+const ONCE: &[&str] = &["1 ok\n2 ok\n3 ok\n", TOLD_95];
+
+/// A handler writes what its closure appends, and where it finds no memory, its command's answer is
+/// not written.
+#[test]
+fn a_notice_goes_to_the_handler_of_its_action(rt: HostRuntime) -> Result<(), Fail> {
+    let alloc = rt.alloc();
+    let print = [SOURCE, WATCH, PUT_95];
+    expect_told(&rt, alloc, &print, Status::Done, ONCE)?;
+    let tell = [SOURCE, WATCH_DO, "tell", DOT, PUT_95];
+    expect_told(&rt, alloc, &tell, Status::Done, ONCE)?;
+    let picky = [SOURCE, WATCH_DO, "picky", DOT, PUT_95];
+    expect_told(&rt, alloc, &picky, Status::Done, ONCE)?;
+    let picky = [SOURCE, WATCH_DO, "picky", DOT, PUT_95, PUT_96];
+    expect_told(&rt, alloc, &picky, Status::NoMemory, ONCE)
 }

@@ -1,6 +1,6 @@
 //! The limits: the last script that is within each, and the first that is not.
 
-use super::{SOURCE, calls_of, expect_end, in_pieces, joined, run_on};
+use super::{SOURCE, calls_of, expect_end, in_pieces, joined, run_program};
 use ncq_outside::{StdSource, memory_sink};
 use ncq_run::Status;
 use std::alloc::{AllocError, Global};
@@ -518,7 +518,7 @@ impl io::Read for Comments {
 fn status_at(alloc: Global, length: usize) -> Result<Status, AllocError> {
     let mut input = StdSource::new(Comments { left: length });
     let mut output = memory_sink(alloc, 0, calls_of(alloc, &[])?)?;
-    Ok(run_on(alloc, &["run"], &mut input, &mut output))
+    Ok(run_program(alloc, &["run"], &mut input, &mut output))
 }
 
 /// A second where it is compiled; too long for a try with its checks.
