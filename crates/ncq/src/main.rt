@@ -4,10 +4,19 @@
 //! and which code a status ends with is proved, and the stored run and the tests show the rest.
 #![tactic(auto)]
 
-ghost use Rattle.std.specs.Prelude.{◌≡◌, ◌<◌, ◌↔◌, MatchResult};
+ghost use Rattle.std.specs.Prelude.{◌≡◌, ◌<◌, ◌↔◌, ◌++◌, ◌∷◌, [], MatchResult, OnOk};
+ghost use Rattle.std.specs.Prelude.{codes};
+ghost use Rattle.ncq_callback.specs.Facts.{Writes};
+ghost use Rattle.ncq_callback.specs.Labels.{labels};
+ghost use Rattle.ncq_callback.specs.Texts.{render};
+ghost use Rattle.ncq_engine.specs.Stands.{Stands};
 ghost use Rattle.ncq_run.specs.Status.{IsRun, exit_code_of};
 
-use ncq_base::Steps;
+use ncq_base::{Steps, bytes_of};
+use ncq_callback::{
+    Call, Handler, Handlers, Kind, Notice, count_notice, mail_notice, print_notice,
+};
+use ncq_engine::Engine;
 use ncq_outside::{StdSink, StdSource};
 use ncq_run::{Status, exit_code, run};
 use std::alloc::{AllocError, Global};
@@ -38,14 +47,79 @@ fn words_of<R: Env + AllocGlobal>(rt: &R) -> Result<Vec<String>, AllocError> {
     Ok(words)
 }
 
-/// A session over this reader and this writer, whose steps are counted in a ledger of its own.
+/// Adds a handler behind the others. Each name is added once, so memory alone can be wanting.
+fn add_handler(
+    alloc: Global,
+    handlers: &mut Handlers,
+    name: &[u8],
+    kind: Kind,
+    call: Call,
+) -> Result<(), AllocError>
+    requires callable { Call.IsAlwaysCallable call }
+    requires writes { (argument : _) (notice : _) (out : _) (result : _) (after : _)
+        → Call.post call argument notice out result after
+        → Writes
+        (render kind argument.now notice.now.name notice.now.instant notice.now.entries)
+        out.now.items after.now.items result }
+    ensures added { OnOk result (labels handlers.new.items.items (λ h. h.name) (λ h. h.kind)
+        ≡ labels handlers.old.items.items (λ h. h.name) (λ h. h.kind)
+        ++ (name.now, kind) ∷ []) }
+{
+    match handlers.add(Handler::new(bytes_of(alloc, name)?, kind, call)) {
+        Ok(()) => Ok(()),
+        Err(_) => Err(AllocError),
+    }
+}
+
+/// Adds the handlers `print`, `count` and `mailto` behind the others.
+fn add_handlers(alloc: Global, handlers: &mut Handlers) -> Result<(), AllocError>
+    ensures added { OnOk result (labels handlers.new.items.items (λ h. h.name) (λ h. h.kind)
+        ≡ labels handlers.old.items.items (λ h. h.name) (λ h. h.kind)
+        ++ (codes "print", Kind.Print) ∷ (codes "count", Kind.Count)
+        ∷ (codes "mailto", Kind.MailTo) ∷ []) }
+{
+    let print: Call = Box::new(
+        alloc,
+        |argument: &[u8], notice: &Notice, out: &mut Vec<u8>| -> Result<(), AllocError>
+            ensures { Writes
+                (render Kind.Print argument.now
+                notice.now.name notice.now.instant notice.now.entries)
+                out.old.items out.new.items result }
+        { print_notice(argument, notice, out) },
+    )?;
+    add_handler(alloc, handlers, b"print", Kind::Print, print)?;
+    let count: Call = Box::new(
+        alloc,
+        |argument: &[u8], notice: &Notice, out: &mut Vec<u8>| -> Result<(), AllocError>
+            ensures { Writes
+                (render Kind.Count argument.now
+                notice.now.name notice.now.instant notice.now.entries)
+                out.old.items out.new.items result }
+        { count_notice(argument, notice, out) },
+    )?;
+    add_handler(alloc, handlers, b"count", Kind::Count, count)?;
+    let mail: Call = Box::new(
+        alloc,
+        |argument: &[u8], notice: &Notice, out: &mut Vec<u8>| -> Result<(), AllocError>
+            ensures { Writes
+                (render Kind.MailTo argument.now
+                notice.now.name notice.now.instant notice.now.entries)
+                out.old.items out.new.items result }
+        { mail_notice(argument, notice, out) },
+    )?;
+    add_handler(alloc, handlers, b"mailto", Kind::MailTo, mail)
+}
+
+/// A session of a new engine over this reader and this writer, whose steps are counted in a ledger
+/// of its own.
 /// It ends with `Usage` exactly where the words are not the one word `run`.
 fn session<R: Read, W: Write, L: Ledger>(
     alloc: Global,
-    seed: RandomState,
     words: &[&str],
     reader: R,
     writer: W,
+    handlers: &Handlers,
+    engine: &mut Engine,
     blank: Blank,
 ) -> Status
 where
@@ -54,12 +128,24 @@ where
     requires name { blank.name ≡ L.name }
     requires parts { blank.parts ≡ L.parts }
     requires some { 0 < L.parts }
+    requires new { Stands engine.old [] }
+    requires first { engine.old.count ≡ 0 }
+    requires labels { engine.old.labels
+        ≡ (labels handlers.now.items.items (λ h. h.name) (λ h. h.kind)) }
     ensures usage { result ≡ Status.Usage ↔ ¬ IsRun words.now }
 {
     let mut steps = Steps::<L>::new(blank);
     let mut input = StdSource::new(reader);
     let mut output = StdSink::new(writer);
-    run(alloc, seed, words, &mut input, &mut output, &mut steps)
+    run(
+        alloc,
+        words,
+        &mut input,
+        &mut output,
+        handlers,
+        engine,
+        &mut steps,
+    )
 }
 
 /// What the words of the command line ask for, from standard input to standard output. Where the system gives no random
@@ -70,17 +156,22 @@ fn answer<R: Env + Input + Print + RandomSource + AllocGlobal>(
     let Ok(seed) = RandomState::new(rt) else {
         return Ok(Status::ReadFault);
     };
+    let alloc = rt.alloc();
     let owned = words_of(rt)?;
-    let mut words = Vec::new(rt.alloc());
+    let mut words = Vec::new(alloc);
     for word in &owned {
         words.push(word.as_str())?;
     }
+    let mut handlers = Handlers::new(alloc);
+    add_handlers(alloc, &mut handlers)?;
+    let mut engine = Engine::new(alloc, seed, &handlers)?;
     Ok(session::<_, _, Brand>(
-        rt.alloc(),
-        seed,
+        alloc,
         &words,
         rt.reader(),
         io::writer(rt),
+        &handlers,
+        &mut engine,
         Blank::new(1),
     ))
 }

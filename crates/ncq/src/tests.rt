@@ -2,7 +2,10 @@
 
 ghost use Rattle.std.specs.Prelude.{◌≡◌, ◌<◌};
 
+use crate::add_handlers;
 use ncq_base::{Steps, bytes_of};
+use ncq_callback::Handlers;
+use ncq_engine::Engine;
 use ncq_outside::{Calls, Sink, Source, memory_sink, memory_source};
 use ncq_run::{Status, run};
 use std::alloc::{AllocError, Global};
@@ -14,6 +17,8 @@ use std::random::RandomSource;
 use std::sync::ledger::{Blank, Ledger};
 use std::test::Fail;
 
+mod actions;
+mod answers;
 mod blocks;
 mod cuts;
 mod declarations;
@@ -23,6 +28,7 @@ mod lines;
 mod notices;
 mod refused;
 mod statements;
+mod times;
 mod values;
 
 /// Declares the source `quotes`. The key of its elements is their child `Symbol`.
@@ -111,11 +117,13 @@ fn calls_of(alloc: Global, numbers: &[u64]) -> Result<Calls, AllocError> {
     Ok(all)
 }
 
+/// A run of a new engine over these handlers, whose steps are counted in this ledger.
 fn counted_run<I: Source, O: Sink, L: Ledger>(
     alloc: Global,
     words: &[&str],
     input: &mut I,
     output: &mut O,
+    handlers: &Handlers,
     blank: Blank,
 ) -> Status
 where
@@ -127,17 +135,43 @@ where
     let Ok(seed) = RandomState::new(&OneSeed) else {
         return Status::NoMemory;
     };
-    run(alloc, seed, words, input, output, &mut steps)
+    let Ok(mut engine) = Engine::new(alloc, seed, handlers) else {
+        return Status::NoMemory;
+    };
+    run(
+        alloc,
+        words,
+        input,
+        output,
+        handlers,
+        &mut engine,
+        &mut steps,
+    )
 }
 
-/// A run with a counter of its own.
+/// A run over these handlers, with a counter of its own.
 fn run_on<I: Source, O: Sink>(
     alloc: Global,
     words: &[&str],
     input: &mut I,
     output: &mut O,
+    handlers: &Handlers,
 ) -> Status {
-    counted_run::<_, _, Brand>(alloc, words, input, output, Blank::new(1))
+    counted_run::<_, _, Brand>(alloc, words, input, output, handlers, Blank::new(1))
+}
+
+/// A run over the handlers of the program.
+fn run_program<I: Source, O: Sink>(
+    alloc: Global,
+    words: &[&str],
+    input: &mut I,
+    output: &mut O,
+) -> Status {
+    let mut handlers = Handlers::new(alloc);
+    match add_handlers(alloc, &mut handlers) {
+        Ok(()) => run_on(alloc, words, input, output, &handlers),
+        Err(AllocError) => Status::NoMemory,
+    }
 }
 
 /// The outcome of `ncq run` on this script.
@@ -147,7 +181,7 @@ fn outcome_of(alloc: Global, script: &[u8], outside: Outside<'_>) -> Result<Outc
     let script = bytes_of(alloc, script)?;
     let mut input = memory_source(script, outside.piece.max(1), read_faults);
     let mut output = memory_sink(alloc, outside.room, write_faults)?;
-    let status = run_on(alloc, &["run"], &mut input, &mut output);
+    let status = run_program(alloc, &["run"], &mut input, &mut output);
     Ok(Outcome {
         status,
         written: Vec::from_slice(alloc, output.held())?,

@@ -2,7 +2,7 @@
 
 use super::{
     Outside, PUT_95, PUT_96, SOURCE, TOLD_95, TOLD_96, WATCH, calls_of, expect_bytes, expect_end,
-    in_pieces, joined, run_on,
+    in_pieces, joined, run_program,
 };
 use ncq_base::bytes_of;
 use ncq_outside::{Sink, Source, memory_sink, memory_source};
@@ -141,7 +141,7 @@ const OTHER_WORDS: &[&[&str]] = &[
 
 fn refuse_words<I: Source, O: Sink>(rt: &impl Abort, alloc: Global, input: &mut I, output: &mut O) {
     for words in OTHER_WORDS {
-        let status = run_on(alloc, words, input, output);
+        let status = run_program(alloc, words, input, output);
         assert!(rt; status == Status::Usage);
     }
 }
@@ -155,7 +155,7 @@ fn other_words_read_and_write_nothing(rt: HostRuntime) -> Result<(), Fail> {
     let mut output = memory_sink(alloc, 64, calls_of(alloc, &[])?)?;
     refuse_words(&rt, alloc, &mut input, &mut output);
     assert!(rt; output.held().is_empty());
-    let status = run_on(alloc, &["run"], &mut input, &mut output);
+    let status = run_program(alloc, &["run"], &mut input, &mut output);
     assert!(rt; status == Status::Done);
     expect_bytes(&rt, output.held(), b"1 refused 99 unbuilt\n", "");
     Ok(())

@@ -1,6 +1,6 @@
 //! The limits: the last script that is within each, and the first that is not.
 
-use super::{SOURCE, calls_of, expect_end, in_pieces, joined, run_on};
+use super::{SOURCE, calls_of, expect_end, in_pieces, joined, run_program};
 use ncq_outside::{StdSource, memory_sink};
 use ncq_run::Status;
 use std::alloc::{AllocError, Global};
@@ -358,7 +358,7 @@ const DEEP_TAGS: &[Repeated<'_>] = &[
         second: "</>",
         back: "</> IN q CONSTRUCT $g DO print\n.\n",
         last: 31,
-        within: "1 refused 99 unbuilt\n",
+        within: "1 refused 4 no-source\n",
         over: "1 refused 15 limit pattern\n",
     },
     Repeated {
@@ -368,7 +368,7 @@ const DEEP_TAGS: &[Repeated<'_>] = &[
         second: "</>",
         back: " DO print\n.\n",
         last: 32,
-        within: "1 refused 99 unbuilt\n",
+        within: "1 refused 4 no-source\n",
         over: "1 refused 15 limit pattern\n",
     },
     Repeated {
@@ -403,7 +403,7 @@ const ARMS: &[Repeated<'_>] = &[
         second: "",
         back: "</> IN q CONSTRUCT $g DO print\n.\n",
         last: 8,
-        within: "1 refused 99 unbuilt\n",
+        within: "1 refused 4 no-source\n",
         over: "1 refused 15 limit arms\n",
     },
     Repeated {
@@ -413,7 +413,7 @@ const ARMS: &[Repeated<'_>] = &[
         second: "<a><b/><c/></>",
         back: "</> IN q CONSTRUCT $g DO print\n.\n",
         last: 4,
-        within: "1 refused 99 unbuilt\n",
+        within: "1 refused 4 no-source\n",
         over: "1 refused 15 limit arms\n",
     },
 ];
@@ -427,7 +427,7 @@ const SLOTS: &[Repeated<'_>] = &[
         second: "",
         back: "</></> IN q CONSTRUCT $g DO print\n.\n",
         last: 64,
-        within: "1 refused 99 unbuilt\n",
+        within: "1 refused 4 no-source\n",
         over: "1 refused 15 limit slots\n",
     },
     Repeated {
@@ -437,7 +437,7 @@ const SLOTS: &[Repeated<'_>] = &[
         second: "<b><c/></> ELEMENT_AS $c",
         back: "</></></> IN q CONSTRUCT $g DO print\n.\n",
         last: 32,
-        within: "1 refused 99 unbuilt\n",
+        within: "1 refused 4 no-source\n",
         over: "1 refused 15 limit slots\n",
     },
     // Patterns without them, and what stands in the template, are none.
@@ -448,8 +448,8 @@ const SLOTS: &[Repeated<'_>] = &[
         second: "<b id=\"7\">c</>",
         back: "</> DO print\n.\n",
         last: 65,
-        within: "1 refused 99 unbuilt\n",
-        over: "1 refused 99 unbuilt\n",
+        within: "1 refused 4 no-source\n",
+        over: "1 refused 4 no-source\n",
     },
 ];
 
@@ -462,7 +462,7 @@ const CONDITIONS: &[Repeated<'_>] = &[
         second: "",
         back: " CONSTRUCT $g DO print\n.\n",
         last: 32,
-        within: "1 refused 99 unbuilt\n",
+        within: "1 refused 4 no-source\n",
         over: "1 refused 15 limit conditions\n",
     },
     Repeated {
@@ -472,7 +472,7 @@ const CONDITIONS: &[Repeated<'_>] = &[
         second: ", $x != 1",
         back: " CONSTRUCT $g DO print\n.\n",
         last: 32,
-        within: "1 refused 99 unbuilt\n",
+        within: "1 refused 4 no-source\n",
         over: "1 refused 15 limit slots\n",
     },
     Repeated {
@@ -482,7 +482,7 @@ const CONDITIONS: &[Repeated<'_>] = &[
         second: ", $a < 1, $b < 1, $c < 1, $d < 1",
         back: " CONSTRUCT $g DO print\n.\n",
         last: 8,
-        within: "1 refused 99 unbuilt\n",
+        within: "1 refused 4 no-source\n",
         over: "1 refused 15 limit arms\n",
     },
 ];
@@ -518,7 +518,7 @@ impl io::Read for Comments {
 fn status_at(alloc: Global, length: usize) -> Result<Status, AllocError> {
     let mut input = StdSource::new(Comments { left: length });
     let mut output = memory_sink(alloc, 0, calls_of(alloc, &[])?)?;
-    Ok(run_on(alloc, &["run"], &mut input, &mut output))
+    Ok(run_program(alloc, &["run"], &mut input, &mut output))
 }
 
 /// A second where it is compiled; too long for a try with its checks.

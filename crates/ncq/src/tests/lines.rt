@@ -19,7 +19,7 @@ const COMMENTS: &[(&str, &str)] = &[
     // They have no number.
     (
         "#\n\nclock 1\n  # x\nreport\n#",
-        "1 refused 99 unbuilt\n2 refused 99 unbuilt\n",
+        "1 ok\n2 refused 99 unbuilt\n",
     ),
     // Behind a word it is no comment.
     ("report # x\n", "1 refused 1 command\n"),
@@ -40,13 +40,13 @@ const ENDS: &[(&str, &str)] = &[
     ),
     // A carriage return in a line parts words and ends no line.
     ("report\rreport\n", "1 refused 1 command\n"),
-    ("clock\r1\n", "1 refused 99 unbuilt\n"),
+    ("clock\r1\n", "1 ok\n"),
     ("\rreport\n", "1 refused 99 unbuilt\n"),
 ];
 
 /// "Every other byte belongs to a word": form feeds, vertical tabs, zeros, and the bytes of other blanks and marks.
 const WORDS: &[(&str, &str)] = &[
-    (" \tclock \t 1\t \n", "1 refused 99 unbuilt\n"),
+    (" \tclock \t 1\t \n", "1 ok\n"),
     ("\x0c\n", "1 refused 1 command\n"),
     ("\x0c# x\n", "1 refused 1 command\n"),
     ("\x0breport\n", "1 refused 1 command\n"),
@@ -70,23 +70,23 @@ const COMMANDS: &[(&str, &str)] = &[
     ),
     (
         "REPORT\nClock 1\ndElEtE w\n",
-        "1 refused 99 unbuilt\n2 refused 99 unbuilt\n3 refused 99 unbuilt\n",
+        "1 refused 99 unbuilt\n2 ok\n3 refused 9 no-name\n",
     ),
     (
         "clock\nclock 1\nclock x\nclock 1 1\nreport\nreport 1\n",
-        "1 refused 1 command\n2 refused 99 unbuilt\n3 refused 1 command\n4 refused 1 command\n5 refused 99 unbuilt\n6 refused 1 command\n",
+        "1 refused 1 command\n2 ok\n3 refused 1 command\n4 refused 1 command\n5 refused 99 unbuilt\n6 refused 1 command\n",
     ),
     (
         "delete\ndelete w\ndelete w w\n",
-        "1 refused 1 command\n2 refused 99 unbuilt\n3 refused 1 command\n",
+        "1 refused 1 command\n2 refused 9 no-name\n3 refused 1 command\n",
     ),
     (
         "clock 18446744073709551615\nclock 18446744073709551616\nclock -1\nclock +1\n",
-        "1 refused 99 unbuilt\n2 refused 1 command\n3 refused 1 command\n4 refused 1 command\n",
+        "1 ok\n2 refused 1 command\n3 refused 1 command\n4 refused 1 command\n",
     ),
     (
         "clock 00000000000000000001\nclock 000000000000000000001\n",
-        "1 refused 99 unbuilt\n2 refused 1 command\n",
+        "1 ok\n2 refused 1 command\n",
     ),
 ];
 

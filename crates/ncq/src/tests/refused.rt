@@ -1,6 +1,9 @@
 //! A refused command changes nothing but the number of the next command.
 
-use super::{PUT_95, PUT_96, SOURCE, TOLD_95, TOLD_96, WATCH, expect_output, expect_parts, joined};
+use super::{
+    Case, PUT_95, PUT_96, SOURCE, TOLD_95, TOLD_96, WATCH, expect_each, expect_output,
+    expect_parts, joined,
+};
 use std::alloc::Global;
 use std::process::Abort;
 use std::test::Fail;
@@ -58,15 +61,32 @@ const COMMANDS: &[(&str, [&str; 5])] = &[
     // Nothing that was accepted matters.
     ("jump\n", ["1 command"; 5]),
     ("source quotes root Quotes key\n", ["1 command"; 5]),
-    ("delete w\n", ["99 unbuilt"; 5]),
-    ("clock 1\n", ["99 unbuilt"; 5]),
+    ("delete v\n", ["9 no-name"; 5]),
+    ("clock -1\n", ["1 command"; 5]),
     ("report\n", ["99 unbuilt"; 5]),
     ("delta quotes\n(Quote\n.\n", ["5 pyx 2"; 5]),
     ("delta nothing\n.\n", ["4 no-source"; 5]),
     ("create w\n.\n", ["10 query"; 5]),
+    // A live query keeps its name, whatever else is wrong.
     (
         "create w WHERE <Quotes><Quote/></> IN quotes CONSTRUCT <hit/> DO print\n.\n",
-        ["99 unbuilt"; 5],
+        [
+            "4 no-source",
+            "",
+            "8 name-taken",
+            "8 name-taken",
+            "8 name-taken",
+        ],
+    ),
+    (
+        "create w WHERE <Others><Quote/></> IN quotes CONSTRUCT $g DO fax EXPIRE 1 START 2\n.\n",
+        [
+            "4 no-source",
+            "12 root",
+            "8 name-taken",
+            "8 name-taken",
+            "8 name-taken",
+        ],
     ),
     // A source stays as it was first declared.
     (
@@ -95,30 +115,44 @@ const COMMANDS: &[(&str, [&str; 5])] = &[
             "7 no-key 2",
         ],
     ),
-    // A statement needs its source and its root; behind the one live query none of them matters.
+    // A statement needs its source, then its root, its variables, its action and its times.
     (
-        "create v WHERE <Others><a><b>c</></> ELEMENT_AS $g</> IN others CONSTRUCT $g DO print\n.\n",
+        "create v WHERE <Others><Quote/></> IN others CONSTRUCT $g DO fax EXPIRE 1 START 2\n.\n",
+        ["4 no-source"; 5],
+    ),
+    (
+        "create v WHERE <Others><Quote/></> IN quotes CONSTRUCT $g DO fax EXPIRE 1 START 2\n.\n",
+        ["4 no-source", "12 root", "12 root", "12 root", "12 root"],
+    ),
+    (
+        "create v WHERE <Quotes><Quote/></> IN quotes CONSTRUCT $g DO fax EXPIRE 1 START 2\n.\n",
         [
             "4 no-source",
-            "4 no-source",
-            "99 unbuilt",
-            "99 unbuilt",
-            "99 unbuilt",
+            "11 unbound",
+            "11 unbound",
+            "11 unbound",
+            "11 unbound",
         ],
     ),
     (
-        "create v WHERE <Others><a><b>c</></> ELEMENT_AS $g</> IN quotes CONSTRUCT $g DO print\n.\n",
+        "create v WHERE <Quotes><Quote/></> IN quotes CONSTRUCT <hit/> DO fax EXPIRE 1 START 2\n.\n",
         [
             "4 no-source",
-            "12 root",
-            "99 unbuilt",
-            "99 unbuilt",
-            "99 unbuilt",
+            "13 action",
+            "13 action",
+            "13 action",
+            "13 action",
         ],
     ),
     (
-        "create v WHERE <Quotes><a><b>c</></> ELEMENT_AS $g</> IN quotes CONSTRUCT $g DO print\n.\n",
-        ["4 no-source", "", "99 unbuilt", "99 unbuilt", "99 unbuilt"],
+        "create v WHERE <Quotes><Quote/></> IN quotes CONSTRUCT <hit/> DO print EXPIRE 1 START 2\n.\n",
+        [
+            "4 no-source",
+            "14 times",
+            "14 times",
+            "14 times",
+            "14 times",
+        ],
     ),
 ];
 
@@ -157,8 +191,16 @@ const ELSEWHERE: &str =
 
 /// What one command leaves to the next.
 const LEFT: &[(&[&str], &[&str])] = &[
-    // There is no clock yet.
-    (&[SOURCE, "clock 1\n"], &["1 ok\n2 refused 99 unbuilt\n"]),
+    // The clock may stand, and never goes back.
+    (
+        &[
+            "clock 9\n",
+            "clock 8\n",
+            "clock 9\n",
+            "clock 18446744073709551616\n",
+        ],
+        &["1 ok\n2 refused 2 clock\n3 ok\n4 refused 1 command\n"],
+    ),
     // A source stays as it was first declared.
     (
         &[
@@ -173,16 +215,28 @@ const LEFT: &[(&[&str], &[&str])] = &[
     (&[WATCH], &["1 refused 4 no-source\n"]),
     (
         &[WATCH, SOURCE, WATCH, WATCH],
-        &["1 refused 4 no-source\n2 ok\n3 ok\n4 refused 99 unbuilt\n"],
+        &["1 refused 4 no-source\n2 ok\n3 ok\n4 refused 8 name-taken\n"],
     ),
+    // The name is judged before the source.
     (
         &[SOURCE, ELSEWHERE, WATCH, ELSEWHERE],
-        &["1 ok\n2 refused 4 no-source\n3 ok\n4 refused 99 unbuilt\n"],
+        &["1 ok\n2 refused 4 no-source\n3 ok\n4 refused 8 name-taken\n"],
     ),
-    // One query is live, and no other.
+    // A name is taken as long as its query is live.
     (
         &[SOURCE, WATCH, WATCH],
-        &["1 ok\n2 ok\n3 refused 99 unbuilt\n"],
+        &["1 ok\n2 ok\n3 refused 8 name-taken\n"],
+    ),
+    (
+        &[
+            SOURCE,
+            WATCH,
+            "delete W\n",
+            "delete w\n",
+            "delete w\n",
+            WATCH,
+        ],
+        &["1 ok\n2 ok\n3 refused 9 no-name\n4 ok\n5 refused 9 no-name\n6 ok\n"],
     ),
     // An element without its key.
     (
@@ -221,4 +275,31 @@ const LEFT: &[(&[&str], &[&str])] = &[
 #[test]
 fn a_command_leaves_its_state_to_the_next(rt: HostRuntime) -> Result<(), Fail> {
     expect_parts(&rt, rt.alloc(), LEFT)
+}
+
+/// One fault in each command, behind the declared source.
+const FAULTS: &[Case<'_>] = &[
+    (
+        "create w WHERE <Quote><Quote><Symbol>INTC</></> ELEMENT_AS $g</> IN \"quotes\" CONSTRUCT $g DO print\n.\n",
+        "2 refused 12 root\n",
+    ),
+    (
+        "create w WHERE <Quotes><Quote><Symbol>INTC</></> ELEMENT_AS $g</> IN \"quotes\" CONSTRUCT $h DO print\n.\n",
+        "2 refused 11 unbound\n",
+    ),
+    (
+        "create w WHERE <Quotes><Quote><Symbol>INTC</></> ELEMENT_AS $g</> IN \"x\" CONSTRUCT $g DO print\n.\n",
+        "2 refused 4 no-source\n",
+    ),
+    (
+        "create w WHERE <Quotes><Quote><Symbol>INTC</></> ELEMENT_AS $g</> IN \"quotes\" CONSTRUCT $g\n.\n",
+        "2 refused 10 query\n",
+    ),
+    (SOURCE, "2 refused 3 source-exists\n"),
+    ("jump\n", "2 refused 1 command\n"),
+];
+
+#[test]
+fn a_fault_is_named(rt: HostRuntime) -> Result<(), Fail> {
+    expect_each(&rt, rt.alloc(), (SOURCE, "1 ok\n"), FAULTS)
 }

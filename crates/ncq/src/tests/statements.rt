@@ -1,4 +1,4 @@
-//! `create`: which texts are statements, and which of them are built.
+//! `create`: which texts are statements, and which of them are accepted.
 //! Each text is a statement with another piece in one place.
 
 use super::{PUT_95, SOURCE, TOLD_95, expect_each, expect_output, joined};
@@ -304,25 +304,24 @@ fn a_text_that_is_no_statement_is_refused(rt: HostRuntime) -> Result<(), Fail> {
     expect_answer(&rt, alloc, answer, ACTION, NO_ACTIONS)
 }
 
-/// Two patterns; no attribute, one part and a suffix of the right kind are wanted of one.
-const OTHER_PATTERNS: &[&str] = &[
+/// Any number of patterns, with attributes, texts, parts and suffixes. An end closes the tag or stands in it.
+const PATTERNS: &[&str] = &[
     "<a><b>c</></> ELEMENT_AS $g <a/>",
     "<a/> <a><b>c</></> ELEMENT_AS $g",
     "<a/> ELEMENT_AS $g",
     "<a></> ELEMENT_AS $g",
     "<a>c</> ELEMENT_AS $g",
     "<a>$c</> ELEMENT_AS $g",
+    "<a>$g</>",
+    "<a id=$g/>",
     "<a><b>c</><d>e</></> ELEMENT_AS $g",
     "<a id=\"7\"><b>c</></> ELEMENT_AS $g",
     "<a id=$i><b>c</></> ELEMENT_AS $g",
     "<a><b>c</></> CONTENT_AS $g",
-    "<a><b>c</></>",
-    "<a><b>c</></> ELEMENT_AS $h",
-    "<a><b>c</></> ELEMENT_AS $G",
 ];
 
-/// No attribute, a literal and no suffix are wanted of the inner pattern.
-const OTHER_PARTS: &[&str] = &[
+/// The same in a pattern; a variable may stand in many places.
+const PARTS: &[&str] = &[
     "<b/>",
     "<b></>",
     "<b>$c</>",
@@ -332,41 +331,94 @@ const OTHER_PARTS: &[&str] = &[
     "<b>c</> CONTENT_AS $g",
 ];
 
-/// A second match, and conditions.
-const OTHER_ITEMS: &[&str] = &[
+/// More matches, and conditions.
+const ITEMS: &[&str] = &[
     "\"quotes\", <Quotes><a/></> IN \"quotes\"",
     "\"quotes\", $g = 1",
     "\"quotes\", 1 != $g,",
-    "\"nothing\", $g = 1",
+    "\"quotes\", $g <= $g, <Quotes><d>$h</></> IN quotes, \"a b\" > $h",
 ];
 
-const OTHER_TEMPLATES: &[&str] = &["CONSTRUCT $h", "CONSTRUCT <hit>$g</>", "CONSTRUCT <hit/>"];
+const TEMPLATES: &[&str] = &["CONSTRUCT <hit>$g</>", "CONSTRUCT <hit/>"];
 
-/// Another action, an argument, a time. A dot with a blank ends no block: it is an argument.
+/// Other actions with their arguments, and times.
 const OTHER_ACTIONS: &[&str] = &[
-    "DO prints",
     "DO count",
     "DO mailto \"ops desk\"",
-    "DO print x",
-    "DO print \"start\"",
-    "DO print \"\"",
+    "DO MAILTO x",
+    "DO mailto \"\"",
+    "DO mailto \"start\" START 1 EVERY 2 EXPIRE 3",
+    "DO mailto\n.. ",
     "DO print EVERY 1",
     "DO print START 0",
+    "DO print EXPIRE 0",
+    "DO print EXPIRE 5 START 5",
     "DO print EXPIRE 18446744073709551615",
-    "DO start 5",
-    "DO print\n. ",
-    "DO print\n..",
 ];
 
 #[test]
-fn a_statement_of_another_form_is_not_built(rt: HostRuntime) -> Result<(), Fail> {
+fn a_statement_has_many_forms(rt: HostRuntime) -> Result<(), Fail> {
     let alloc = rt.alloc();
-    let answer = "refused 99 unbuilt";
-    expect_answer(&rt, alloc, answer, PATTERN, OTHER_PATTERNS)?;
-    expect_answer(&rt, alloc, answer, PART, OTHER_PARTS)?;
-    expect_answer(&rt, alloc, answer, SOURCE_NAME, OTHER_ITEMS)?;
-    expect_answer(&rt, alloc, answer, TEMPLATE, OTHER_TEMPLATES)?;
-    expect_answer(&rt, alloc, answer, ACTION, OTHER_ACTIONS)
+    expect_answer(&rt, alloc, "ok", PATTERN, PATTERNS)?;
+    expect_answer(&rt, alloc, "ok", PART, PARTS)?;
+    expect_answer(&rt, alloc, "ok", SOURCE_NAME, ITEMS)?;
+    expect_answer(&rt, alloc, "ok", TEMPLATE, TEMPLATES)?;
+    expect_answer(&rt, alloc, "ok", ACTION, OTHER_ACTIONS)
+}
+
+/// Patterns without the variable of the template. Variables are compared byte by byte.
+const UNBOUND_PATTERNS: &[&str] = &[
+    "<a><b>c</></>",
+    "<a><b>c</></> ELEMENT_AS $h",
+    "<a><b>c</></> ELEMENT_AS $G",
+];
+
+/// Conditions on a variable that no pattern has.
+const UNBOUND_ITEMS: &[&str] = &["\"quotes\", $h = 1", "\"quotes\", $g = $h"];
+
+const UNBOUND_TEMPLATES: &[&str] = &[
+    "CONSTRUCT $h",
+    "CONSTRUCT <hit>$g <in>$h</></>",
+    "CONSTRUCT <hit a=$h/>",
+];
+
+#[test]
+fn a_used_variable_is_in_a_pattern(rt: HostRuntime) -> Result<(), Fail> {
+    let alloc = rt.alloc();
+    let answer = "refused 11 unbound";
+    expect_answer(&rt, alloc, answer, PATTERN, UNBOUND_PATTERNS)?;
+    expect_answer(&rt, alloc, answer, SOURCE_NAME, UNBOUND_ITEMS)?;
+    expect_answer(&rt, alloc, answer, TEMPLATE, UNBOUND_TEMPLATES)
+}
+
+/// An action that is not there, an argument too much, and one too few. A dot with a blank ends no
+/// block: it is an argument. The action is judged before the times.
+const NO_HANDLERS: &[&str] = &[
+    "DO prints",
+    "DO fax",
+    "DO print x",
+    "DO print \"start\"",
+    "DO print \"\"",
+    "DO count x",
+    "DO mailto",
+    "DO mailto EVERY 5",
+    "DO start 5",
+    "DO print\n. ",
+    "DO print\n..",
+    "DO fax START 5 EXPIRE 4",
+];
+
+/// The expiry is not below the start.
+const NO_TIMES: &[&str] = &[
+    "DO print START 5 EXPIRE 4",
+    "DO print EXPIRE 4 EVERY 9 START 5",
+];
+
+#[test]
+fn a_statement_has_an_action_and_times(rt: HostRuntime) -> Result<(), Fail> {
+    let alloc = rt.alloc();
+    expect_answer(&rt, alloc, "refused 13 action", ACTION, NO_HANDLERS)?;
+    expect_answer(&rt, alloc, "refused 14 times", ACTION, NO_TIMES)
 }
 
 /// The name of a source is the text without its marks, byte by byte.
@@ -382,6 +434,8 @@ const OTHER_SOURCES: &[&str] = &[
     "\"\"",
     "(quotes)",
     "\"\\\"quotes\\\"\"",
+    "\"nothing\", $g = 1",
+    "\"quotes\", <quotes><a/></> IN \"nothing\"",
 ];
 
 /// Roots that are not that of the source.

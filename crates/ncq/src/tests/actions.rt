@@ -1,0 +1,174 @@
+//! What is done with a notice: the texts of `print`, `count` and `mailto`.
+
+ghost use Rattle.std.specs.Prelude.{◌≡◌};
+ghost use Rattle.ncq_callback.specs.Facts.{Writes};
+ghost use Rattle.ncq_callback.specs.Texts.{render};
+
+use super::{
+    DELETE, PUT_95, PUT_96, Parts, SOURCE, TOLD_95, WATCH, calls_of, expect_bytes, expect_parts,
+    joined, run_on,
+};
+use crate::{add_handler, add_handlers};
+use ncq_base::bytes_of;
+use ncq_callback::{Call, Handlers, Kind, Notice, print_notice};
+use ncq_outside::{memory_sink, memory_source};
+use ncq_run::Status;
+use std::alloc::{AllocError, Global};
+use std::process::Abort;
+use std::test::Fail;
+
+/// The query of `WATCH` up to its action, and the end of its block.
+const WATCH_DO: &str =
+    "create w WHERE <Quotes><Quote><Symbol>INTC</></> ELEMENT_AS $g</> IN \"quotes\" CONSTRUCT $g DO ";
+
+const DOT: &str = "\n.\n";
+
+const PUT_1: &str =
+    "delta quotes\n(Quote\n(Symbol\n-INTC\n)Symbol\n(Price\n-1\n)Price\n)Quote\n.\n";
+
+const GAIN_1: &str = "gain 1\n(Quote\n(Symbol\n-INTC\n)Symbol\n(Price\n-1\n)Price\n)Quote\nend\n";
+
+const TEXTS: &[Parts<'_>] = &[
+    (
+        &[SOURCE, WATCH_DO, "MailTo \"ops desk\"", DOT, PUT_1],
+        &["1 ok\n2 ok\n3 ok\nmail w 0 ops desk\n", GAIN_1],
+    ),
+    (
+        &[SOURCE, WATCH_DO, "count", DOT, PUT_1],
+        &["1 ok\n2 ok\n3 ok\ncount w 0 gain 1 lose 0\n"],
+    ),
+    (
+        &[SOURCE, WATCH_DO, "PRINT", DOT, PUT_1],
+        &["1 ok\n2 ok\n3 ok\nnotice w 0\n", GAIN_1],
+    ),
+    // The argument is kept as written and escaped, and an empty one leaves the space before it.
+    (
+        &[
+            SOURCE,
+            WATCH_DO,
+            "mailto \"Ops\tDesk\n\\\"a\\b\\\"\"",
+            DOT,
+            PUT_1,
+        ],
+        &[
+            "1 ok\n2 ok\n3 ok\nmail w 0 Ops\\tDesk\\n\"a\\\\b\"\n",
+            GAIN_1,
+        ],
+    ),
+    (
+        &[
+            SOURCE,
+            WATCH_DO,
+            "mailto \"\" START 3",
+            DOT,
+            PUT_1,
+            "clock 8\n",
+        ],
+        &["1 ok\n2 ok\n3 ok\n4 ok\nmail w 3 \n", GAIN_1],
+    ),
+    // Losses are counted too, and what is no difference is not told.
+    (
+        &[
+            SOURCE, WATCH_DO, "count", DOT, PUT_95, PUT_95, PUT_96, DELETE,
+        ],
+        &[
+            "1 ok\n2 ok\n3 ok\ncount w 0 gain 1 lose 0\n4 ok\n5 ok\ncount w 0 gain 1 lose 1\n",
+            "6 ok\ncount w 0 gain 0 lose 1\n",
+        ],
+    ),
+    // No action of the name, an argument too much, and one too few.
+    (
+        &[
+            SOURCE, WATCH_DO, "fax", DOT, WATCH_DO, "print x", DOT, WATCH_DO, "mailto", DOT, PUT_1,
+        ],
+        &["1 ok\n2 refused 13 action\n3 refused 13 action\n4 refused 13 action\n5 ok\n"],
+    ),
+];
+
+#[test]
+fn each_action_has_its_text(rt: HostRuntime) -> Result<(), Fail> {
+    expect_parts(&rt, rt.alloc(), TEXTS)
+}
+
+/// The lines of the quote that `PUT_95` puts.
+const QUOTE_95: &str = "(Quote\n(Symbol\n-INTC\n)Symbol\n(Price\n-95.5\n)Price\n)Quote\n";
+
+/// Whether the notice has one entry, the gain of the quote at 95.5.
+fn is_gain_of_95(notice: &Notice) -> bool {
+    match notice.entries.as_slice() {
+        [entry] => {
+            entry.gain && entry.count == 1 && entry.bytes.as_slice() == QUOTE_95.as_bytes()
+        }
+        _ => false,
+    }
+}
+
+/// Adds `tell`, which writes what `print` writes, and `picky`, which does so for one notice and
+/// finds no memory for any other.
+fn add_others(alloc: Global, handlers: &mut Handlers) -> Result<(), AllocError> {
+    let tell: Call = Box::new(
+        alloc,
+        |argument: &[u8], notice: &Notice, out: &mut Vec<u8>| -> Result<(), AllocError>
+            ensures { Writes
+                (render Kind.Print argument.now
+                notice.now.name notice.now.instant notice.now.entries)
+                out.old.items out.new.items result }
+        { print_notice(argument, notice, out) },
+    )?;
+    add_handler(alloc, handlers, b"tell", Kind::Print, tell)?;
+    let picky: Call = Box::new(
+        alloc,
+        |argument: &[u8], notice: &Notice, out: &mut Vec<u8>| -> Result<(), AllocError>
+            ensures { Writes
+                (render Kind.Print argument.now
+                notice.now.name notice.now.instant notice.now.entries)
+                out.old.items out.new.items result }
+        {
+            if is_gain_of_95(notice) {
+                print_notice(argument, notice, out)
+            } else {
+                Err(AllocError)
+            }
+        },
+    )?;
+    add_handler(alloc, handlers, b"picky", Kind::Print, picky)
+}
+
+/// The session on this script, over the handlers of the program and these two, ends so, with this
+/// written.
+fn expect_told(
+    rt: &impl Abort,
+    alloc: Global,
+    script: &[&str],
+    status: Status,
+    written: &[&str],
+) -> Result<(), Fail> {
+    let mut handlers = Handlers::new(alloc);
+    add_handlers(alloc, &mut handlers)?;
+    add_others(alloc, &mut handlers)?;
+    let script = bytes_of(alloc, &joined(alloc, script)?)?;
+    let mut input = memory_source(script, 64, calls_of(alloc, &[])?);
+    let mut output = memory_sink(alloc, 4096, calls_of(alloc, &[])?)?;
+    let got = run_on(alloc, &["run"], &mut input, &mut output, &handlers);
+    assert_eq!(rt; got, status);
+    expect_bytes(rt, output.held(), &joined(alloc, written)?, "");
+    Ok(())
+}
+
+/// What is written where the quote is put at 95.5.
+const ONCE: &[&str] = &["1 ok\n2 ok\n3 ok\n", TOLD_95];
+
+/// A handler writes what its closure appends, and where it finds no memory, its command's answer is
+/// not written.
+#[test]
+fn a_notice_goes_to_the_handler_of_its_action(rt: HostRuntime) -> Result<(), Fail> {
+    let alloc = rt.alloc();
+    let print = [SOURCE, WATCH, PUT_95];
+    expect_told(&rt, alloc, &print, Status::Done, ONCE)?;
+    let tell = [SOURCE, WATCH_DO, "tell", DOT, PUT_95];
+    expect_told(&rt, alloc, &tell, Status::Done, ONCE)?;
+    let picky = [SOURCE, WATCH_DO, "picky", DOT, PUT_95];
+    expect_told(&rt, alloc, &picky, Status::Done, ONCE)?;
+    let picky = [SOURCE, WATCH_DO, "picky", DOT, PUT_95, PUT_96];
+    expect_told(&rt, alloc, &picky, Status::NoMemory, ONCE)
+}
