@@ -4,12 +4,10 @@
 //! and which code a status ends with is proved, and the stored run and the tests show the rest.
 #![tactic(auto)]
 
-ghost use Rattle.std.specs.Prelude.{◌≡◌, ◌<◌, ◌↔◌, ◌++◌, ◌∷◌, [], MatchResult, OnOk};
-ghost use Rattle.std.specs.Prelude.{codes};
+ghost use Rattle.std.specs.Prelude.{◌≡◌, ◌<◌, ◌↔◌, ◌++◌, ◌∷◌, [], IfOk, MatchResult, OnOk};
 ghost use Rattle.ncq_callback.specs.Facts.{Writes};
 ghost use Rattle.ncq_callback.specs.Labels.{labels};
 ghost use Rattle.ncq_callback.specs.Texts.{render};
-ghost use Rattle.ncq_engine.specs.Stands.{Stands};
 ghost use Rattle.ncq_run.specs.Status.{IsRun, exit_code_of};
 
 use ncq_base::{Steps, bytes_of};
@@ -17,12 +15,12 @@ use ncq_callback::{
     Call, Handler, Handlers, Kind, Notice, count_notice, mail_notice, print_notice,
 };
 use ncq_engine::Engine;
-use ncq_outside::{StdSink, StdSource};
+use ncq_outside::{Sink, Source, StdSink, StdSource};
 use ncq_run::{Status, exit_code, run};
 use std::alloc::{AllocError, Global};
 use std::env::Env;
 use std::hash::RandomState;
-use std::io::{ErrorKind, Read, Write};
+use std::io::ErrorKind;
 use std::marker::Brand;
 use std::process::ExitCode;
 use std::random::RandomSource;
@@ -71,12 +69,22 @@ fn add_handler(
     }
 }
 
-/// Adds the handlers `print`, `count` and `mailto` behind the others.
-fn add_handlers(alloc: Global, handlers: &mut Handlers) -> Result<(), AllocError>
-    ensures added { OnOk result (labels handlers.new.items.items (λ h. h.name) (λ h. h.kind)
-        ≡ labels handlers.old.items.items (λ h. h.name) (λ h. h.kind)
-        ++ (codes "print", Kind.Print) ∷ (codes "count", Kind.Count)
-        ∷ (codes "mailto", Kind.MailTo) ∷ []) }
+/// A session over this source and this sink, of a new engine with the actions `print`, `count` and
+/// `mailto`, whose steps are counted in a ledger of its own.
+/// It ends with `Usage` exactly where the words are not the one word `run`.
+fn session<I: Source, O: Sink, L: Ledger>(
+    alloc: Global,
+    seed: RandomState,
+    words: &[&str],
+    input: &mut I,
+    output: &mut O,
+    blank: Blank,
+) -> Result<Status, AllocError>
+where
+    requires name { blank.name ≡ L.name }
+    requires parts { blank.parts ≡ L.parts }
+    requires some { 0 < L.parts }
+    ensures usage { IfOk result (λ status. status ≡ Status.Usage ↔ ¬ IsRun words.now) }
 {
     let print: Call = Box::new(
         alloc,
@@ -87,7 +95,6 @@ fn add_handlers(alloc: Global, handlers: &mut Handlers) -> Result<(), AllocError
                 out.old.items out.new.items result }
         { print_notice(argument, notice, out) },
     )?;
-    add_handler(alloc, handlers, b"print", Kind::Print, print)?;
     let count: Call = Box::new(
         alloc,
         |argument: &[u8], notice: &Notice, out: &mut Vec<u8>| -> Result<(), AllocError>
@@ -97,7 +104,6 @@ fn add_handlers(alloc: Global, handlers: &mut Handlers) -> Result<(), AllocError
                 out.old.items out.new.items result }
         { count_notice(argument, notice, out) },
     )?;
-    add_handler(alloc, handlers, b"count", Kind::Count, count)?;
     let mail: Call = Box::new(
         alloc,
         |argument: &[u8], notice: &Notice, out: &mut Vec<u8>| -> Result<(), AllocError>
@@ -107,49 +113,26 @@ fn add_handlers(alloc: Global, handlers: &mut Handlers) -> Result<(), AllocError
                 out.old.items out.new.items result }
         { mail_notice(argument, notice, out) },
     )?;
-    add_handler(alloc, handlers, b"mailto", Kind::MailTo, mail)
-}
-
-/// A session of a new engine over this reader and this writer, whose steps are counted in a ledger
-/// of its own.
-/// It ends with `Usage` exactly where the words are not the one word `run`.
-fn session<R: Read, W: Write, L: Ledger>(
-    alloc: Global,
-    words: &[&str],
-    reader: R,
-    writer: W,
-    handlers: &Handlers,
-    engine: &mut Engine,
-    blank: Blank,
-) -> Status
-where
-    R: Drop,
-    W: Drop,
-    requires name { blank.name ≡ L.name }
-    requires parts { blank.parts ≡ L.parts }
-    requires some { 0 < L.parts }
-    requires new { Stands engine.old [] }
-    requires first { engine.old.count ≡ 0 }
-    requires labels { engine.old.labels
-        ≡ (labels handlers.now.items.items (λ h. h.name) (λ h. h.kind)) }
-    ensures usage { result ≡ Status.Usage ↔ ¬ IsRun words.now }
-{
+    let mut handlers = Handlers::new(alloc);
+    add_handler(alloc, &mut handlers, b"print", Kind::Print, print)?;
+    add_handler(alloc, &mut handlers, b"count", Kind::Count, count)?;
+    add_handler(alloc, &mut handlers, b"mailto", Kind::MailTo, mail)?;
+    let mut engine = Engine::new(alloc, seed, &handlers)?;
     let mut steps = Steps::<L>::new(blank);
-    let mut input = StdSource::new(reader);
-    let mut output = StdSink::new(writer);
-    run(
+    Ok(run(
         alloc,
         words,
-        &mut input,
-        &mut output,
-        handlers,
-        engine,
+        input,
+        output,
+        &handlers,
+        &mut engine,
         &mut steps,
-    )
+    ))
 }
 
-/// What the words of the command line ask for, from standard input to standard output. Where the system gives no random
-/// bytes for the seed, that is a read fault, and nothing else is read or written.
+/// What the words of the command line ask for, from standard input to standard output. Where the
+/// system gives no random bytes for the seed, that is a read fault, and nothing else is read or
+/// written.
 fn answer<R: Env + Input + Print + RandomSource + AllocGlobal>(
     rt: &R,
 ) -> Result<Status, AllocError> {
@@ -162,18 +145,9 @@ fn answer<R: Env + Input + Print + RandomSource + AllocGlobal>(
     for word in &owned {
         words.push(word.as_str())?;
     }
-    let mut handlers = Handlers::new(alloc);
-    add_handlers(alloc, &mut handlers)?;
-    let mut engine = Engine::new(alloc, seed, &handlers)?;
-    Ok(session::<_, _, Brand>(
-        alloc,
-        &words,
-        rt.reader(),
-        io::writer(rt),
-        &handlers,
-        &mut engine,
-        Blank::new(1),
-    ))
+    let mut input = StdSource::new(rt.reader());
+    let mut output = StdSink::new(io::writer(rt));
+    session::<_, _, Brand>(alloc, seed, &words, &mut input, &mut output, Blank::new(1))
 }
 
 /// The exit code of an answer: that of its status, and 5 where memory ran out before there was one.

@@ -2,7 +2,7 @@
 
 ghost use Rattle.std.specs.Prelude.{◌≡◌, ◌<◌};
 
-use crate::add_handlers;
+use crate::session;
 use ncq_base::{Steps, bytes_of};
 use ncq_callback::Handlers;
 use ncq_engine::Engine;
@@ -160,18 +160,19 @@ fn run_on<I: Source, O: Sink>(
     counted_run::<_, _, Brand>(alloc, words, input, output, handlers, Blank::new(1))
 }
 
-/// A run over the handlers of the program.
+/// A session of the program.
 fn run_program<I: Source, O: Sink>(
     alloc: Global,
     words: &[&str],
     input: &mut I,
     output: &mut O,
 ) -> Status {
-    let mut handlers = Handlers::new(alloc);
-    match add_handlers(alloc, &mut handlers) {
-        Ok(()) => run_on(alloc, words, input, output, &handlers),
-        Err(AllocError) => Status::NoMemory,
-    }
+    let Ok(seed) = RandomState::new(&OneSeed) else {
+        return Status::NoMemory;
+    };
+    session::<_, _, Brand>(alloc, seed, words, input, output, Blank::new(1)).unwrap_or(
+        Status::NoMemory,
+    )
 }
 
 /// The outcome of `ncq run` on this script.

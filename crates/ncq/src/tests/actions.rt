@@ -8,7 +8,7 @@ use super::{
     DELETE, PUT_95, PUT_96, Parts, SOURCE, TOLD_95, WATCH, calls_of, expect_bytes, expect_parts,
     joined, run_on,
 };
-use crate::{add_handler, add_handlers};
+use crate::add_handler;
 use ncq_base::bytes_of;
 use ncq_callback::{Call, Handlers, Kind, Notice, print_notice};
 use ncq_outside::{memory_sink, memory_source};
@@ -103,9 +103,15 @@ fn is_gain_of_95(notice: &Notice) -> bool {
     }
 }
 
-/// Adds `tell`, which writes what `print` writes, and `picky`, which does so for one notice and
-/// finds no memory for any other.
-fn add_others(alloc: Global, handlers: &mut Handlers) -> Result<(), AllocError> {
+/// The session on this script ends so, with this written, over two handlers: `tell` writes what
+/// `print` writes, and `picky` does so for one notice and finds no memory for any other.
+fn expect_told(
+    rt: &impl Abort,
+    alloc: Global,
+    script: &[&str],
+    status: Status,
+    written: &[&str],
+) -> Result<(), Fail> {
     let tell: Call = Box::new(
         alloc,
         |argument: &[u8], notice: &Notice, out: &mut Vec<u8>| -> Result<(), AllocError>
@@ -115,7 +121,6 @@ fn add_others(alloc: Global, handlers: &mut Handlers) -> Result<(), AllocError> 
                 out.old.items out.new.items result }
         { print_notice(argument, notice, out) },
     )?;
-    add_handler(alloc, handlers, b"tell", Kind::Print, tell)?;
     let picky: Call = Box::new(
         alloc,
         |argument: &[u8], notice: &Notice, out: &mut Vec<u8>| -> Result<(), AllocError>
@@ -131,21 +136,9 @@ fn add_others(alloc: Global, handlers: &mut Handlers) -> Result<(), AllocError> 
             }
         },
     )?;
-    add_handler(alloc, handlers, b"picky", Kind::Print, picky)
-}
-
-/// The session on this script, over the handlers of the program and these two, ends so, with this
-/// written.
-fn expect_told(
-    rt: &impl Abort,
-    alloc: Global,
-    script: &[&str],
-    status: Status,
-    written: &[&str],
-) -> Result<(), Fail> {
     let mut handlers = Handlers::new(alloc);
-    add_handlers(alloc, &mut handlers)?;
-    add_others(alloc, &mut handlers)?;
+    add_handler(alloc, &mut handlers, b"tell", Kind::Print, tell)?;
+    add_handler(alloc, &mut handlers, b"picky", Kind::Print, picky)?;
     let script = bytes_of(alloc, &joined(alloc, script)?)?;
     let mut input = memory_source(script, 64, calls_of(alloc, &[])?);
     let mut output = memory_sink(alloc, 4096, calls_of(alloc, &[])?)?;
@@ -163,8 +156,6 @@ const ONCE: &[&str] = &["1 ok\n2 ok\n3 ok\n", TOLD_95];
 #[test]
 fn a_notice_goes_to_the_handler_of_its_action(rt: HostRuntime) -> Result<(), Fail> {
     let alloc = rt.alloc();
-    let print = [SOURCE, WATCH, PUT_95];
-    expect_told(&rt, alloc, &print, Status::Done, ONCE)?;
     let tell = [SOURCE, WATCH_DO, "tell", DOT, PUT_95];
     expect_told(&rt, alloc, &tell, Status::Done, ONCE)?;
     let picky = [SOURCE, WATCH_DO, "picky", DOT, PUT_95];
