@@ -39,8 +39,7 @@ found_behind first all (e ∷ es) h k =
 found_each : (es : List Entry) → IsStrictlySortedBy nat_cmp (keys_of es) → FindsEach es es
 found_each [] h = tt
 found_each (e ∷ es) h =
-    let here : is_at (nat_cmp e.0) e.0 ≡ true = grind (arith, nat_tests) in
-    (
+    let here : is_at (nat_cmp e.0) e.0 ≡ true = grind (arith, nat_tests) in (
       (λ i. cond (here i) (Some e.1) (lookup (is_at (nat_cmp e.0)) es)),
       found_behind e es es (sorted_head nat_cmp e.0 (keys_of es) h) (found_each es (sorted_tail nat_cmp e.0 (keys_of es) h)),
     )
