@@ -1,6 +1,6 @@
 -- What a calendar is after a move of the clock.
 use Rattle.std.proofs.Common.{◌≡◌, ℕ, ◌+◌, ◌<◌, ◌≤◌, Bool, true, false, List, [], ◌∷◌, ◌++◌, refl, sym, ◌∙◌, ap, arith, cond, subst, Less, inl, inr, length, take, get_or}
-use Rattle.std.specs.Prelude.{Option, Some, None, nat_lt, nat_le, option_and_then}
+use Rattle.std.specs.Prelude.{Option, Some, None, nat_le, option_and_then}
 use Rattle.std.specs.Option.{is_some}
 use Rattle.std.specs.List.{filter, flat_map, take_while, AllByRecursion}
 use Rattle.std.specs.List.Sorted.{IsStrictlySortedBy}
@@ -13,10 +13,9 @@ use Rattle.std.proofs.lemmas.List.{flat_map_more, take_more}
 use Rattle.std.proofs.lemmas.Map.Keys.{sorted_head, sorted_tail}
 use Rattle.ncq_base.specs.Keys.{times}
 use Rattle.ncq_base.proofs.CountLaws.{counts-flat_map}
-use Rattle.ncq_event.specs.declared.timing.Timing.{Timing}
 use Rattle.ncq_event.specs.declared.firing.Firing.{Firing}
 use Rattle.ncq_event.specs.Instants.{due}
-use Rattle.ncq_event.specs.Orders.{is_firing, AreRising}
+use Rattle.ncq_event.specs.Orders.{is_firing}
 use Rattle.ncq_event.specs.Agendas.{with_firings, without_firings, StandOnce}
 use Rattle.ncq_event.specs.Calendars.{Entry, firing_at, due_of, is_due, due_firings, next_after, next_of, Keeps, IsCalendar}
 use Rattle.ncq_event.proofs.DueLaws.{due_some}

@@ -1,5 +1,5 @@
 -- An agenda of expiries tells which timings have expired.
-use Rattle.std.proofs.Common.{◌≡◌, ℕ, suc, ◌+◌, ◌<◌, ◌≤◌, Bool, true, false, List, [], ◌∷◌, ◌++◌, map, refl, sym, ◌∙◌, ap, arith, cond, add-one, Less}
+use Rattle.std.proofs.Common.{◌≡◌, ℕ, suc, ◌+◌, Bool, true, false, List, [], ◌∷◌, ◌++◌, map, refl, sym, ◌∙◌, ap, arith, cond, add-one, Less}
 use Rattle.std.specs.Prelude.{Option, Some, None, nat_lt, nat_le}
 use Rattle.std.specs.List.{filter, flat_map, take_while, AllByRecursion}
 use Rattle.std.specs.List.Sorted.{IsPermutation, IsSorted, IsStrictlySortedBy}
@@ -8,7 +8,6 @@ use Rattle.std.specs.Map.{keys_of}
 use Rattle.std.proofs.lemmas.Bool.Decides.{nat_tests}
 use Rattle.std.proofs.lemmas.Map.Keys.{sorted_head, sorted_tail}
 use native.Mathlib.Numerals.{unary_clauses}
-use Rattle.ncq_base.specs.Keys.{times}
 use Rattle.ncq_base.specs.Counts.{total_by, SameCounts}
 use Rattle.ncq_base.proofs.CountLaws.{counts_from_permutation, counts-map}
 use Rattle.ncq_event.specs.declared.timing.Timing.{Timing}

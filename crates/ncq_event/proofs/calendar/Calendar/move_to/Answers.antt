@@ -1,7 +1,5 @@
-use Rattle.std.proofs.Common.{◌≡◌, ◌≤◌, ◌∙◌, ap, arith, subst, sym}
-use Rattle.std.specs.List.{flat_map}
+use Rattle.std.proofs.Common.{◌≤◌, ◌∙◌, ap, arith, subst, sym}
 use Rattle.ncq_event.specs.Agendas.{without_firings, with_firings}
-use Rattle.ncq_event.specs.Calendars.{next_of}
 use Rattle.ncq_event.proofs.CalendarMoves.{next_once, moved}
 use Rattle.ncq_event.proofs.calendar.Calendar.move_to.Goals as goal
 
