@@ -1,15 +1,11 @@
 -- Firings that are put into an agenda and taken out of it.
 use Rattle.std.proofs.Common.{◌≡◌, ℕ, zero, suc, ◌+◌, ◌<◌, ◌≤◌, Bool, true, false, List, [], ◌∷◌, refl, ap, arith, cond, take}
 use Rattle.std.specs.Prelude.{if◌then◌else◌}
-use Rattle.std.proofs.lemmas.Bool.Decides.{nat_tests}
 use Rattle.ncq_base.specs.Keys.{times}
 use Rattle.ncq_event.specs.declared.firing.Firing.{Firing}
 use Rattle.ncq_event.specs.Orders.{is_before, is_firing, AreRising}
 use Rattle.ncq_event.specs.Agendas.{with_firing, without_firing, with_firings, without_firings, StandOnce}
-use Rattle.ncq_event.proofs.OrderLaws.{IsBelow, heads, tails, rising_cons, firing_is, before_total, one_rising}
-
-firing_self : (f : Firing) → is_firing f f ≡ true
-firing_self f = grind (arith, nat_tests)
+use Rattle.ncq_event.proofs.OrderLaws.{IsBelow, heads, tails, rising_cons, firing_is, before_total, firing_self, one_rising}
 
 count_self : (f : Firing) → cond {A = ℕ} (is_firing f f) 1 0 ≡ 1
 count_self f = ap (λ (t : Bool). cond {A = ℕ} t 1 0) (firing_self f)
