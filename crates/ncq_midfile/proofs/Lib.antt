@@ -1,7 +1,11 @@
+pub mod ChainKeeps
+pub mod ChainLaws
 pub mod Compacts
 pub mod Counted
 pub mod Cuts
+pub mod FedLaws
 pub mod Gathers
+pub mod IndexLaws
 pub mod Kept
 pub mod Left
 pub mod Matches

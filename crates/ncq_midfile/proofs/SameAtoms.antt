@@ -15,7 +15,7 @@ abbrev text_in : Atom → List ℕ
 text_in (Num n) = []
 text_in (Text t) = t
 
-same_decides : (a b : Atom) → IsTrue (same_atom a b) ↔ (a ≡ b)
+pub same_decides : (a b : Atom) → IsTrue (same_atom a b) ↔ (a ≡ b)
 same_decides (Num m) (Num n) = (λ h. ap Num ((Decides-int_eq m n).0 h), λ e. (Decides-int_eq m n).1 (ap number_in e))
 same_decides (Num m) (Text t) = (λ h. cc, λ e. cc)
 same_decides (Text s) (Num n) = (λ h. cc, λ e. cc)

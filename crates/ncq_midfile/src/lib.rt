@@ -4,9 +4,11 @@
 //! rows that came in.
 #![tactic(auto)]
 
+mod chain;
 mod compact;
 mod content;
 mod file;
+mod index;
 mod laws;
 mod matching;
 mod signed;
