@@ -1,8 +1,8 @@
 -- Links stay chained when a number comes behind them or the last one goes.
-use Rattle.std.proofs.Common.{◌≡◌, ℕ, zero, suc, ◌+◌, ◌-◌, ◌<◌, ◌≤◌, Bool, true, false, cond, List, [], ◌∷◌, ◌++◌, map, length, get_or, take, nat_eq, refl, sym, ◌∙◌, ap, subst, arith, add-one, eqb-true, eq-eqb, Some, None, Option, ◌⊎◌, inl, inr, true≢false}
+use Rattle.std.proofs.Common.{◌≡◌, ℕ, zero, suc, ◌+◌, ◌-◌, ◌<◌, Bool, true, false, cond, List, [], ◌∷◌, ◌++◌, length, get_or, take, nat_eq, refl, sym, ◌∙◌, ap, arith, eqb-true, eq-eqb, Some, None, Option, true≢false}
 use Rattle.std.specs.Option.{unwrap_or}
 use Rattle.std.specs.Map.{lookup}
-use Rattle.std.proofs.lemmas.List.{map-append, length-append, length-map, get_or_append_left, get_or_at, take-append-le, take_at, take_more, take_all, get_or-take}
+use Rattle.std.proofs.lemmas.List.{map-append, length-append, length-map, get_or_append_left, get_or_at, take-append-le, take_at}
 use Rattle.ncq_midfile.specs.Chains.{last_end, numbers, AreLinked, AreChained}
 use Rattle.ncq_midfile.specs.declared.chain.Link.{Link}
 use Rattle.std.proofs.lemmas.List.{get_or-map}

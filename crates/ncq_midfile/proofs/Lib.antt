@@ -13,3 +13,4 @@ pub mod Parts
 pub mod SameAtoms
 pub mod Strikes
 pub mod Sounds
+pub mod Wide

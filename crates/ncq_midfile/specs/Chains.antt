@@ -29,5 +29,5 @@ AreLinked links = (at : ℕ) (d : Link) → at < length links
 -- each head tells the last of its number, and each link the one before it
 pub record AreChained (heads : List (ℕ × ℕ)) (links : List Link) : Type 0 where
   pub tops : (number : ℕ)
-    → unwrap_or (lookup (nat_eq number) heads) 0 ≡ last_end number (numbers links)
+      → unwrap_or (lookup (nat_eq number) heads) 0 ≡ last_end number (numbers links)
   pub backs : AreLinked links

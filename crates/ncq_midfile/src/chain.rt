@@ -101,12 +101,7 @@ impl Chains {
 }
 
 /// The places of a chain, rising.
-fn chain_from(
-    alloc: Global,
-    links: &[Link],
-    number: u64,
-    head: usize,
-) -> Result<Places, AllocError>
+fn chain_from(alloc: Global, links: &[Link], number: u64, head: usize) -> Result<Places, AllocError>
     requires links { AreLinked links.now }
     requires head { head ≡ last_end number (numbers links.now) }
     ensures { IfOk result (λ places. places ≡ places_where (nat_eq number) 0 (numbers links.now)) }

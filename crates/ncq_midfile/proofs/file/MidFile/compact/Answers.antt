@@ -1,5 +1,4 @@
-use Rattle.std.proofs.Common.{◌≡◌, List, map, refl, sym, ap, ◌∙◌, subst}
-use Rattle.ncq_row.specs.Embeddings.{Row}
+use Rattle.std.proofs.Common.{◌≡◌, List, map, sym, ap, ◌∙◌, subst}
 use Rattle.ncq_midfile.specs.Content.{IsContent, rows_of, rows_at}
 use Rattle.ncq_midfile.specs.Files.{FileState, IsFile}
 use Rattle.ncq_midfile.specs.Made.{gained_at}
