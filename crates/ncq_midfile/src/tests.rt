@@ -15,8 +15,12 @@ use ncq_row::{Names, Row, RowKey, Rows, Shape, ShapeContent, ShapeSuffix, match_
 use ncq_tree::{Attributes, Element, Forest, Node};
 use std::alloc::{AllocError, Global};
 use std::marker::Brand;
+use std::mem::size_of;
 use std::sync::ledger::{Blank, Ledger};
 use std::test::Fail;
+
+/// A file without rows takes no heap, and so many bytes.
+const _: () = prove!(size_of::<MidFile>() == 56);
 
 /// Histories, each with how many rows are left at the changes 0 to 5, and how many of them are `a`.
 const HISTORIES: [(&[(u8, u64, u64)], [usize; 6], [usize; 6]); 13] = [
