@@ -4,7 +4,9 @@
 #![tactic(auto)]
 
 mod equal;
+mod hull;
 mod range;
+mod tree;
 #[cfg(test)]
 mod tests;
 
