@@ -1,6 +1,5 @@
 -- What trees hold when an entry comes in or goes out, and what a span rules out.
 use Rattle.std.proofs.Common.{◌≡◌, ℕ, ◌+◌, Bool, true, false, cond, ◌&&◌, nat_eq, map, filter, List, [], ◌∷◌, ◌++◌, refl, sym, ◌∙◌, ap, arith, true≢false}
-use Rattle.std.specs.List.{AllByRecursion}
 use Rattle.std.proofs.lemmas.Bool.{eqb-true, eq-eqb}
 use Rattle.ncq_base.specs.Counts.{total_by, SameCounts}
 use Rattle.ncq_base.specs.Intervals.{in_interval}

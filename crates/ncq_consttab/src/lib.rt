@@ -6,9 +6,9 @@
 mod equal;
 mod hull;
 mod range;
-mod tree;
 #[cfg(test)]
 mod tests;
+mod tree;
 
 pub use equal::EqTable;
 pub use range::{Files, RangeTable};

@@ -183,11 +183,7 @@ impl Tree {
 }
 
 /// A fork of one entry.
-pub(crate) fn lone(
-    alloc: Global,
-    interval: Interval,
-    file: FileId,
-) -> Result<Box<Fork>, AllocError>
+pub(crate) fn lone(alloc: Global, interval: Interval, file: FileId) -> Result<Box<Fork>, AllocError>
     ensures left { IfOk result (λ fork. fork.value.left ≡ []) }
     ensures entry { IfOk result (λ fork. fork.value.entry ≡ (interval, file)) }
     ensures right { IfOk result (λ fork. fork.value.right ≡ []) }
@@ -231,7 +227,11 @@ fn closed(mut fork: Box<Fork>) -> Tree
     ensures { result ≡ fork_entries fork.value }
 {
     fork.span = fork.left.span_with(fork.right.span_with(fork.entry.0));
-    fork.height = fork.left.height().max(fork.right.height()).saturating_add(1);
+    fork.height = fork
+        .left
+        .height()
+        .max(fork.right.height())
+        .saturating_add(1);
     Tree {
         node: Node::Inner(fork),
     }

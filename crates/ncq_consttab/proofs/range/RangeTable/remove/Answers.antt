@@ -1,10 +1,7 @@
-use Rattle.std.proofs.Common.{◌≡◌, List, ◌∷◌, Option, Some, None, sym, ◌∙◌, subst}
-use Rattle.std.specs.Map.{lookup}
+use Rattle.std.proofs.Common.{List, ◌∷◌, sym, ◌∙◌, subst}
 use Rattle.ncq_base.specs.Counts.{SameCounts}
 use Rattle.ncq_base.specs.declared.atom.FileId.{FileId}
 use Rattle.ncq_base.specs.declared.interval.Interval.{Interval}
-use Rattle.indexmap.specs.IndexMap.{swap_remove_entry}
-use Rattle.ncq_consttab.specs.Ranges.{is_interval}
 use Rattle.ncq_consttab.proofs.Intervals.{swapped_out}
 use Rattle.ncq_consttab.proofs.TreeLaws.{left_same}
 use Rattle.ncq_consttab.proofs.range.RangeTable.remove.Goals as goal

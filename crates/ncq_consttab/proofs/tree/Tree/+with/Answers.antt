@@ -1,8 +1,5 @@
-use Rattle.std.proofs.Common.{arith, ◌≡◌, ◌++◌, ◌∷◌, [], ap, sym, ◌∙◌, subst}
-use Rattle.ncq_base.specs.Counts.{total_by, SameCounts}
+use Rattle.std.proofs.Common.{arith}
 use Rattle.ncq_base.proofs.CountLaws.{total_by-append}
-use Rattle.ncq_consttab.specs.Trees.{fork_entries, node_entries}
-use Rattle.ncq_consttab.proofs.TreeLaws.{put_left, put_right}
 use Rattle.ncq_consttab.proofs.tree.Tree.+with.Goals as goal
 
 pub returns-then-is_before : goal.returns-then-is_before

@@ -1,9 +1,8 @@
-use Rattle.std.proofs.Common.{◌≡◌, true, false, List, ◌++◌, ◌∷◌, [], arith, ap, sym, ◌∙◌, subst}
-use Rattle.ncq_base.specs.Counts.{total_by, SameCounts}
+use Rattle.std.proofs.Common.{◌≡◌, false, List, ◌++◌, ◌∷◌, arith, sym, subst}
 use Rattle.ncq_base.proofs.CountLaws.{total_by-append}
 use Rattle.ncq_base.specs.declared.atom.FileId.{FileId}
 use Rattle.ncq_base.specs.declared.interval.Interval.{Interval}
-use Rattle.ncq_consttab.specs.Trees.{fork_entries, node_entries, IsTaken, is_entry}
+use Rattle.ncq_consttab.specs.Trees.{IsTaken, is_entry}
 use Rattle.ncq_consttab.proofs.TreeLaws.{entry_is, taken_left_then, taken_right_then}
 use Rattle.ncq_consttab.proofs.tree.Tree.+without.Goals as goal
 
