@@ -163,28 +163,45 @@ fn mixed(i: u32) -> Interval
     }
 }
 
+/// The table of the thousand.
+fn filled(alloc: Global) -> Result<RangeTable, AllocError> {
+    let mut table = RangeTable::new(alloc);
+    for i in 0..1000u32 {
+        put(&mut table, mixed(i), i as u64)?;
+    }
+    Ok(table)
+}
+
+/// Each third of the thousand, or each of them.
+fn listed(alloc: Global, thirds: bool) -> Result<Vec<Interval>, AllocError> {
+    let mut list = Vec::new(alloc);
+    for i in 0..1000u32 {
+        if !thirds || i % 3 == 0 {
+            list.push(mixed(i))?;
+        }
+    }
+    Ok(list)
+}
+
+/// Leaves each third in the table. Whether each of the others was there with its file.
+fn thin_out(table: &mut RangeTable) -> bool {
+    for i in 0..1000u32 {
+        if i % 3 != 0 && table.remove(&mixed(i)) != Some(FileId(i as u64)) {
+            return false;
+        }
+    }
+    true
+}
+
 #[test]
 fn a_thousand_intervals_are_told_as_a_plain_list_tells_them(rt: HostRuntime) -> Result<(), Fail> {
     let alloc = rt.alloc();
-    let mut table = RangeTable::new(alloc);
-    let mut all = Vec::new(alloc);
-    let mut kept = Vec::new(alloc);
-    for i in 0..1000u32 {
-        put(&mut table, mixed(i), i as u64)?;
-        all.push(mixed(i))?;
-        if i % 3 == 0 {
-            kept.push(mixed(i))?;
-        }
-    }
+    let mut table = filled(alloc)?;
     assert!(rt; table.len() == 1000);
-    assert!(rt; are_told(alloc, &table, all.as_slice())?);
-    for i in 0..1000u32 {
-        if i % 3 != 0 {
-            assert!(rt; table.remove(&mixed(i)) == Some(FileId(i as u64)));
-        }
-    }
+    assert!(rt; are_told(alloc, &table, listed(alloc, false)?.as_slice())?);
+    assert!(rt; thin_out(&mut table));
     assert!(rt; table.len() == 334);
-    assert!(rt; are_told(alloc, &table, kept.as_slice())?);
+    assert!(rt; are_told(alloc, &table, listed(alloc, true)?.as_slice())?);
     Ok(())
 }
 
