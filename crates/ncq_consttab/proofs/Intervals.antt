@@ -19,7 +19,7 @@ use Rattle.ncq_base.specs.declared.interval.Interval.{Interval}
 use Rattle.ncq_base.specs.contracts.interval.EndPartialEq.TheImpl.{ghosts as end_eq}
 use Rattle.ncq_consttab.specs.Ranges.{is_interval}
 
-both : (s t : Bool) → (s && t) ≡ true → (s ≡ true) × (t ≡ true)
+pub both : (s t : Bool) → (s && t) ≡ true → (s ≡ true) × (t ≡ true)
 both true t h = (refl, h)
 both false t h = cc
 

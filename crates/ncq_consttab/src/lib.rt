@@ -4,9 +4,11 @@
 #![tactic(auto)]
 
 mod equal;
+mod hull;
 mod range;
 #[cfg(test)]
 mod tests;
+mod tree;
 
 pub use equal::EqTable;
 pub use range::{Files, RangeTable};

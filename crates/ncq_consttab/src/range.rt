@@ -7,18 +7,22 @@ ghost use Rattle.std.specs.Map.{lookup, keys_of};
 ghost use Rattle.ncq_base.specs.Counts.{SameCounts};
 ghost use Rattle.ncq_consttab.specs.Ranges.{is_interval, holders};
 
+use crate::tree::{Tree, lone};
 use indexmap::IndexMap;
-use ncq_base::{Atom, FileId, Interval, Sequence, in_interval};
+use ncq_base::{Atom, FileId, Interval, Sequence};
 use std::alloc::{AllocError, Global};
 use std::marker::Model;
 
 /// Numbers of files in order.
 pub type Files = Sequence<FileId>;
 
-/// The files of intervals. An interval is found by its hash.
+/// The files of intervals. An interval is found by its hash, and by a value in it in a tree that has
+/// the same intervals and files.
 #[derive(Drop)]
 pub struct RangeTable {
     files: IndexMap<Interval, FileId>,
+    tree: Tree,
+    alloc: Global,
 }
 
 impl Model for RangeTable {
@@ -28,12 +32,15 @@ impl Model for RangeTable {
     ghost use Rattle.ncq_base.specs.declared.interval.Interval.{Interval};
     ghost use Rattle.ncq_base.specs.contracts.atom.FileId.{the_row as file_row};
     ghost use Rattle.ncq_base.specs.contracts.interval.Interval.{the_row as interval_row};
+    ghost use Rattle.ncq_base.specs.Counts.{SameCounts};
 
     ghost Value = { List (Interval × FileId) };
 
     ghost coded = { coded_list (coded× interval_row.coded file_row.coded) };
 
     ghost view = { λ t. t.files.entries };
+
+    ghost invariant = { λ t. SameCounts t.tree t.files.entries };
 }
 
 impl RangeTable {
@@ -43,6 +50,8 @@ impl RangeTable {
     {
         RangeTable {
             files: IndexMap::new(alloc),
+            tree: Tree::new(),
+            alloc,
         }
     }
 
@@ -67,7 +76,9 @@ impl RangeTable {
         ensures ok { OnOk result (self.new ≡ self.old ++ (constant, file) ∷ []) }
         ensures err { OnErr result (self.new ≡ self.old) }
     {
+        let more = lone(self.alloc, constant, file)?;
         self.files.insert(constant, file)?;
+        self.tree = self.tree.take().with(more);
         Ok(())
     }
 
@@ -79,7 +90,10 @@ impl RangeTable {
             SameCounts self.old ((constant.now, file) ∷ self.new)) }
         ensures none { IfNone result (self.new ≡ self.old) }
     {
-        self.files.swap_remove(constant)
+        let file = self.files.swap_remove(constant)?;
+        let (_, rest) = self.tree.take().without(&(*constant, file));
+        self.tree = rest;
+        Some(file)
     }
 
     /// The files of all intervals that hold the value, by rising number.
@@ -87,25 +101,9 @@ impl RangeTable {
         ensures counts { IfOk result (λ files. SameCounts files (holders value.now self.now)) }
         ensures rising { IfOk result (λ files. IsNonDecreasingBy (λ f. f.0) files) }
     {
-        let mut files = holders_in(alloc, &self.files, value)?;
+        let mut files = Vec::new(alloc);
+        self.tree.push_takers(value, &mut files)?;
         files.sort_unstable();
         Ok(Files::from_vec(files))
     }
-}
-
-/// The files of the intervals that hold the value, in the order of the table.
-fn holders_in(
-    alloc: Global,
-    files: &IndexMap<Interval, FileId>,
-    value: &Atom,
-) -> Result<Vec<FileId>, AllocError>
-    ensures { IfOk result (λ found. found.items ≡ holders value.now files.now.entries) }
-{
-    let mut found = Vec::new(alloc);
-    for (interval, file) in files {
-        if in_interval(interval, value) {
-            found.push(*file)?;
-        }
-    }
-    Ok(found)
 }

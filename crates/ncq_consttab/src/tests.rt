@@ -1,4 +1,7 @@
 //! Files of constants, by values worked out by hand.
+ghost use Rattle.std.specs.Prelude.{◌<◌};
+
+use crate::tree::{Tree, lone};
 use crate::{EqTable, RangeTable};
 use ncq_base::{Atom, End, FileId, Interval, bytes_of, in_interval};
 use std::alloc::{AllocError, Global};
@@ -138,24 +141,104 @@ fn count(intervals: &[Interval], value: &Atom) -> usize {
     count
 }
 
+/// Whether of each value up to 1,100 the table tells as many files as the intervals that hold it.
+fn are_told(alloc: Global, table: &RangeTable, intervals: &[Interval]) -> Result<bool, AllocError> {
+    for n in 0..1100u32 {
+        let value = Atom::Num(n as i128);
+        if table.takers(alloc, &value)?.len() != count(intervals, &value) {
+            return Ok(false);
+        }
+    }
+    Ok(true)
+}
+
+/// One of a thousand intervals, in no order.
+fn mixed(i: u32) -> Interval
+    requires { i < 1000 }
+{
+    let low = (i * 389 % 997) as i128;
+    Interval {
+        low: End::Included(low),
+        high: End::Excluded(low + (i % 50) as i128),
+    }
+}
+
+/// The table of the thousand.
+fn filled(alloc: Global) -> Result<RangeTable, AllocError> {
+    let mut table = RangeTable::new(alloc);
+    for i in 0..1000u32 {
+        put(&mut table, mixed(i), i as u64)?;
+    }
+    Ok(table)
+}
+
+/// Each third of the thousand, or each of them.
+fn listed(alloc: Global, thirds: bool) -> Result<Vec<Interval>, AllocError> {
+    let mut list = Vec::new(alloc);
+    for i in 0..1000u32 {
+        if !thirds || i % 3 == 0 {
+            list.push(mixed(i))?;
+        }
+    }
+    Ok(list)
+}
+
+/// Leaves each third in the table. Whether each of the others was there with its file.
+fn thin_out(table: &mut RangeTable) -> bool {
+    for i in 0..1000u32 {
+        if i % 3 != 0 && table.remove(&mixed(i)) != Some(FileId(i as u64)) {
+            return false;
+        }
+    }
+    true
+}
+
 #[test]
 fn a_thousand_intervals_are_told_as_a_plain_list_tells_them(rt: HostRuntime) -> Result<(), Fail> {
     let alloc = rt.alloc();
-    let mut table = RangeTable::new(alloc);
-    let mut plain = Vec::new(alloc);
-    for i in 0..1000u32 {
-        let low = (i * 389 % 997) as i128;
-        let interval = Interval {
-            low: End::Included(low),
-            high: End::Excluded(low + (i % 50) as i128),
-        };
-        put(&mut table, interval, i as u64)?;
-        plain.push(interval)?;
+    let mut table = filled(alloc)?;
+    assert!(rt; table.len() == 1000);
+    assert!(rt; are_told(alloc, &table, listed(alloc, false)?.as_slice())?);
+    assert!(rt; thin_out(&mut table));
+    assert!(rt; table.len() == 334);
+    assert!(rt; are_told(alloc, &table, listed(alloc, true)?.as_slice())?);
+    Ok(())
+}
+
+/// An interval of a thousand: in rising order, in falling order, in none, and with one low end.
+fn ordered(order: u32, i: u32) -> Interval
+    requires { i < 1000 }
+{
+    match order {
+        0 => interval(('[', i as i128, 9, ']')),
+        1 => interval(('[', -(i as i128), 9, ']')),
+        2 => mixed(i),
+        _ => interval(('-', 0, i as i128, ')')),
     }
-    for n in 0..1100u32 {
-        let value = Atom::Num(n as i128);
-        let files = table.takers(alloc, &value)?;
-        assert!(rt; files.len() == count(plain.as_slice(), &value), "{n}");
+}
+
+/// How many levels a tree of a thousand has, and how many it has without the first 900.
+fn levels(alloc: Global, order: u32) -> Result<(u64, u64), AllocError> {
+    let mut tree = Tree::new();
+    for i in 0..1000u32 {
+        tree = tree.with(lone(alloc, ordered(order, i), FileId(i as u64))?);
+    }
+    let whole = tree.height();
+    for i in 0..900u32 {
+        let (_, rest) = tree.without(&(ordered(order, i), FileId(i as u64)));
+        tree = rest;
+    }
+    Ok((whole, tree.height()))
+}
+
+#[test]
+fn a_tree_of_a_thousand_has_at_most_14_levels(rt: HostRuntime) -> Result<(), Fail> {
+    for order in 0..4u32 {
+        let (whole, rest) = levels(rt.alloc(), order)?;
+        assert!(rt;
+            10 <= whole && whole <= 14 && 7 <= rest && rest <= 9,
+            "{order}"
+        );
     }
     Ok(())
 }

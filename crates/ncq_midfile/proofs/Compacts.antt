@@ -1,5 +1,5 @@
 -- A file of the rows that are there from its base on, and two lists that are one content.
-use Rattle.std.proofs.Common.{◌≡◌, ℕ, ◌+◌, ◌≤◌, true, cond, List, [], ◌∷◌, ◌++◌, map, append-nil, refl, sym, ◌∙◌, ap, arith}
+use Rattle.std.proofs.Common.{◌≡◌, ℕ, cond, List, [], ◌∷◌, ◌++◌, map, append-nil, refl, sym, ◌∙◌, ap, arith}
 use Rattle.std.proofs.lemmas.Bool.{le-leb}
 use Rattle.ncq_base.specs.Counts.{total_by, SameCounts}
 use Rattle.ncq_base.proofs.CountLaws.{total_by-append}

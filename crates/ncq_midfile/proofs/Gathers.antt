@@ -1,13 +1,12 @@
 -- The rows at rising places are moved to the front, one after the other.
 use Rattle.std.proofs.Common.{◌≡◌, ℕ, zero, suc, ◌+◌, ◌<◌, ◌≤◌, List, [], ◌∷◌, ◌++◌, length, map, set, get_or, take, drop, slice_get, Some, inl, inr, ◌⊎◌, refl, sym, ◌∙◌, ap, subst, arith}
-use Rattle.std.specs.List.{AllByRecursion, All}
+use Rattle.std.specs.List.{AllByRecursion}
 use Rattle.std.specs.List.{swap}
 use Rattle.std.proofs.Math.ListN.{length-set}
 use Rattle.std.proofs.lemmas.List.{drop_more, take-set, take-set-le, get_or-set_same, get_or-set_other}
 use Rattle.std.proofs.lemmas.List.Edits.{swap_is}
 use Rattle.std.proofs.lemmas.Grind.{get_or-set_at}
 use Rattle.std.proofs.lemmas.Option.{get_or_from_slice_get}
-use Rattle.ncq_row.specs.Embeddings.{Row}
 use Rattle.ncq_midfile.specs.Content.{rows_of, rows_at, signed_at, AreRising}
 use Rattle.ncq_midfile.specs.Made.{gained_at}
 use Rattle.ncq_midfile.specs.declared.signed.SignedRow.{SignedRow}

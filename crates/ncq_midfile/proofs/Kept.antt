@@ -1,5 +1,5 @@
 -- What a file keeps when rows are added, taken away at the end, or made.
-use Rattle.std.proofs.Common.{◌≡◌, ℕ, zero, suc, ◌<◌, ◌≤◌, true, List, [], ◌∷◌, ◌++◌, map, take, refl, arith, inl, inr, ◌⊎◌}
+use Rattle.std.proofs.Common.{ℕ, zero, suc, ◌<◌, ◌≤◌, List, [], ◌∷◌, ◌++◌, map, take, refl, arith, inl, inr}
 use Rattle.std.specs.List.{AllByRecursion}
 use Rattle.ncq_midfile.specs.Content.{Row}
 use Rattle.ncq_midfile.specs.Files.{AreNumbered, IsBased, IsFile}

@@ -1,7 +1,11 @@
+pub mod ChainKeeps
+pub mod ChainLaws
 pub mod Compacts
 pub mod Counted
 pub mod Cuts
+pub mod FedLaws
 pub mod Gathers
+pub mod IndexLaws
 pub mod Kept
 pub mod Left
 pub mod Matches
@@ -9,3 +13,4 @@ pub mod Parts
 pub mod SameAtoms
 pub mod Strikes
 pub mod Sounds
+pub mod Wide

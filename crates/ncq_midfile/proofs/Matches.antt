@@ -1,6 +1,6 @@
 -- The rows at the places where a test passes, and their counts.
-use Rattle.std.proofs.Common.{◌≡◌, ℕ, zero, suc, ◌+◌, ◌<◌, ◌≤◌, Bool, true, false, cond, not, ◌&&◌, List, [], ◌∷◌, ◌++◌, map, filter, length, get_or, take, drop, nat_le, refl, sym, ◌∙◌, ap, subst, arith, add-one, slice_get, Some, append-nil, append_assoc, zero-add, true≢false}
-use Rattle.std.specs.List.{cons_option, filter_map, All, AllByRecursion}
+use Rattle.std.proofs.Common.{◌≡◌, ℕ, suc, ◌+◌, ◌<◌, ◌≤◌, Bool, true, false, cond, not, ◌&&◌, List, [], ◌∷◌, ◌++◌, map, filter, length, get_or, drop, nat_le, refl, sym, ◌∙◌, ap, arith, slice_get, Some, append_assoc, true≢false}
+use Rattle.std.specs.List.{cons_option, AllByRecursion}
 use Rattle.std.proofs.lemmas.List.{drop_more, length_push}
 use Rattle.ncq_base.specs.Counts.{total_by, SameCounts}
 use Rattle.ncq_base.proofs.CountLaws.{total_by-append, total_by-filter, total_by-map, total_by-congr}
@@ -8,7 +8,7 @@ use Rattle.ncq_base.specs.declared.atom.Atom.{Atom}
 use Rattle.ncq_row.specs.Embeddings.{Row}
 use Rattle.ncq_base.specs.Atoms.{same_atom}
 use Rattle.ncq_row.specs.Values.{atom_at}
-use Rattle.ncq_midfile.specs.Content.{gains, losses, up_to, IsContent, IsSoundAt, IsBalanced, signed_at, rows_at, AreRising}
+use Rattle.ncq_midfile.specs.Content.{gains, losses, up_to, IsContent, IsSoundAt, IsBalanced, signed_at, AreRising}
 use Rattle.ncq_midfile.specs.Matching.{has_key, is_wanted, places_where}
 use Rattle.ncq_midfile.specs.declared.signed.SignedRow.{SignedRow}
 use Rattle.ncq_midfile.proofs.Parts.{rising_from}

@@ -1,8 +1,8 @@
 -- Places that are some of rising places are rising too, and what holds of each place holds of them.
-use Rattle.std.proofs.Common.{◌≡◌, ℕ, zero, suc, ◌+◌, ◌<◌, ◌≤◌, Bool, true, false, cond, not, List, [], ◌∷◌, ◌++◌, length, get_or, take, drop, map, add-one, refl, sym, ◌∙◌, ap, subst, arith, inl, inr, ◌⊎◌, slice_get, Some, None, Option, filter, true≢false}
-use Rattle.std.specs.List.{range_with_len, AllByRecursion, filter_map, cons_option}
+use Rattle.std.proofs.Common.{◌≡◌, ℕ, zero, suc, ◌+◌, ◌<◌, ◌≤◌, List, [], ◌∷◌, ◌++◌, length, get_or, take, drop, add-one, refl, sym, ◌∙◌, ap, subst, arith, inl, inr, slice_get, Some, None, Option}
+use Rattle.std.specs.List.{range_with_len, AllByRecursion, cons_option}
 use Rattle.std.proofs.lemmas.List.{take_more}
-use Rattle.ncq_midfile.specs.Content.{IsPart, AreRising, AreGains, signed_at, losses, up_to}
+use Rattle.ncq_midfile.specs.Content.{IsPart, AreRising, signed_at}
 use Rattle.ncq_midfile.specs.declared.signed.SignedRow.{SignedRow}
 
 -- nothing more is taken, or the next place

@@ -1,5 +1,5 @@
 -- Each row that went out strikes out one that came in.
-use Rattle.std.proofs.Common.{◌≡◌, ℕ, zero, suc, ◌+◌, ◌-◌, ◌<◌, ◌≤◌, Bool, true, false, cond, not, ◌&&◌, List, [], ◌∷◌, ◌++◌, map, filter, length, get_or, take, refl, sym, ◌∙◌, ap, subst, arith, ◌⊎◌, inl, inr, slice_get, Some, None, Option, length-take, append-nil, add-zero, true≢false}
+use Rattle.std.proofs.Common.{◌≡◌, ℕ, suc, ◌+◌, ◌-◌, ◌<◌, ◌≤◌, Bool, true, false, cond, not, ◌&&◌, List, [], ◌∷◌, ◌++◌, map, filter, length, take, refl, sym, ◌∙◌, ap, arith, ◌⊎◌, inl, inr, slice_get, Some, None, Option, length-take, append-nil, add-zero, true≢false}
 use Rattle.std.proofs.lemmas.List.{map-append}
 use Rattle.std.specs.Option.{unwrap_or}
 use Rattle.std.specs.List.{cons_option}
@@ -10,7 +10,7 @@ use Rattle.ncq_base.specs.Exact.{exact_is, exact_itself, exact_equiv}
 use Rattle.ncq_base.specs.Keys.{times}
 use Rattle.ncq_base.proofs.CountLaws.{counts_from_times}
 use Rattle.ncq_row.specs.contracts.row.Row.{the_row}
-use Rattle.ncq_midfile.specs.Content.{Row, gains, losses, signed_at, rows_at, IsBalanced}
+use Rattle.ncq_midfile.specs.Content.{Row, gains, losses, signed_at, rows_at}
 use Rattle.ncq_midfile.specs.LossCounts.{is_row, loss_count, IsStrike}
 use Rattle.ncq_midfile.proofs.Parts.{signed_at-append}
 use Rattle.ncq_midfile.specs.declared.signed.SignedRow.{SignedRow}

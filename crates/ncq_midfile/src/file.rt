@@ -12,21 +12,24 @@ ghost use Rattle.ncq_base.specs.Counts.{SameCounts};
 
 use crate::compact::gather;
 use crate::content::{count_up_to, first_places, left_over};
+use crate::index::{Index, cut_all, keep_index};
 use crate::matching::matching_in;
 use crate::signed::{Places, SignedRow};
 use ncq_row::{Row, RowKey, Rows};
 use std::alloc::{AllocError, Global};
 use std::marker::Model;
 
-/// The signed rows of one expression.
+/// The signed rows of one expression, and indexes of the first of them.
 #[derive(Drop)]
 pub struct MidFile {
     base: u64,
     rows: Vec<SignedRow>,
+    indexes: Vec<Index>,
 }
 
 impl Model for MidFile {
-    ghost use Rattle.ncq_midfile.specs.Files.{FileState, file_code, IsFile};
+    ghost use Rattle.ncq_midfile.specs.Files.{FileState, file_code};
+    ghost use Rattle.ncq_midfile.specs.Indexes.{IsIndexed};
 
     ghost Value = { FileState };
 
@@ -34,7 +37,7 @@ impl Model for MidFile {
 
     ghost view = { λ f. record { base = f.base; rows = f.rows.items } };
 
-    ghost invariant = { λ f. IsFile f.base f.rows.items };
+    ghost invariant = { λ f. IsIndexed f.base f.rows.items f.indexes.items };
 }
 
 impl MidFile {
@@ -44,7 +47,11 @@ impl MidFile {
         ensures rows { IfOk result (λ file. file.rows ≡ map (gained_at base) rows) }
     {
         let rows = all_gained(alloc, base, rows)?;
-        Ok(MidFile { base, rows })
+        Ok(MidFile {
+            base,
+            rows,
+            indexes: Vec::new(alloc),
+        })
     }
 
     /// The change from which on the file tells its content. Numbers never fall, and the rows with
@@ -122,11 +129,28 @@ impl MidFile {
             → SameCounts (rows_at places self.now.rows)
             (filter (has_key slots.now key.now) list)) }
     {
-        matching_in(alloc, self.rows.as_slice(), slots, key.as_slice(), n)
+        matching_in(
+            alloc,
+            self.rows.as_slice(),
+            self.indexes.as_slice(),
+            slots,
+            key.as_slice(),
+            n,
+        )
+    }
+
+    /// Makes sure that rows are found by the atoms at these slots. It changes no answer and costs
+    /// the rows that came since the last call. After an error, too, the file is as it was.
+    pub fn ensure_index(&mut self, alloc: Global, slots: &[usize]) -> Result<(), AllocError>
+        requires { HaveSlots slots.now self.old.rows }
+        ensures { self.new ≡ self.old }
+    {
+        keep_index(alloc, &mut self.indexes, self.rows.as_slice(), slots)
     }
 
     /// Makes `n` the base: the file has then the rows that are left at `n`, each as one that is
-    /// there from the base on. No row is made. After an error the file is as it was.
+    /// there from the base on. No row is made, and no index is kept. After an error the file is as
+    /// it was.
     pub fn compact(&mut self, alloc: Global, n: u64) -> Result<(), AllocError>
         requires base { self.old.base ≤ n }
         requires last { AllByRecursion (λ r. r.number ≤ n) self.old.rows }
@@ -140,17 +164,19 @@ impl MidFile {
     {
         let places = content_of(alloc, self.rows.as_slice(), n)?;
         gather(&mut self.rows, places.as_slice(), n);
+        self.indexes.clear();
         self.base = n;
         Ok(())
     }
 
-    /// Takes away the signed rows with numbers above `n`.
+    /// Takes away the signed rows with numbers above `n`. It takes no memory.
     pub fn roll_back(&mut self, n: u64)
         requires { self.old.base ≤ n }
         ensures base { self.new.base ≡ self.old.base }
         ensures rows { self.new.rows ≡ up_to n self.old.rows }
     {
         let kept = count_up_to(self.rows.as_slice(), n);
+        cut_all(&mut self.indexes, kept);
         self.rows.truncate(kept);
     }
 }

@@ -1,12 +1,14 @@
 //! Rows with given atoms.
-ghost use Rattle.std.specs.Prelude.{◌≡◌, ◌<◌, List, length, filter, IfOk};
+ghost use Rattle.std.specs.Prelude.{◌≡◌, ◌++◌, ◌<◌, ◌≤◌, List, length, drop, filter, IfOk, OnOk};
 ghost use Rattle.std.specs.List.{All};
 ghost use Rattle.ncq_base.specs.Counts.{SameCounts};
 ghost use Rattle.ncq_row.specs.Embeddings.{Row as a_row};
 ghost use Rattle.ncq_midfile.specs.Content.{IsContent, IsSoundAt, rows_at, AreRising, AreGains};
+ghost use Rattle.ncq_midfile.specs.Indexes.{CoverAll};
 ghost use Rattle.ncq_midfile.specs.Matching.{HaveSlots, has_key, is_wanted, places_where};
 
 use crate::content::{left_over, push_where};
+use crate::index::{Index, push_from_index};
 use crate::signed::{Places, SignedRow};
 use ncq_base::same;
 use ncq_row::{Row, SlotAtom};
@@ -16,10 +18,12 @@ use std::alloc::{AllocError, Global};
 pub(crate) fn matching_in(
     alloc: Global,
     rows: &[SignedRow],
+    indexes: &[Index],
     slots: &[usize],
     key: &[SlotAtom],
     n: u64,
 ) -> Result<Places, AllocError>
+    requires covers { CoverAll indexes.now rows.now }
     requires sound { IsSoundAt n rows.now }
     requires slots { HaveSlots slots.now rows.now }
     ensures rising { IfOk result (λ places. AreRising 0 places) }
@@ -28,33 +32,55 @@ pub(crate) fn matching_in(
     ensures counts { IfOk result (λ places. (list : List a_row) → IsContent n rows.now list
         → SameCounts (rows_at places rows.now) (filter (has_key slots.now key.now) list)) }
 {
-    let places = wanted_places(alloc, rows, slots, key, n)?;
+    let places = wanted_places(alloc, rows, indexes, slots, key, n)?;
     let left = left_over(alloc, rows, places.as_slice())?;
     Ok(left)
 }
 
-/// The places of the rows with these atoms and numbers up to `n`.
+/// The places of the rows with these atoms and numbers up to `n`: from an index, and by going
+/// through the rows that it has not yet.
 fn wanted_places(
     alloc: Global,
     rows: &[SignedRow],
+    indexes: &[Index],
     slots: &[usize],
     key: &[SlotAtom],
     n: u64,
 ) -> Result<Places, AllocError>
-    requires { HaveSlots slots.now rows.now }
+    requires covers { CoverAll indexes.now rows.now }
+    requires slots { HaveSlots slots.now rows.now }
     ensures { IfOk result (λ places.
         places ≡ places_where (is_wanted slots.now key.now n) 0 rows.now) }
 {
     let mut places = Places::new(alloc);
-    for at in 0..rows.len() {
-        let wanted = is_wanted(&rows[at], slots, key, n);
-        push_where(&mut places, at, wanted)?;
-    }
+    let from = push_from_index(alloc, &mut places, rows, indexes, slots, key, n)?;
+    push_wanted(&mut places, rows, from, slots, key, n)?;
     Ok(places)
 }
 
+/// Adds the places of the rows with these atoms and numbers up to `n`, from one place on.
+fn push_wanted(
+    places: &mut Places,
+    rows: &[SignedRow],
+    from: usize,
+    slots: &[usize],
+    key: &[SlotAtom],
+    n: u64,
+) -> Result<(), AllocError>
+    requires from { from ≤ length rows.now }
+    requires slots { HaveSlots slots.now rows.now }
+    ensures { OnOk result (places.new ≡ places.old
+        ++ places_where (is_wanted slots.now key.now n) from (drop from rows.now)) }
+{
+    for at in from..rows.len() {
+        let wanted = is_wanted(&rows[at], slots, key, n);
+        push_where(places, at, wanted)?;
+    }
+    Ok(())
+}
+
 /// Whether the signed row has a number up to `n`, and these atoms in the slots.
-fn is_wanted(signed: &SignedRow, slots: &[usize], key: &[SlotAtom], n: u64) -> bool
+pub(crate) fn is_wanted(signed: &SignedRow, slots: &[usize], key: &[SlotAtom], n: u64) -> bool
     requires { All (λ slot. slot < length signed.now.row) slots.now }
     ensures { result ≡ is_wanted slots.now key.now n signed.now }
 {

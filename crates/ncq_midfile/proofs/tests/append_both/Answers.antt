@@ -1,11 +1,13 @@
-use Rattle.std.proofs.Common.{◌≡◌, ◌≤◌, ◌++◌, ◌∷◌, [], List, length, map, arith, refl, sym, ap, ◌∙◌, subst}
+use Rattle.std.proofs.Common.{◌≡◌, ◌<◌, ◌≤◌, ◌++◌, ◌∷◌, [], List, length, sym, ap, ◌∙◌, subst}
 use Rattle.std.specs.List.{AllByRecursion}
 use Rattle.indexmap.proofs.MapLemmas.{OnOk-map}
 use Rattle.ncq_midfile.specs.Content.{IsSound}
-use Rattle.ncq_midfile.specs.Made.{gained_at, lost_at}
+use Rattle.ncq_midfile.specs.Matching.{HaveSlots}
+use Rattle.ncq_midfile.proofs.Wide.{wide_push, first_slot}
+use Rattle.ncq_midfile.specs.Made.{lost_at}
 use Rattle.ncq_midfile.specs.declared.signed.SignedRow.{SignedRow}
 use Rattle.ncq_midfile.proofs.Parts.{all_push}
-use Rattle.ncq_midfile.proofs.Sounds.{none_since, all_up, sound_gain, sound_pair, sound_up_to, sound_made}
+use Rattle.ncq_midfile.proofs.Sounds.{all_up, sound_pair}
 use Rattle.ncq_midfile.proofs.tests.append_both.Goals as goal
 
 pub append-requires-2-clause-last : goal.append-requires-2-clause-last
@@ -14,12 +16,21 @@ append-requires-2-clause-last c =
     (all_push (λ (r : SignedRow). r.number ≤ c.args.gone.number) c.args.file.now.rows c.args.come
     (all_up c.args.come.number c.args.gone.number c.requires.later c.args.file.now.rows c.requires.last) c.requires.later)
 
-pub returns : goal.returns
-returns c =
+pub returns-clause-sound : goal.returns-clause-sound
+returns-clause-sound c =
     OnOk-map c.append-2.result (c.append-2.new.self.rows ≡ c.append.new.self.rows ++ c.args.gone ∷ []) (IsSound c.append-2.new.self.rows)
     (λ rows.
     subst IsSound
     (sym (rows ∙ ap (λ (s : SignedRow). c.append.new.self.rows ++ s ∷ []) c.requires.gone
     ∙ ap (λ (rs : List SignedRow). rs ++ lost_at c.args.gone.number c.args.come.row ∷ []) (c.in_ok-append.ensures.ok ∙ ap (λ (s : SignedRow). c.args.file.now.rows ++ s ∷ []) c.requires.come)))
     (sound_pair c.args.file.now.rows c.args.come.number c.args.gone.number c.args.come.row c.requires.later c.requires.sound))
+    c.append-2.ensures.ok
+
+pub returns-clause-wide : goal.returns-clause-wide
+returns-clause-wide c =
+    let one = first_slot c.args.come.row c.requires.some in
+    let two = first_slot c.args.gone.row (subst (λ (s : SignedRow). 0 < length s.row) (sym c.requires.gone) c.requires.some) in
+    let first = subst (HaveSlots (0 ∷ [])) (sym c.in_ok-append.ensures.ok) (wide_push (0 ∷ []) c.args.file.now.rows c.args.come c.requires.wide one) in
+    OnOk-map c.append-2.result (c.append-2.new.self.rows ≡ c.append.new.self.rows ++ c.args.gone ∷ []) (HaveSlots (0 ∷ []) c.append-2.new.self.rows)
+    (λ rows. subst (HaveSlots (0 ∷ [])) (sym rows) (wide_push (0 ∷ []) c.append.new.self.rows c.args.gone first two))
     c.append-2.ensures.ok

@@ -1,15 +1,15 @@
-use Rattle.std.proofs.Common.{◌≡◌, List, map, refl, sym, ap, ◌∙◌, subst}
-use Rattle.ncq_row.specs.Embeddings.{Row}
+use Rattle.std.proofs.Common.{◌≡◌, List, map, sym, ap, ◌∙◌, subst}
 use Rattle.ncq_midfile.specs.Content.{IsContent, rows_of, rows_at}
 use Rattle.ncq_midfile.specs.Files.{FileState, IsFile}
 use Rattle.ncq_midfile.specs.Made.{gained_at}
 use Rattle.ncq_midfile.specs.declared.signed.SignedRow.{SignedRow}
+use Rattle.ncq_midfile.proofs.IndexLaws.{indexed_by_none}
 use Rattle.ncq_midfile.proofs.Kept.{file_made}
 use Rattle.ncq_midfile.proofs.Compacts.{rows_made, one_content, content_made}
 use Rattle.ncq_midfile.proofs.file.MidFile.compact.Goals as goal
 
 pub invariant_of-self : goal.invariant_of-self
-invariant_of-self c = subst (IsFile c.args.n) (sym c.gather.ensures) (file_made c.args.n _)
+invariant_of-self c = indexed_by_none c.args.n _ _ (subst (IsFile c.args.n) (sym c.gather.ensures) (file_made c.args.n _)) c.clear.ensures.items
 
 pub returns-clause-gains : goal.returns-clause-gains
 returns-clause-gains c =
