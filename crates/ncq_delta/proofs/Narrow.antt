@@ -1,5 +1,5 @@
 -- Pairs of the first two slots are there in rows of two values. Only the tests cite it.
-use Rattle.std.proofs.Common.{ℕ, ◌<◌, ◌≤◌, List, [], ◌∷◌, length, map, Result, Ok, Err, OnOk, arith}
+use Rattle.std.proofs.Common.{ℕ, ◌<◌, ◌≤◌, List, [], ◌∷◌, length, Result, Ok, Err, OnOk, arith}
 use Rattle.std.specs.List.{All, AllByRecursion}
 use Rattle.std.proofs.lemmas.List.Elements.{All-from_recursion}
 use Rattle.ncq_row.specs.declared.pair.Pair.{Pair}

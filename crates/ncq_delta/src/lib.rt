@@ -5,10 +5,12 @@
 #![tactic(auto)]
 
 mod change;
+mod laws;
 mod probe;
 #[cfg(test)]
 mod tests;
 mod whole;
 
 pub use change::join_delta;
+pub use laws::changes_lead;
 pub use whole::join_whole;

@@ -1,6 +1,6 @@
 -- Files by rising number: the one list that rises and has the counts of the files.
-use Rattle.std.proofs.Common.{◌≡◌, ℕ, suc, ◌+◌, ◌<◌, ◌≤◌, Bool, true, false, cond, nat_le, nat_lt, List, [], ◌∷◌, length, refl, sym, ◌∙◌, ap, subst, arith}
-use Rattle.std.specs.List.{AllByRecursion, All}
+use Rattle.std.proofs.Common.{◌≡◌, ℕ, suc, ◌+◌, ◌≤◌, Bool, true, false, cond, nat_le, nat_lt, List, [], ◌∷◌, refl, sym, ◌∙◌, ap, arith}
+use Rattle.std.specs.List.{AllByRecursion}
 use Rattle.std.specs.List.Sorted.{IsNonDecreasingBy}
 use Rattle.std.proofs.lemmas.Bool.{leb-true, leb-false, ltb-false, le-ltb}
 use Rattle.std.proofs.lemmas.List.Elements.{recursion_from_All}
@@ -94,7 +94,7 @@ not_lower x y xs ys all counts =
     let same = counts (below y.0) in
     not_below x y.0 (omega arith)
 
-file_is : (x y : FileId) → x.0 ≡ y.0 → x ≡ y
+pub file_is : (x y : FileId) → x.0 ≡ y.0 → x ≡ y
 file_is x y e = λ i. record { 0 = e i }
 
 rising_is : (xs ys : List FileId) → Rises xs → Rises ys → SameCounts xs ys → xs ≡ ys

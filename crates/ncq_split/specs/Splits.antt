@@ -1,5 +1,5 @@
 -- The parcels that a split makes of signed rows.
-use Rattle.std.specs.Prelude.{ℕ, cond, nat_le, List, [], ◌∷◌, map}
+use Rattle.std.specs.Prelude.{ℕ, cond, nat_eq, nat_le, List, [], ◌∷◌, map, filter}
 use Rattle.std.specs.List.{flat_map}
 use Rattle.std.specs.Option.{option_to_list}
 use Rattle.std.specs.FinMap.{FinMap, get}
@@ -42,3 +42,11 @@ by_number (file ∷ files) = put_by_number file (by_number files)
 -- the files of the intervals that hold the atom, by rising number
 abbrev pub files_holding : List (Interval × FileId) → Atom → List FileId
 files_holding table atom = by_number (holders atom table)
+
+-- the signed rows of the parcels for the file
+abbrev pub rows_for : FileId → List Parcel → List SignedRow
+rows_for file parcels = map (λ p. p.row) (filter (λ p. nat_eq p.file.0 file.0) parcels)
+
+-- the intervals of the file
+abbrev pub intervals_of : FileId → List (Interval × FileId) → List (Interval × FileId)
+intervals_of file table = filter (λ entry. nat_eq entry.1.0 file.0) table

@@ -5,11 +5,13 @@
 #![tactic(auto)]
 
 mod equal;
+mod laws;
 mod parcel;
 mod range;
 #[cfg(test)]
 mod tests;
 
 pub use equal::split_equal;
+pub use laws::files_get_what_they_select;
 pub use parcel::{Parcel, Parcels};
 pub use range::split_range;

@@ -1,4 +1,4 @@
-use Rattle.std.proofs.Common.{◌≡◌, map}
+use Rattle.std.proofs.Common.{map}
 use Rattle.ncq_base.proofs.CountLaws.{counts-map}
 use Rattle.ncq_delta.specs.Joins.{with_row}
 use Rattle.ncq_delta.specs.Probes.{joined_on, changed_on}

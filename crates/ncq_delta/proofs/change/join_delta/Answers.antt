@@ -1,9 +1,9 @@
-use Rattle.std.proofs.Common.{◌≡◌, ◌++◌, [], ◌-◌, ap, ◌∙◌, sym, subst, refl, arith}
+use Rattle.std.proofs.Common.{[], ◌-◌, ap, ◌∙◌, sym, subst, refl, arith}
 use Rattle.std.specs.List.{flat_map}
 use Rattle.ncq_base.specs.Counts.{total_by, SameCounts}
 use Rattle.ncq_midfile.specs.Content.{since}
 use Rattle.ncq_midfile.specs.Matching.{HaveSlots}
-use Rattle.ncq_delta.specs.declared.probe.Side.TheVariants.{Left, Right}
+use Rattle.ncq_delta.specs.declared.probe.Side.TheVariants.{Left}
 use Rattle.ncq_delta.specs.Joins.{left_slots, right_slots}
 use Rattle.ncq_delta.specs.Probes.{changed_on}
 use Rattle.ncq_delta.proofs.JoinLaws.{since_slots, change_is, change_length}

@@ -1,4 +1,4 @@
-use Rattle.std.proofs.Common.{◌≡◌, ◌++◌, ◌∷◌, [], ap, ◌∙◌, arith}
+use Rattle.std.proofs.Common.{◌++◌, ◌∷◌, [], ap, ◌∙◌, arith}
 use Rattle.ncq_delta.specs.Probes.{beside}
 use Rattle.ncq_delta.proofs.JoinLaws.{put_more}
 use Rattle.ncq_delta.proofs.probe.join_places.Goals as goal

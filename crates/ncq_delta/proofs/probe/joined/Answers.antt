@@ -1,4 +1,4 @@
-use Rattle.std.proofs.Common.{◌≡◌, length, map, ap, ◌∙◌, arith}
+use Rattle.std.proofs.Common.{length, map, ap, ◌∙◌, arith}
 use Rattle.ncq_base.specs.Counts.{total_by}
 use Rattle.ncq_midfile.specs.Content.{rows_at}
 use Rattle.ncq_delta.specs.Probes.{beside}

@@ -1,4 +1,4 @@
-use Rattle.std.proofs.Common.{◌≡◌, ◌++◌, ◌∷◌, [], List, sym, ap, ◌∙◌, subst}
+use Rattle.std.proofs.Common.{◌≡◌, ◌++◌, ◌∷◌, [], sym, ap, ◌∙◌, subst}
 use Rattle.ncq_delta.proofs.Narrow.{on_ok}
 use Rattle.ncq_midfile.specs.Content.{IsSound}
 use Rattle.ncq_midfile.specs.declared.signed.SignedRow.{SignedRow}

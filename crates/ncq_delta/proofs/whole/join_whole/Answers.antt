@@ -1,9 +1,8 @@
-use Rattle.std.proofs.Common.{◌≡◌, length, take, drop, ap, ◌∙◌, sym, subst, arith}
+use Rattle.std.proofs.Common.{◌∙◌, subst, arith}
 use Rattle.std.specs.List.{flat_map}
 use Rattle.std.proofs.lemmas.List.{take_all}
 use Rattle.ncq_base.specs.Counts.{SameCounts}
 use Rattle.ncq_base.proofs.CountLaws.{counts-length}
-use Rattle.ncq_plan.specs.Exprs.{join_rows}
 use Rattle.ncq_midfile.specs.Content.{rows_at}
 use Rattle.ncq_delta.specs.declared.probe.Side.TheVariants.{Left}
 use Rattle.ncq_delta.specs.Probes.{joined_on}
