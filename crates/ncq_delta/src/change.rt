@@ -16,10 +16,11 @@ use ncq_row::{Pairs, Rows};
 use std::alloc::{AllocError, Global};
 use std::sync::ledger::Ledger;
 
-/// The signed rows that lead from the join's content at the change before `number` to that at
-/// `number`: the left's changed rows with the right before, then the left now with the right's
-/// changed rows. A changed row gives its number and its sign to the rows that it is joined to. Both
-/// sides may be one file. Each signed row is one step. The only error is that memory ran out.
+/// The signed rows that a change makes of a join: the left's changed rows with the right before,
+/// then the left now with the right's changed rows. Where no row of either is above `number`, they
+/// lead from the join's content at the change before to that at `number` (law `changes_lead`). A
+/// changed row gives its number and its sign to the rows that it is joined to. Both sides may be
+/// one file. Each signed row is one step. The only error is that memory ran out.
 pub fn join_delta<L: Ledger>(
     alloc: Global,
     left: &MidFile,
@@ -28,7 +29,8 @@ pub fn join_delta<L: Ledger>(
     number: u64,
     steps: &mut Steps<L>,
 ) -> Result<SignedRows, AllocError>
-    requires bases { (left.now.base < number) × (right.now.base < number) }
+    requires left_base { left.now.base < number }
+    requires right_base { right.now.base < number }
     requires sound_before { IsSoundAt (number - 1) right.now.rows }
     requires sound_now { IsSoundAt number left.now.rows }
     requires lefts { HaveSlots (left_slots pairs.now) left.now.rows }

@@ -25,8 +25,10 @@ pub fn join_whole<L: Ledger>(
     number: u64,
     steps: &mut Steps<L>,
 ) -> Result<Rows, AllocError>
-    requires bases { (left.now.base ≤ number) × (right.now.base ≤ number) }
-    requires sound { IsSoundAt number left.now.rows × IsSoundAt number right.now.rows }
+    requires left_base { left.now.base ≤ number }
+    requires right_base { right.now.base ≤ number }
+    requires left_sound { IsSoundAt number left.now.rows }
+    requires right_sound { IsSoundAt number right.now.rows }
     requires lefts { HaveSlots (left_slots pairs.now) left.now.rows }
     requires rights { HaveSlots (right_slots pairs.now) right.now.rows }
 

@@ -1,5 +1,5 @@
 -- The parcels that a split makes of signed rows.
-use Rattle.std.specs.Prelude.{ℕ, cond, nat_eq, nat_le, List, [], ◌∷◌, map, filter}
+use Rattle.std.specs.Prelude.{ℕ, if◌then◌else◌, nat_eq, nat_le, List, [], ◌∷◌, map, filter}
 use Rattle.std.specs.List.{flat_map}
 use Rattle.std.specs.Option.{option_to_list}
 use Rattle.std.specs.FinMap.{FinMap, get}
@@ -32,7 +32,7 @@ files_equal table atom = option_to_list (get table atom)
 abbrev pub put_by_number : FileId → List FileId → List FileId
 put_by_number file [] = file ∷ []
 put_by_number file (other ∷ files) =
-    cond (nat_le file.0 other.0) (file ∷ other ∷ files) (other ∷ put_by_number file files)
+    if nat_le file.0 other.0 then file ∷ other ∷ files else other ∷ put_by_number file files
 
 -- the files by rising number
 abbrev pub by_number : List FileId → List FileId

@@ -23,7 +23,8 @@ pub fn split_equal<L: Ledger>(
     requires { All (λ signed. slot < length signed.row) rows.now }
     ensures parcels { IfOk result (λ parcels.
         parcels ≡ parcels_of (files_equal table.now) slot rows.now) }
-    ensures cost { steps.new ≤ steps.old + length (parcels_of (files_equal table.now) slot rows.now) }
+    ensures cost { steps.new
+        ≤ steps.old + length (parcels_of (files_equal table.now) slot rows.now) }
 {
     let mut parcels = Parcels::new(alloc);
     for signed in rows {

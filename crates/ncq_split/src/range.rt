@@ -60,7 +60,8 @@ fn add_for_files<L: Ledger>(
     parcels: &mut Parcels,
     steps: &mut Steps<L>,
 ) -> Result<(), AllocError>
-    ensures parcels { OnOk result (parcels.new ≡ parcels.old ++ map (for_file signed.now) files.now) }
+    ensures parcels { OnOk result (parcels.new
+        ≡ parcels.old ++ map (for_file signed.now) files.now) }
     ensures cost { steps.new ≤ steps.old + length files.now }
 {
     for file in files {

@@ -11,7 +11,7 @@ use Rattle.ncq_delta.proofs.change.join_delta.Goals as goal
 
 pub add_changes-requires-clause-ready : goal.add_changes-requires-clause-ready
 add_changes-requires-clause-ready g c =
-    let base = c.requires.bases.1 in
+    let base = c.requires.right_base in
     record {
       slots_are = c.in_ok-right_own.ensures;
       within = subst (λ slots. HaveSlots slots c.args.right.now.rows) (sym c.in_ok-right_own.ensures) c.requires.rights;
@@ -32,7 +32,7 @@ returns-in_err-add_changes-clause-cost g c = λ before now content_before conten
 
 pub add_changes-requires-2-clause-ready : goal.add_changes-requires-2-clause-ready
 add_changes-requires-2-clause-ready g c =
-    let base = c.requires.bases.0 in
+    let base = c.requires.left_base in
     record {
       slots_are = c.in_ok-left_own.ensures;
       within = subst (λ slots. HaveSlots slots c.args.left.now.rows) (sym c.in_ok-left_own.ensures) c.requires.lefts;
