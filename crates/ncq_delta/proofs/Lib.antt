@@ -1,0 +1,4 @@
+pub mod Agreement
+pub mod JoinLaws
+pub mod LeadLaws
+pub mod Narrow
