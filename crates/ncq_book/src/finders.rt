@@ -49,12 +49,8 @@ impl Finders {
             self.names.free(&member.name);
             return Err(AllocError);
         }
-        if member.timing.every == 0
-            && self
-                .watchers
-                .add(member.topics.as_slice(), member.install)
-                .is_err()
-        {
+        let topics = member.topics.as_slice();
+        if member.timing.every == 0 && self.watchers.add(topics, member.install).is_err() {
             self.names.free(&member.name);
             self.calendar.remove(member.install);
             return Err(AllocError);
@@ -69,8 +65,8 @@ impl Finders {
         self.names.free(&member.name);
         self.calendar.remove(member.install);
         if member.timing.every == 0 {
-            self.watchers
-                .remove(member.topics.as_slice(), member.install);
+            let topics = member.topics.as_slice();
+            self.watchers.remove(topics, member.install);
         }
     }
 }

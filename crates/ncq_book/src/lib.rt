@@ -8,6 +8,8 @@ mod book;
 mod finders;
 mod member;
 mod names;
+#[cfg(test)]
+mod tests;
 mod watchers;
 
 pub use book::Book;
