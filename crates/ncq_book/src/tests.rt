@@ -269,13 +269,13 @@ fn expect_noted(rt: &impl Abort, alloc: Global, book: &mut Book) {
 fn expect_removed(rt: &impl Abort, alloc: Global, book: &mut Book) -> Result<(), AllocError>
     requires { AllByRecursion (λ m. m.install < 4) book.old.members }
 {
-    assert!(rt; !put(alloc, book, 4, &CHANGES)?);
     remove(alloc, book, "changes")?;
     remove(alloc, book, "changes")?;
     assert!(rt; book.len() == 2);
     expect_watchers(rt, alloc, book, &[(7, &[]), (9, &[3])])?;
     expect_expired(rt, alloc, book, &[(51, &[3])])?;
     assert!(rt; put(alloc, book, 4, &CHANGES)?);
+    assert!(rt; !put(alloc, book, 5, &CHANGES)?);
     expect_watchers(rt, alloc, book, &[(7, &[4]), (9, &[3, 4])])
 }
 
