@@ -66,8 +66,8 @@ pub record FindsAlike (old new : Finders) : Type 0 where
   pub watchers : (w : Watch)
       → list_any (is_watch w) new.watchers ≡ list_any (is_watch w) old.watchers
 
--- members stand under their install numbers, which rise; names differ, and each leads to its member;
--- the calendar has the timing of each, and the watches are theirs
+-- members stand under their install numbers, which rise; names differ, and each leads to its
+-- member; the calendar has the timing of each, and the watches are theirs
 pub record IsKept (members : List Member) (placed : List Placed) (finders : Finders) : Type 0 where
   pub numbered : placed ≡ map placed_of members
   pub rise : InstallsRise members

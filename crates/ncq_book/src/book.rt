@@ -82,8 +82,8 @@ impl Book {
         self.members.get(&install)
     }
 
-    /// The install numbers of those that fire at changes and watch this topic, rising: also of those
-    /// that have not started. Nobody else is looked at.
+    /// The install numbers of those that fire at changes and watch this topic, rising: also of
+    /// those that have not started. Nobody else is looked at.
     pub fn watchers(&self, alloc: Global, topic: u64) -> Result<Installs, AllocError>
         requires { topic < 2 ^ 64 - 1 }
         ensures { IfOk result (λ installs. installs ≡ watchers_of topic self.now.members) }
