@@ -1,0 +1,125 @@
+-- What a book keeps, with one member more, with one less, and with one changed.
+use Rattle.std.proofs.Common.{◌≡◌, ℕ, ◌<◌, ◌==◌, ◌&&◌, ◌||◌, not, false, List, [], ◌∷◌, ◌++◌, map, refl, sym, ◌∙◌, ap, cond, subst}
+use Rattle.std.specs.Prelude.{Some, None}
+use Rattle.std.specs.List.{filter, find, list_any, AllByRecursion}
+use Rattle.std.specs.Map.{lookup, remove_entry}
+use Rattle.std.specs.BTreeMap.{is_at, insert_entry}
+use Rattle.std.specs.Ordering.{nat_cmp}
+use Rattle.std.specs.Str.{bytes_eq}
+use Rattle.std.proofs.lemmas.Bool.{eqb-true}
+use Rattle.ncq_book.specs.declared.finders.Finders.{Finders}
+use Rattle.ncq_book.specs.declared.member.Member.{Member}
+use Rattle.std.specs.Option.{is_some}
+use Rattle.ncq_book.specs.Books.{is_named, is_of, timing_of, watches, watchers_of}
+use Rattle.ncq_book.specs.Watches.{AreRisingWatches}
+use Rattle.ncq_book.specs.Kept.{Placed, members_in, placed_of, is_watch_of, IsEnrolled, IsStruck, FindsAlike, IsKept}
+use Rattle.ncq_book.proofs.Lists.{found_passes, same_rising, is_some_map, some_found}
+use Rattle.ncq_book.proofs.WatchLaws.{nobody_watches, watches_rise, watch_at}
+use Rattle.ncq_book.proofs.MemberLaws.{members_back, pairs_pushed, remove_pair, insert_pair, get_is, others_pushed, found_pushed, rise_more, differ_more, named_more, watched_more, rise_less, differ_less, named_less, watched_less, nobody_found, keys_below, no_watch_yet, members_rise, member_at, named_is, unnamed_is}
+
+-- members that stand under their numbers are those of the list
+pub shown : (placed : List Placed) (ms : List Member) → placed ≡ map placed_of ms → members_in placed ≡ ms
+shown placed ms e = ap members_in e ∙ members_back ms
+
+pub kept_at : (placed : List Placed) (finders : Finders) (ms : List Member) → IsKept ms placed finders → IsKept (members_in placed) placed finders
+kept_at placed finders ms kept = subst (λ xs. IsKept xs placed finders) (sym (shown placed ms kept.numbered)) kept
+
+pub kept_alike : (placed : List Placed) (ms : List Member) (old new : Finders) → IsKept ms placed old → FindsAlike old new → IsKept ms placed new
+kept_alike placed ms old new kept alike = record {
+  numbered = kept.numbered;
+  rise = kept.rise;
+  differ = kept.differ;
+  named = λ name. alike.names name ∙ kept.named name;
+  timed = (λ i. (alike.calendar i).entries) ∙ kept.timed;
+  watched = λ w. alike.watchers w ∙ kept.watched w;
+}
+
+module _ (placed : List Placed) (ms : List Member) (old new : Finders) (kept : IsKept ms placed old) (m : Member) where
+  pub kept_more : (after : List Placed) → AllByRecursion (λ n. n.install < m.install) ms → list_any (is_named m.name) ms ≡ false → IsEnrolled m old new → after ≡ map placed_of (ms ++ m ∷ [])
+      → IsKept (ms ++ m ∷ []) after new
+  kept_more after above free more numbered = record {
+    numbered = numbered;
+    rise = rise_more ms m kept.rise above;
+    differ = differ_more ms m kept.differ free;
+    named = λ name. more.names name ∙ ap (cond (bytes_eq m.name name) (Some m.install)) (kept.named name) ∙ named_more ms m name free;
+    timed = (λ i. (more.calendar i).entries) ∙ ap (λ es. es ++ timing_of m ∷ []) kept.timed ∙ sym (pairs_pushed (λ n. n.timing) ms m);
+    watched = λ w. more.watchers w ∙ ap (λ b. b || is_watch_of w m) (kept.watched w) ∙ sym (watched_more ms m w);
+  }
+
+  pub kept_less : (i : ℕ) (after : List Placed) → find (is_of i) ms ≡ Some m → IsStruck m old new → after ≡ map placed_of (filter (λ n. not (is_of i n)) ms)
+      → IsKept (filter (λ n. not (is_of i n)) ms) after new
+  kept_less i after found less numbered =
+      let same : m.install ≡ i = eqb-true m.install i (found_passes (is_of i) ms m found) in
+      record {
+        numbered = numbered;
+        rise = rise_less (λ n. not (is_of i n)) ms kept.rise;
+        differ = differ_less (λ n. not (is_of i n)) ms kept.differ;
+        named = λ name. less.names name ∙ ap (cond (bytes_eq m.name name) None) (kept.named name) ∙ named_less i ms m name kept.rise kept.differ found;
+        timed = (λ j. (less.calendar j).entries) ∙ (λ j. remove_entry (is_at (nat_cmp (same j))) (kept.timed j)) ∙ remove_pair (λ n. n.timing) i ms kept.rise;
+        watched = λ w. less.watchers w ∙ ap (λ b. b && not (is_watch_of w m)) (kept.watched w) ∙ watched_less i ms m w kept.rise found;
+      }
+
+-- the member of a number is taken
+module _ (placed after : List Placed) (old : Finders) (kept : IsKept (members_in placed) placed old) (i : ℕ) (less : after ≡ remove_entry (is_at (nat_cmp i)) placed) where
+  abbrev rest : List Member
+  rest = filter (λ n. not (is_of i n)) (members_in placed)
+
+  taken_numbered : after ≡ map placed_of rest
+  taken_numbered = less ∙ ap (remove_entry (is_at (nat_cmp i))) kept.numbered ∙ remove_pair (λ n. n) i (members_in placed) kept.rise
+
+  pub taken_shown : members_in after ≡ filter (λ n. not (is_of i n)) (members_in placed)
+  taken_shown = shown after rest taken_numbered
+
+  pub taken : (new : Finders) (m : Member) → lookup (is_at (nat_cmp i)) placed ≡ Some m → IsStruck m old new → IsKept (members_in after) after new
+  taken new m found struck =
+      kept_at after new rest (kept_less placed (members_in placed) old new kept m i after (sym (get_is placed (members_in placed) i kept.numbered) ∙ found) struck taken_numbered)
+
+-- one more is put in, and taken out again
+module _ (placed : List Placed) (old mid : Finders) (kept : IsKept (members_in placed) placed old) (m : Member) (above : AllByRecursion (λ n. n.install < m.install) (members_in placed)) (free : list_any (is_named m.name) (members_in placed) ≡ false) (enrolled : IsEnrolled m old mid) where
+  abbrev joined : List Member
+  joined = members_in placed ++ m ∷ []
+
+  module _ (after : List Placed) (more : after ≡ insert_entry nat_cmp placed m.install m) where
+    put_numbered : after ≡ map placed_of joined
+    put_numbered = more ∙ ap (λ es. insert_entry nat_cmp es m.install m) kept.numbered ∙ insert_pair (λ n. n) (members_in placed) m above
+
+    pub put_shown : members_in after ≡ members_in placed ++ m ∷ []
+    put_shown = shown after joined put_numbered
+
+    pub put : IsKept (members_in after) after mid
+    put = kept_at after mid joined (kept_more placed (members_in placed) old mid kept m after above free enrolled put_numbered)
+
+  pub put_back : (after : List Placed) (new : Finders) → IsStruck m mid new → after ≡ placed → IsKept (members_in after) after new
+  put_back after new struck same =
+      let one = kept_more placed (members_in placed) old mid kept m (map placed_of joined) above free enrolled refl in
+      let gone = others_pushed (members_in placed) m above in
+      let here = same ∙ kept.numbered in
+      kept_at after new (members_in placed)
+      (subst (λ ms. IsKept ms after new) gone (kept_less (map placed_of joined) joined mid new one m m.install after (found_pushed (members_in placed) m above) struck (here ∙ ap (map placed_of) (sym gone))))
+
+-- before one more is found: it is above all, its name is free, and it watches nothing
+module _ (placed : List Placed) (ms : List Member) (finders : Finders) (kept : IsKept ms placed finders) where
+  pub above_all : (i : ℕ) → AllByRecursion (λ n. n.install < i) ms → AllByRecursion (λ e. e.0 < i) finders.calendar.entries
+  above_all i above = subst (AllByRecursion (λ e. e.0 < i)) (sym kept.timed) (keys_below (λ n. n.timing) i ms above)
+
+  pub free_name : (name : List ℕ) → list_any (is_named name) ms ≡ false → lookup (bytes_eq name) finders.names ≡ None
+  free_name name free = kept.named name ∙ nobody_found name ms free
+
+  pub has_name : (name : List ℕ) → is_some (lookup (bytes_eq name) finders.names) ≡ list_any (is_named name) ms
+  has_name name = ap is_some (kept.named name) ∙ is_some_map (λ (m : Member). m.install) (find (is_named name) ms) ∙ some_found (is_named name) ms
+
+  pub is_idle : (i : ℕ) → AllByRecursion (λ n. n.install < i) ms → list_any (λ w. w.install == i) finders.watchers ≡ false
+  is_idle i above = nobody_watches i finders.watchers (λ w here. kept.watched w ∙ no_watch_yet i w ms here above)
+
+  -- those that watch a topic
+  pub watchers_are : (topic : ℕ) → AreRisingWatches finders.watchers → map (λ w. w.install) (filter (λ w. w.topic == topic) finders.watchers) ≡ watchers_of topic ms
+  watchers_are topic rising =
+      same_rising _ _ (watches_rise topic finders.watchers rising) (members_rise (watches topic) ms kept.rise)
+      (λ n. watch_at topic n finders.watchers ∙ kept.watched (record { topic = topic; install = n }) ∙ sym (member_at topic n ms))
+
+  -- without the member of a name, as without that of its install number
+  pub without_named : (name : List ℕ) (i : ℕ) → lookup (bytes_eq name) finders.names ≡ Some i → filter (λ m. not (is_of i m)) ms ≡ filter (λ m. not (is_named name m)) ms
+  without_named name i found = named_is name i ms kept.rise kept.differ (sym (kept.named name) ∙ found)
+
+  pub without_nobody : (name : List ℕ) → lookup (bytes_eq name) finders.names ≡ None → ms ≡ filter (λ m. not (is_named name m)) ms
+  without_nobody name none = sym (unnamed_is name ms (sym (kept.named name) ∙ none))

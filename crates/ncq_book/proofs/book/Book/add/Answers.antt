@@ -1,0 +1,51 @@
+use Rattle.std.proofs.Common.{◌≡◌, ◌<◌, false, ◌∙◌, ap, sym, subst, ◌++◌, ◌∷◌, []}
+use Rattle.std.specs.List.{list_any, AllByRecursion}
+use Rattle.ncq_book.specs.declared.member.Member.{Member}
+use Rattle.ncq_book.specs.Books.{BookState, is_named}
+use Rattle.ncq_book.specs.Kept.{IsStruck}
+use Rattle.ncq_book.proofs.KeptLaws.{above_all, free_name, is_idle, kept_alike, put, put_shown, put_back}
+use Rattle.ncq_book.proofs.book.Book.add.Goals as goal
+
+above_in : (inside now : BookState) (m : Member) → inside ≡ now → AllByRecursion (λ n. n.install < m.install) now.members → AllByRecursion (λ n. n.install < m.install) inside.members
+above_in inside now m is above = subst (λ (b : BookState). AllByRecursion (λ n. n.install < m.install) b.members) (sym is) above
+
+free_in : (inside now : BookState) (m : Member) → inside ≡ now → list_any (is_named m.name) now.members ≡ false → list_any (is_named m.name) inside.members ≡ false
+free_in inside now m is free = ap (λ (b : BookState). list_any (is_named m.name) b.members) is ∙ free
+
+pub enroll-requires-clause-above : goal.enroll-requires-clause-above
+enroll-requires-clause-above c =
+    above_all c.self.inside.members.entries _ c.self.inside.finders c.self.invariant c.args.member.install (above_in _ _ c.args.member c.self.view_is c.requires.above)
+
+pub enroll-requires-clause-free : goal.enroll-requires-clause-free
+enroll-requires-clause-free c =
+    free_name c.self.inside.members.entries _ c.self.inside.finders c.self.invariant c.args.member.name (free_in _ _ c.args.member c.self.view_is c.requires.free)
+
+pub enroll-requires-clause-idle : goal.enroll-requires-clause-idle
+enroll-requires-clause-idle c =
+    is_idle c.self.inside.members.entries _ c.self.inside.finders c.self.invariant c.args.member.install (above_in _ _ c.args.member c.self.view_is c.requires.above)
+
+pub invariant_of-self : goal.invariant_of-self
+invariant_of-self c =
+    kept_alike c.self.inside.members.entries _ c.self.inside.finders c.enroll.new.self c.self.invariant c.in_err-enroll.ensures.err
+
+pub invariant_of-self-in-Ok : goal.invariant_of-self-in-Ok
+invariant_of-self-in-Ok c =
+    put c.self.inside.members.entries c.self.inside.finders c.enroll.new.self c.self.invariant c.args.member
+    (above_in _ _ c.args.member c.self.view_is c.requires.above) (free_in _ _ c.args.member c.self.view_is c.requires.free)
+    c.in_ok-enroll.ensures.ok c.insert.new.self.entries c.in-Ok.ensures.entries
+
+pub returns-in-Ok-clause-ok : goal.returns-in-Ok-clause-ok
+returns-in-Ok-clause-ok c =
+    let is =
+    put_shown c.self.inside.members.entries c.self.inside.finders c.enroll.new.self c.self.invariant c.args.member
+    (above_in _ _ c.args.member c.self.view_is c.requires.above) (free_in _ _ c.args.member c.self.view_is c.requires.free)
+    c.in_ok-enroll.ensures.ok c.insert.new.self.entries c.in-Ok.ensures.entries in
+    (λ i. record { members = is i; instant = (c.in_ok-enroll.ensures.ok.calendar i).instant })
+    ∙ ap (λ (b : BookState). record b { members = b.members ++ c.args.member ∷ [] }) c.self.view_is
+
+pub invariant_of-self-in-Err : goal.invariant_of-self-in-Err
+invariant_of-self-in-Err c =
+    put_back c.self.inside.members.entries c.self.inside.finders c.enroll.new.self c.self.invariant c.args.member
+    (above_in _ _ c.args.member c.self.view_is c.requires.above) (free_in _ _ c.args.member c.self.view_is c.requires.free)
+    c.in_ok-enroll.ensures.ok c.insert.new.self.entries c.strike.new.self
+    (subst (λ p. IsStruck p.1 c.enroll.new.self c.strike.new.self) c.in-Err.ensures.value_returned c.strike.ensures) c.in-Err.ensures.err

@@ -1,0 +1,54 @@
+-- A book of live subscriptions, as callers see it.
+use Rattle.std.specs.Prelude.{ℕ, ◌<◌, ◌==◌, ◌&&◌, Bool, nat_eq, List, [], ◌∷◌, map, filter, refl}
+use Rattle.std.specs.Prelude.{Option, Some, if◌then◌else◌}
+use Rattle.std.specs.List.{find, list_any, AllByRecursion}
+use Rattle.std.specs.Str.{bytes_eq}
+use Rattle.std.specs.Coded.{Coded, code_by, coded×, coded_ℕ, coded_list}
+use Rattle.ncq_event.specs.Calendars.{Entry}
+use Rattle.ncq_row.specs.Embeddings.{Row}
+use Rattle.ncq_book.specs.declared.member.Member.{Member}
+use Rattle.ncq_book.specs.contracts.member.Member.{the_row as member_row}
+
+-- the members in the order of their creates, and the instant of the clock
+pub record BookState : Type 0 where
+  pub members : List Member
+  pub instant : ℕ
+
+-- how a book is written as a value
+abbrev pub book_code : Coded BookState
+book_code = code_by (List Member × ℕ) (coded× (coded_list member_row.coded) coded_ℕ)
+    (λ b. (b.members, b.instant)) (λ p. record { members = p.0; instant = p.1 }) (λ _. refl)
+
+-- whether the member has this name
+abbrev pub is_named : List ℕ → Member → Bool
+is_named name m = bytes_eq name m.name
+
+-- whether the member has this install number
+abbrev pub is_of : ℕ → Member → Bool
+is_of install m = m.install == install
+
+-- the member of this install number, where there is one
+abbrev pub member_of : ℕ → List Member → Option Member
+member_of install members = find (is_of install) members
+
+-- the timing of a member, with its install number
+abbrev pub timing_of : Member → Entry
+timing_of m = (m.install, m.timing)
+
+-- whether the member fires at changes, and watches this topic
+abbrev pub watches : ℕ → Member → Bool
+watches topic m = m.timing.every == 0 && list_any (nat_eq topic) m.topics
+
+-- the install numbers of those that fire at changes and watch this topic
+abbrev pub watchers_of : ℕ → List Member → List ℕ
+watchers_of topic members = map (λ m. m.install) (filter (watches topic) members)
+
+-- the member with another mark and other rows, if it is that of the install number
+abbrev pub noted : ℕ → ℕ → List Row → Member → Member
+noted install mark told m =
+    if is_of install m then record m { mark = Some mark; told = told } else m
+
+-- each has a greater install number than those before it
+abbrev pub InstallsRise : List Member → Type 0
+InstallsRise [] = Unit {0}
+InstallsRise (m ∷ more) = AllByRecursion (λ n. m.install < n.install) more × InstallsRise more

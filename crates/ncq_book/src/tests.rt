@@ -1,0 +1,328 @@
+//! A book of three members, by values worked out by hand.
+ghost use Rattle.std.specs.Prelude.{◌≡◌, ◌<◌, ◌+◌, [], IfOk};
+ghost use Rattle.std.specs.List.{AllByRecursion};
+
+use crate::{Book, Member, Topics};
+use ncq_base::{Bytes, Sequence, bytes_of};
+use ncq_event::{Firing, Firings, Timing};
+use ncq_plan::{Arms, Expr, NormalQuery, SlotTemplate, Tests};
+use ncq_row::{Names, Rows, Shape, ShapeContent, ShapeSuffix};
+use std::alloc::{AllocError, Global};
+use std::hash::RandomState;
+use std::process::Abort;
+use std::test::Fail;
+
+/// What members differ in: name; start, every, expiry; topics.
+type Row = (&'static str, (u64, u64, Option<u64>), &'static [u64]);
+
+/// It fires from 10 on, each 10, and its topics do not matter.
+const TIMER: Row = ("timer", (10, 10, None), &[7]);
+
+/// It fires at changes, up to 50, and names a topic twice.
+const CHANGES: Row = ("changes", (0, 0, Some(50)), &[7, 9, 7]);
+
+/// It fires at changes from 30 on, up to 40.
+const PENDING: Row = ("pending", (30, 0, Some(40)), &[9, 3]);
+
+/// The last instant, and the last two topics.
+const LAST: Row = (
+    "last",
+    (18446744073709551615, 0, Some(18446744073709551615)),
+    &[18446744073709551614, 18446744073709551615],
+);
+
+/// Topics, and whether the last member watches them.
+const LAST_WATCHERS: [(u64, &[u64]); 2] = [
+    (18446744073709551613, &[]),
+    (18446744073709551614, &[18446744073709551615]),
+];
+
+/// The last firing of the last member.
+const LAST_DUE: [(u64, &[(u64, u64)]); 2] = [
+    (18446744073709551614, &[]),
+    (
+        18446744073709551615,
+        &[(18446744073709551615, 18446744073709551615)],
+    ),
+];
+
+/// A topic, and who watches it.
+const WATCHERS: [(u64, &[u64]); 7] = [
+    (7, &[2]),
+    (9, &[2, 3]),
+    (3, &[3]),
+    (8, &[]),
+    (0, &[]),
+    (10, &[]),
+    (18446744073709551614, &[]),
+];
+
+/// The instant that the clock is moved to, from 0, and who is due.
+const DUE: [(u64, &[(u64, u64)]); 5] = [
+    (0, &[]),
+    (9, &[]),
+    (10, &[(10, 1)]),
+    (29, &[(10, 1)]),
+    (30, &[(10, 1), (30, 3)]),
+];
+
+/// And from 10.
+const DUE_LATER: [(u64, &[(u64, u64)]); 4] = [
+    (10, &[]),
+    (19, &[]),
+    (20, &[(20, 1)]),
+    (30, &[(20, 1), (30, 3)]),
+];
+
+/// An instant, and who has expired.
+const EXPIRED: [(u64, &[u64]); 6] = [
+    (0, &[]),
+    (40, &[]),
+    (41, &[3]),
+    (50, &[3]),
+    (51, &[2, 3]),
+    (18446744073709551615, &[2, 3]),
+];
+
+/// A plan that is not looked at.
+fn any_plan(alloc: Global) -> Result<Expr, AllocError> {
+    let source = bytes_of(alloc, b"quotes")?;
+    let tag = bytes_of(alloc, b"Quote")?;
+    let shape = Shape {
+        tag,
+        attributes: Names::new(alloc),
+        content: ShapeContent::Value,
+        suffix: ShapeSuffix::Plain,
+    };
+    Ok(Expr::Scan { source, shape })
+}
+
+/// A query that is not looked at.
+fn any_query(alloc: Global) -> NormalQuery {
+    NormalQuery {
+        arms: Arms::new(alloc),
+        residual: Tests::new(alloc),
+        template: SlotTemplate::Slot(0),
+    }
+}
+
+/// A member of this name and install number, and else of the row.
+fn member(alloc: Global, install: u64, name: Bytes, row: &Row) -> Result<Member, AllocError>
+    ensures install { IfOk result (λ m. m.install ≡ install) }
+    ensures name { IfOk result (λ m. m.name ≡ name) }
+{
+    let (_, (start, every, expire), topics) = *row;
+    let topics = numbers(alloc, topics)?;
+    let plan = any_plan(alloc)?;
+    Ok(Member {
+        name,
+        sources: Sequence::new(alloc),
+        topics,
+        query: any_query(alloc),
+        plan,
+        timing: Timing {
+            start,
+            every,
+            expire,
+        },
+        action: 0,
+        argument: Bytes::new(alloc),
+        install,
+        mark: None,
+        told: Rows::new(alloc),
+    })
+}
+
+/// Whether the member came in: its name was free.
+fn put(alloc: Global, book: &mut Book, install: u64, row: &Row) -> Result<bool, AllocError>
+    requires { AllByRecursion (λ m. m.install < install) book.old.members }
+    ensures { AllByRecursion (λ m. m.install < install + 1) book.new.members }
+{
+    let name = bytes_of(alloc, row.0.as_bytes())?;
+    if book.has(&name) {
+        return Ok(false);
+    }
+    let member = member(alloc, install, name, row)?;
+    book.add(alloc, member)?;
+    Ok(true)
+}
+
+/// The three members under 1, 2 and 3.
+fn three(alloc: Global, seed: RandomState) -> Result<Book, AllocError>
+    ensures { IfOk result (λ book. AllByRecursion (λ m. m.install < 4) book.members) }
+{
+    let mut book = Book::new(alloc, seed);
+    put(alloc, &mut book, 1, &TIMER)?;
+    put(alloc, &mut book, 2, &CHANGES)?;
+    put(alloc, &mut book, 3, &PENDING)?;
+    Ok(book)
+}
+
+fn numbers(alloc: Global, from: &[u64]) -> Result<Topics, AllocError> {
+    let mut numbers = Topics::new(alloc);
+    for number in from {
+        numbers.push(*number)?;
+    }
+    Ok(numbers)
+}
+
+/// Firings of instants and install numbers.
+fn firings(alloc: Global, pairs: &[(u64, u64)]) -> Result<Firings, AllocError> {
+    let mut firings = Firings::new(alloc);
+    for &(instant, install) in pairs {
+        firings.push(Firing { instant, install })?;
+    }
+    Ok(firings)
+}
+
+/// The number of changes at the member's latest firing, where there is a member and a firing.
+fn mark_of(book: &Book, install: u64) -> Option<u64> {
+    let Some(member) = book.get(install) else {
+        return None;
+    };
+    member.mark
+}
+
+/// Each topic of the rows is watched by those of its row.
+fn expect_watchers(
+    rt: &impl Abort,
+    alloc: Global,
+    book: &Book,
+    rows: &[(u64, &[u64])],
+) -> Result<(), AllocError> {
+    for (topic, want) in rows {
+        assert!(rt; *topic < u64::MAX);
+        let told = book.watchers(alloc, *topic)?;
+        assert!(rt; told == numbers(alloc, want)?, "{topic}");
+    }
+    Ok(())
+}
+
+/// At each instant of the rows those of its row have expired.
+fn expect_expired(
+    rt: &impl Abort,
+    alloc: Global,
+    book: &Book,
+    rows: &[(u64, &[u64])],
+) -> Result<(), AllocError> {
+    for (at, want) in rows {
+        let told = book.expired(alloc, *at)?;
+        assert!(rt; told == numbers(alloc, want)?, "{at}");
+    }
+    Ok(())
+}
+
+/// Moves to the instants of the rows make those of the row due.
+fn expect_due(
+    rt: &impl Abort,
+    alloc: Global,
+    book: &Book,
+    rows: &[(u64, &[(u64, u64)])],
+) -> Result<(), AllocError> {
+    for (to, want) in rows {
+        let told = book.due(alloc, *to)?;
+        assert!(rt; told == firings(alloc, want)?, "{to}");
+    }
+    Ok(())
+}
+
+/// Whether a member has the name.
+fn has(alloc: Global, book: &Book, name: &str) -> Result<bool, AllocError> {
+    Ok(book.has(&bytes_of(alloc, name.as_bytes())?))
+}
+
+fn remove(alloc: Global, book: &mut Book, name: &str) -> Result<(), AllocError>
+    requires { AllByRecursion (λ m. m.install < 4) book.old.members }
+    ensures { AllByRecursion (λ m. m.install < 4) book.new.members }
+{
+    let name = bytes_of(alloc, name.as_bytes())?;
+    book.remove(&name);
+    Ok(())
+}
+
+fn expect_named(rt: &impl Abort, alloc: Global, book: &Book) -> Result<(), AllocError> {
+    assert!(rt; book.len() == 3);
+    assert!(rt; has(alloc, book, "pending")?);
+    assert!(rt; !has(alloc, book, "time")?);
+    assert!(rt; book.get(3).is_some() && book.get(4).is_none());
+    Ok(())
+}
+
+fn expect_moved(rt: &impl Abort, alloc: Global, book: &mut Book) -> Result<(), AllocError> {
+    expect_due(rt, alloc, book, &DUE)?;
+    assert!(rt; book.instant() <= 10);
+    book.move_to(alloc, 10)?;
+    assert!(rt; book.instant() == 10);
+    expect_due(rt, alloc, book, &DUE_LATER)
+}
+
+fn expect_noted(rt: &impl Abort, alloc: Global, book: &mut Book) {
+    book.note(2, 4, Rows::new(alloc));
+    book.note(4, 9, Rows::new(alloc));
+    assert!(rt; mark_of(book, 1).is_none() && mark_of(book, 3).is_none());
+    assert!(rt; mark_of(book, 2) == Some(4));
+    book.note(2, 0, Rows::new(alloc));
+    assert!(rt; mark_of(book, 2) == Some(0));
+    assert!(rt; book.len() == 3);
+}
+
+fn expect_removed(rt: &impl Abort, alloc: Global, book: &mut Book) -> Result<(), AllocError>
+    requires { AllByRecursion (λ m. m.install < 4) book.old.members }
+{
+    remove(alloc, book, "changes")?;
+    remove(alloc, book, "changes")?;
+    assert!(rt; book.len() == 2);
+    expect_watchers(rt, alloc, book, &[(7, &[]), (9, &[3])])?;
+    expect_expired(rt, alloc, book, &[(51, &[3])])?;
+    assert!(rt; put(alloc, book, 4, &CHANGES)?);
+    assert!(rt; !put(alloc, book, 5, &CHANGES)?);
+    expect_watchers(rt, alloc, book, &[(7, &[4]), (9, &[3, 4])])
+}
+
+fn expect_left(rt: &impl Abort, alloc: Global, book: &mut Book) -> Result<(), AllocError> {
+    book.remove_all(&[4, 1, 2]);
+    assert!(rt; book.len() == 1 && book.get(3).is_some());
+    expect_watchers(rt, alloc, book, &[(9, &[3])])?;
+    expect_due(rt, alloc, book, &[(99, &[(30, 3)])])?;
+    book.remove_all(&[]);
+    assert!(rt; book.len() == 1);
+    Ok(())
+}
+
+fn expect_last(rt: &impl Abort, alloc: Global, book: &mut Book) -> Result<(), AllocError>
+    requires { book.old.members ≡ [] }
+{
+    assert!(rt; put(alloc, book, 18446744073709551615, &LAST)?);
+    expect_watchers(rt, alloc, book, &LAST_WATCHERS)?;
+    expect_due(rt, alloc, book, &LAST_DUE)?;
+    expect_expired(rt, alloc, book, &[(18446744073709551615, &[])])
+}
+
+#[test]
+fn members_are_found(rt: HostRuntime) -> Result<(), Fail> {
+    let seed = RandomState::new(&rt)?;
+    let mut book = three(rt.alloc(), seed)?;
+    expect_named(&rt, rt.alloc(), &book)?;
+    expect_watchers(&rt, rt.alloc(), &book, &WATCHERS)?;
+    expect_expired(&rt, rt.alloc(), &book, &EXPIRED)?;
+    expect_moved(&rt, rt.alloc(), &mut book)?;
+    expect_noted(&rt, rt.alloc(), &mut book);
+    Ok(())
+}
+
+#[test]
+fn removed_members_are_not_found(rt: HostRuntime) -> Result<(), Fail> {
+    let seed = RandomState::new(&rt)?;
+    let mut book = three(rt.alloc(), seed)?;
+    expect_removed(&rt, rt.alloc(), &mut book)?;
+    expect_left(&rt, rt.alloc(), &mut book)?;
+    Ok(())
+}
+
+#[test]
+fn the_last_numbers_are_found(rt: HostRuntime) -> Result<(), Fail> {
+    let seed = RandomState::new(&rt)?;
+    let mut book = Book::new(rt.alloc(), seed);
+    expect_last(&rt, rt.alloc(), &mut book)?;
+    Ok(())
+}
