@@ -1,7 +1,9 @@
-//! The program `ncq`: a script comes from standard input, and the answer to each of its commands goes to standard output.
-//! The words after the program's name say what to do; the exit code says how it ended, and nothing else is printed.
-//! What is written is what `ncq_run::run` promises. No clause can say what the terminal gives or gets: which words are taken
-//! and which code a status ends with is proved, and the stored run and the tests show the rest.
+//! The program `ncq`: a script comes from standard input, and the answer to each of its commands
+//! goes to standard output.
+//! The words after the program's name say what to do; the exit code says how it ended, and nothing
+//! else is printed. What is written is what `ncq_run::run` promises. No clause can say what the
+//! terminal gives or gets: which words are taken and which code a status ends with is proved, and
+//! the stored run and the tests show the rest.
 #![tactic(auto)]
 
 ghost use Rattle.std.specs.Prelude.{◌≡◌, ◌<◌, ◌↔◌, ◌++◌, ◌∷◌, [], IfOk, MatchResult, OnOk};
@@ -30,7 +32,8 @@ use std::{env, io};
 #[cfg(test)]
 mod tests;
 
-/// The words after the program's name. Where one of them is not UTF-8, there is one word and it is empty.
+/// The words after the program's name. Where one of them is not UTF-8, there is one word and it is
+/// empty.
 fn words_of<R: Env + AllocGlobal>(rt: &R) -> Result<Vec<String>, AllocError> {
     let mut words = Vec::new(rt.alloc());
     match env::args(rt) {

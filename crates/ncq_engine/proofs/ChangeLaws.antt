@@ -24,8 +24,8 @@ use Rattle.ncq_source.specs.declared.change.ChangeError.TheVariants.{NoSource, B
 use Rattle.ncq_source.specs.Stores.{Source as Declared, without_room}
 use Rattle.ncq_source.specs.StoreStates.{StoreState, IsCommitted, TellsChange, found, names}
 use Rattle.ncq_source.proofs.Folds.{fold_of_entries}
-use Rattle.ncq_engine.specs.declared.member.Member.{Member}
-use Rattle.ncq_engine.specs.declared.telling.Told.{Told}
+use Rattle.ncq_book.specs.declared.member.Member.{Member}
+use Rattle.ncq_engine.specs.Engines.{Told}
 use Rattle.ncq_engine.specs.Engines.{CanFire, FiresIf, Pairwise, changed_text, is_told_change, last_in, rows_over, told_at, told_text}
 use Rattle.ncq_engine.specs.Firing.{fires, is_installed, is_told_of, sources_of}
 use Rattle.ncq_engine.specs.History.{History, Subscription, changes, creates, creates as creates_of, last_change, live, now, source_in, sources, with_items, world}

@@ -13,8 +13,8 @@ use Rattle.ncq_script.specs.declared.refusal.Refusal.TheVariants as refusal
 use Rattle.ncq_source.specs.StoreStates.{StoreState}
 use Rattle.ncq_xmlql.specs.declared.model.Statement.{Statement}
 use Rattle.ncq_engine.specs.declared.engine.Applied.{Applied}
-use Rattle.ncq_engine.specs.declared.member.Member.{Member}
-use Rattle.ncq_engine.specs.declared.telling.Told.{Told}
+use Rattle.ncq_book.specs.declared.member.Member.{Member}
+use Rattle.ncq_engine.specs.Engines.{Told}
 use Rattle.ncq_engine.specs.Applies.{Applies, expired_name, ok_text}
 use Rattle.ncq_engine.specs.Engines.{CanFire, FiresIf, Pairwise, has_news_in, last_in, moved_instant, moved_told}
 use Rattle.ncq_engine.specs.Firing.{fires, has_news, is_installed, mark, sources_of}

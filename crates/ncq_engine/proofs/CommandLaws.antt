@@ -20,9 +20,10 @@ use Rattle.ncq_source.specs.declared.store.DeclareError.TheVariants.{Exists}
 use Rattle.ncq_engine.specs.declared.engine.Applied.{Applied}
 use Rattle.ncq_engine.specs.declared.engine.ApplyError.{ApplyError}
 use Rattle.ncq_engine.specs.declared.engine.ApplyError.TheVariants.{Refused, OutOfMemory}
-use Rattle.ncq_engine.specs.declared.member.Member.{Member}
+use Rattle.ncq_book.specs.declared.member.Member.{Member}
 use Rattle.ncq_engine.specs.Applies.{Applies, ok_text}
-use Rattle.ncq_engine.specs.Engines.{CanFire, InstallsAreUpTo, InstallsRise, Pairwise}
+use Rattle.ncq_book.specs.Books.{InstallsRise}
+use Rattle.ncq_engine.specs.Engines.{CanFire, InstallsAreUpTo, Pairwise}
 use Rattle.ncq_engine.proofs.Lists.{each_filter}
 use Rattle.ncq_engine.specs.History.{History, Source, Subscription, changes, creates as creates_of, is_named, live, source_in}
 use Rattle.ncq_engine.specs.Output.{is_taken, refused_if}

@@ -4,7 +4,7 @@ use Rattle.std.specs.Prelude.{Option, Some, None, Result, Ok, Err, if◌then◌e
 use Rattle.std.specs.Option.{unwrap_or}
 use Rattle.std.proofs.lemmas.Bool.Decides.{nat_tests}
 use Rattle.std.proofs.lemmas.List.{append-nil}
-use Rattle.std.specs.List.{flat_map, list_any, AllByRecursion}
+use Rattle.std.specs.List.{filter, flat_map, list_any, AllByRecursion}
 use Rattle.std.specs.Str.{bytes_eq}
 use Rattle.ncq_base.specs.Counts.{SameCounts}
 use Rattle.ncq_base.specs.Keys.{times}
@@ -25,16 +25,17 @@ use Rattle.ncq_script.specs.declared.command.Command.{Command}
 use Rattle.ncq_script.specs.declared.command.Command.TheVariants.{Create}
 use Rattle.ncq_script.specs.declared.refusal.Refusal.{Refusal}
 use Rattle.ncq_script.specs.declared.refusal.Refusal.TheVariants as refusal
-use Rattle.ncq_source.specs.StoreStates.{StoreState}
+use Rattle.ncq_source.specs.StoreStates.{StoreState, names}
 use Rattle.ncq_xmlql.specs.declared.model.Query.{Query}
 use Rattle.ncq_xmlql.specs.declared.model.Statement.{Statement}
 use Rattle.ncq_xmlql.specs.WellFormed.{IsWellFormed as IsWhole}
 use Rattle.ncq_engine.specs.declared.engine.Applied.{Applied}
 use Rattle.ncq_engine.specs.declared.engine.ApplyError.{ApplyError}
 use Rattle.ncq_engine.specs.declared.engine.ApplyError.TheVariants.{Refused}
-use Rattle.ncq_engine.specs.declared.member.Member.{Member}
+use Rattle.ncq_book.specs.declared.member.Member.{Member}
 use Rattle.ncq_engine.specs.Applies.{Applies, error_of, kind_at, ok_text, query_refusal, refused_query}
-use Rattle.ncq_engine.specs.Engines.{CanFire, FiresIf, InstallsAreUpTo, InstallsRise, Pairwise, rows_over, started_text, told_text}
+use Rattle.ncq_book.specs.Books.{InstallsRise}
+use Rattle.ncq_engine.specs.Engines.{CanFire, FiresIf, HasTopics, InstallsAreUpTo, IsEngine, Pairwise, new_member, rows_over, started_text, told_text}
 use Rattle.ncq_engine.specs.Firing.{fires, is_new, mark, sources_of}
 use Rattle.ncq_engine.specs.History.{History, Subscription, changes, created, creates as creates_of, is_named, live, now, sources, start_of, world}
 use Rattle.ncq_engine.specs.Languages.{binding_refusal, language_of}
@@ -42,11 +43,13 @@ use Rattle.ncq_engine.specs.Notices.{fired_at, kind_in, notice_at, told}
 use Rattle.ncq_engine.specs.Output.{first_refusal, is_at_odds, notices, or_else, refused_if}
 use Rattle.ncq_engine.specs.Stands.{EngineState, Keeps, Stands, rows_at}
 use Rattle.ncq_engine.proofs.ChangeLaws.{some_if}
-use Rattle.ncq_engine.proofs.CommandLaws.{AreOnRoll, engine}
+use Rattle.ncq_engine.proofs.CommandLaws.{AreOnRoll, engine, roll_filter}
 use Rattle.ncq_engine.proofs.EngineLaws.{accepts, gives_up, pairwise_any, refuses}
 use Rattle.ncq_engine.proofs.HistoryLaws.{Installed, installed, never}
 use Rattle.ncq_engine.proofs.Keeping.{keeps_one, keeps_quiet}
-use Rattle.ncq_engine.proofs.Lists.{each_more, each_push, flat_map_append}
+use Rattle.ncq_engine.proofs.Lists.{each_filter, each_more, each_push, flat_map_append}
+use Rattle.ncq_engine.proofs.RollLaws.{few_new, rise_new, watch_new}
+use Rattle.ncq_engine.proofs.TopicLaws.{topics_stay}
 use Rattle.ncq_engine.proofs.NoticeLaws.{text_is}
 use Rattle.ncq_engine.proofs.TellingLoops.{pairwise_push}
 use Rattle.ncq_engine.proofs.Worlds.{roots_are, world_is}
@@ -70,20 +73,6 @@ abbrev pub timed : Statement → ℕ → Timing
 timed statement clock = record { start = start_of statement.start clock; every = statement.every; expire = statement.expire }
 
 -- the member that a create makes
-abbrev pub new_member : Statement → NormalQuery → Timing → ℕ → ℕ → Member
-new_member statement query timing action creates = record {
-  name = statement.name;
-  sources = sources_of statement;
-  query = query;
-  plan = plan_of query;
-  timing = timing;
-  action = action;
-  argument = unwrap_or statement.argument [];
-  install = creates + 1;
-  mark = None;
-  told = [];
-}
-
 module _ (store : StoreState) (clock count creates : ℕ) (labels : List Label) (members : List Member) (statement : Statement) where
   abbrev old_engine : EngineState
   old_engine = engine store clock count creates labels members
@@ -181,14 +170,14 @@ pub roll_more : (labels : List Label) (creates : ℕ) (ms : List Member) → Are
 roll_more labels creates ms r =
     (r.0, r.1, each_more (λ (n : Member). n.install ≤ creates) (λ (n : Member). n.install ≤ creates + 1) (λ n few. let l : n.install ≤ creates + 1 = omega (arith, few) in l) ms r.2)
 
-pub new_can : (labels : List Label) (statement : Statement) (query : NormalQuery) (timing : Timing) (action creates : ℕ) → IsWellFormed query → action < length labels → CanFire labels (new_member statement query timing action creates)
-new_can labels statement query timing action creates formed within = record { formed = formed; plan = refl; action = within; wide = tt }
+pub new_can : (labels : List Label) (statement : Statement) (query : NormalQuery) (timing : Timing) (action creates : ℕ) (topics : List ℕ) → IsWellFormed query → action < length labels → CanFire labels (new_member statement query timing action creates topics)
+new_can labels statement query timing action creates topics formed within = record { formed = formed; plan = refl; action = within; wide = tt }
 
-module _ (store : StoreState) (clock count creates : ℕ) (labels : List Label) (members : List Member) (statement : Statement) (query : NormalQuery) (action : ℕ)
+module _ (store : StoreState) (clock count creates : ℕ) (labels : List Label) (members : List Member) (statement : Statement) (query : NormalQuery) (action : ℕ) (topics : List ℕ)
     (whole : IsWhole statement) (binds : Binds statement.query (roots_in store) (Ok query)) (formed : IsWellFormed query) (within : action < length labels)
     (kind : kind_at labels action ≡ kind_in statement.action labels) (h : History) (s : Stands (engine store clock count creates labels members) h) where
   abbrev made : Member
-  made = new_member statement query (timed statement clock) action creates
+  made = new_member statement query (timed statement clock) action creates topics
 
   abbrev own : Subscription
   own = created statement h
@@ -208,7 +197,7 @@ module _ (store : StoreState) (clock count creates : ℕ) (labels : List Label) 
         install = λ i. s.creates i + 1;
         marked = none;
         told = subst (λ (o : Option ℕ). SameCounts [] (rows_at made.plan h o)) none (λ f. refl);
-        fires = new_can labels statement query (timed statement clock) action creates formed within;
+        fires = new_can labels statement query (timed statement clock) action creates topics formed within;
       }
 
   same_world : world (sources (Create statement ∷ h)) ≡ world_in store
@@ -259,30 +248,30 @@ module _ (store : StoreState) (clock count creates : ℕ) (labels : List Label) 
   pub create_times : (if nat_lt 0 (length (started_text labels store clock made)) then 1 else 0) ≡ times (λ f. nat_lt 0 (length (notice f))) (told h (Create statement))
   create_times = times_if (made.timing.start == clock) ∙ ap (times (λ f. nat_lt 0 (length (notice f)))) (sym told_is)
 
-module _ (store : StoreState) (clock count creates : ℕ) (labels : List Label) (members : List Member) (statement : Statement) (query : NormalQuery) (action : ℕ)
+module _ (store : StoreState) (clock count creates : ℕ) (labels : List Label) (members : List Member) (statement : Statement) (query : NormalQuery) (action : ℕ) (topics : List ℕ)
     (whole : IsWhole statement) (binds : Binds statement.query (roots_in store) (Ok query)) (formed : IsWellFormed query) (within : action < length labels)
     (kind : kind_at labels action ≡ kind_in statement.action labels)
     (free : list_any (λ m. bytes_eq statement.name m.name) members ≡ false) (fits : is_at_odds (kind_in statement.action labels) statement.argument ≡ false)
     (timely : is_expired (timed statement clock) (start_of statement.start clock) ≡ false) where
   -- a create that is accepted
   pub create_accepted : (out line out' : List ℕ) (applied : Applied) (new : Member)
-      → FiresIf (start_of statement.start clock == clock) store (new_member statement query (timed statement clock) action creates) new → CanFire labels new
+      → FiresIf (start_of statement.start clock == clock) store (new_member statement query (timed statement clock) action creates topics) new → CanFire labels new
       → line ≡ out ++ ok_text (count + 1)
-      → out' ≡ line ++ started_text labels store clock (new_member statement query (timed statement clock) action creates)
+      → out' ≡ line ++ started_text labels store clock (new_member statement query (timed statement clock) action creates topics)
       → applied.from ≡ length line → applied.to ≡ length out'
-      → applied.notices ≡ (if nat_lt 0 (length (started_text labels store clock (new_member statement query (timed statement clock) action creates))) then 1 else 0)
+      → applied.notices ≡ (if nat_lt 0 (length (started_text labels store clock (new_member statement query (timed statement clock) action creates topics))) then 1 else 0)
       → Applies (engine store clock count creates labels members) (Create statement) out (Ok applied) (engine store clock (count + 1) (creates + 1) labels (members ++ new ∷ [])) out'
   create_accepted out line out' applied new fired can first rest from to many =
-      let text = started_text labels store clock (new_member statement query (timed statement clock) action creates) in
+      let text = started_text labels store clock (new_member statement query (timed statement clock) action creates topics) in
       let whole_text : out' ≡ (out ++ ok_text (count + 1)) ++ text = rest ∙ ap (λ (l : List ℕ). l ++ text) first in
       accepts (engine store clock count creates labels members) (Create statement) out applied (engine store clock (count + 1) (creates + 1) labels (members ++ new ∷ [])) out' text []
       (record {
         accepted = λ h s. (
           create_refusal store clock count creates labels members statement false false false None free (binds_freely statement.query (roots_in store) query binds) fits timely h s,
-          create_stands store clock count creates labels members statement query action whole binds formed within kind h s new fired can,
+          create_stands store clock count creates labels members statement query action topics whole binds formed within kind h s new fired can,
         );
-        tells = λ h s. create_text store clock count creates labels members statement query action whole binds formed within kind h s;
-        counts = λ h s. many ∙ create_times store clock count creates labels members statement query action whole binds formed within kind h s;
+        tells = λ h s. create_text store clock count creates labels members statement query action topics whole binds formed within kind h s;
+        counts = λ h s. many ∙ create_times store clock count creates labels members statement query action topics whole binds formed within kind h s;
         ends = λ h s. refl;
         counted = refl;
         named = refl;
@@ -300,18 +289,18 @@ pub record Started (labels : List Label) (store : StoreState) (clock : ℕ) (fir
 
 -- the engine with the member pushed, by the names of the code
 module _ (e inside : EngineState) (known : List Label) (handled : e.labels ≡ known) (counted : inside ≡ record e { count = e.count + 1 }) where
-  pub create_answers : (statement : Statement) (query : NormalQuery) (timing : Timing) (action : ℕ) → timing ≡ timed statement e.clock
+  pub create_answers : (statement : Statement) (query : NormalQuery) (timing : Timing) (action : ℕ) (topics : List ℕ) → timing ≡ timed statement e.clock
       → IsWhole statement → Binds statement.query (roots_in e.store) (Ok query) → IsWellFormed query → action < length known
       → kind_at known action ≡ kind_in statement.action known → is_at_odds (kind_at known action) statement.argument ≡ false
       → list_any (λ m. bytes_eq statement.name m.name) e.members ≡ false → is_expired timing timing.start ≡ false
       → (out line out' : List ℕ) (applied : Applied) (first new : Member) (many : ℕ) (members : List Member)
-      → first ≡ new_member statement query timing action e.creates
+      → first ≡ new_member statement query timing action e.creates topics
       → Started known inside.store inside.clock first new line out' many → line ≡ out ++ ok_text (e.count + 1)
       → applied.from ≡ length line → applied.to ≡ length out' → applied.notices ≡ many → members ≡ inside.members ++ new ∷ []
       → Applies e (Create statement) out (Ok applied) (engine inside.store inside.clock inside.count (inside.creates + 1) inside.labels members) out'
-  create_answers statement query timing action timed_is whole binds formed within kind fits free timely out line out' applied first new many members is started line_is from to notices push =
-      let here : Started e.labels e.store e.clock (new_member statement query (timed statement e.clock) action e.creates) new line out' many =
-      subst (λ (f : Member). Started e.labels e.store e.clock f new line out' many) (is ∙ ap (λ (t : Timing). new_member statement query t action e.creates) timed_is)
+  create_answers statement query timing action topics timed_is whole binds formed within kind fits free timely out line out' applied first new many members is started line_is from to notices push =
+      let here : Started e.labels e.store e.clock (new_member statement query (timed statement e.clock) action e.creates topics) new line out' many =
+      subst (λ (f : Member). Started e.labels e.store e.clock f new line out' many) (is ∙ ap (λ (t : Timing). new_member statement query t action e.creates topics) timed_is)
       (subst (λ (x : EngineState). Started e.labels x.store x.clock first new line out' many) counted
       (subst (λ (l : List Label). Started l inside.store inside.clock first new line out' many) (sym handled) started)) in
       let kind_here : kind_at e.labels action ≡ kind_in statement.action e.labels = subst (λ (l : List Label). kind_at l action ≡ kind_in statement.action l) (sym handled) kind in
@@ -320,37 +309,103 @@ module _ (e inside : EngineState) (known : List Label) (handled : e.labels ≡ k
       subst (λ (n : EngineState). Applies e (Create statement) out (Ok applied) n out')
       (sym ((λ i. engine inside.store inside.clock inside.count (inside.creates + 1) inside.labels (push i))
       ∙ ap (λ (x : EngineState). engine x.store x.clock x.count (x.creates + 1) x.labels (x.members ++ new ∷ [])) counted))
-      (create_accepted e.store e.clock e.count e.creates e.labels e.members statement query action whole binds formed
+      (create_accepted e.store e.clock e.count e.creates e.labels e.members statement query action topics whole binds formed
       (subst (λ (l : List Label). action < length l) (sym handled) within) kind_here free fits_here
       (subst (λ (t : Timing). is_expired t t.start ≡ false) timed_is timely)
       out line out' applied new here.fired here.can line_is here.text from to (notices ∙ here.times))
 
--- what holds of an engine's fields whatever was answered
+-- what holds of an engine whatever was answered
 abbrev pub Invariant : EngineState → Type 0
-Invariant e = (e.store.changes ≤ e.count) × (e.creates ≤ e.count)
-    × AllByRecursion (CanFire e.labels) e.members × InstallsRise e.members × InstallsAreUpTo e.creates e.members
+Invariant e = IsEngine e.store e.count e.creates e.labels e.members
 
 module _ (e inside : EngineState) (counted : inside ≡ record e { count = e.count + 1 }) (holds : Invariant e) where
-  more_creates : (inside.store.changes ≤ inside.count) × (inside.creates + 1 ≤ inside.count)
-  more_creates =
-      let a = holds.0 in let b = holds.1 in
-      subst (λ (x : EngineState). (x.store.changes ≤ x.count) × (x.creates + 1 ≤ x.count)) (sym counted)
-      ((let l : e.store.changes ≤ e.count + 1 = omega (arith, a) in l), (let l : e.creates + 1 ≤ e.count + 1 = omega (arith, b) in l))
+  -- with the command counted
+  pub invariant_counted : Invariant inside
+  invariant_counted =
+      let a = holds.changes in let b = holds.creates_too in
+      subst Invariant (sym counted)
+      (record {
+        changes = (let l : e.store.changes ≤ e.count + 1 = omega (arith, a) in l);
+        creates_too = (let l : e.creates ≤ e.count + 1 = omega (arith, b) in l);
+        can = holds.can;
+        watch = holds.watch;
+        rise = holds.rise;
+        installed = holds.installed;
+      })
+
+  more_creates : inside.creates + 1 ≤ inside.count
+  more_creates = let b = holds.creates_too in subst (λ (x : EngineState). x.creates + 1 ≤ x.count) (sym counted) (let l : e.creates + 1 ≤ e.count + 1 = omega (arith, b) in l)
 
   on_roll : AreOnRoll inside.labels inside.creates inside.members
-  on_roll = subst (λ (x : EngineState). AreOnRoll x.labels x.creates x.members) (sym counted) (holds.2, holds.3, holds.4)
+  on_roll = let i = invariant_counted in (i.can, i.rise, i.installed)
 
   -- where the member did not get there
   pub invariant_kept : (members : List Member) → members ≡ inside.members → Invariant (engine inside.store inside.clock inside.count (inside.creates + 1) inside.labels members)
   invariant_kept members same =
+      let i = invariant_counted in
       let r = subst (AreOnRoll inside.labels (inside.creates + 1)) (sym same) (roll_more inside.labels inside.creates inside.members on_roll) in
-      (more_creates.0, more_creates.1, r.0, r.1, r.2)
+      record {
+        changes = i.changes;
+        creates_too = more_creates;
+        can = r.0;
+        watch = subst (λ (ms : List Member). AllByRecursion (HasTopics inside.store) ms) (sym same) i.watch;
+        rise = r.1;
+        installed = r.2;
+      }
 
-  pub invariant_pushed : (members : List Member) (new : Member) (known : List Label) → e.labels ≡ known → CanFire known new → new.install ≡ e.creates + 1 → members ≡ inside.members ++ new ∷ []
+  pub invariant_pushed : (members : List Member) (new : Member) (known : List Label) → e.labels ≡ known → CanFire known new → HasTopics inside.store new → new.install ≡ e.creates + 1 → members ≡ inside.members ++ new ∷ []
       → Invariant (engine inside.store inside.clock inside.count (inside.creates + 1) inside.labels members)
-  invariant_pushed members new known handled can installs same =
+  invariant_pushed members new known handled can has installs same =
+      let i = invariant_counted in
       let can_here : CanFire inside.labels new =
       subst (λ (x : EngineState). CanFire x.labels new) (sym counted) (subst (λ (l : List Label). CanFire l new) (sym handled) can) in
       let install_here : new.install ≡ inside.creates + 1 = installs ∙ ap (λ (x : EngineState). x.creates + 1) (sym counted) in
       let r = subst (AreOnRoll inside.labels (inside.creates + 1)) (sym same) (roll_push inside.labels inside.creates inside.members new on_roll can_here install_here) in
-      (more_creates.0, more_creates.1, r.0, r.1, r.2)
+      record {
+        changes = i.changes;
+        creates_too = more_creates;
+        can = r.0;
+        watch = subst (λ (ms : List Member). AllByRecursion (HasTopics inside.store) ms) (sym same) (each_push (HasTopics inside.store) inside.members new i.watch has);
+        rise = r.1;
+        installed = r.2;
+      }
+
+-- where some are taken away
+pub invariant_left : (e : EngineState) (keep : Member → Bool) → Invariant e → (members : List Member) → members ≡ filter keep e.members → Invariant (record e { members = members })
+invariant_left e keep i members left =
+    let r = roll_filter e.labels e.creates keep e.members members left (i.can, i.rise, i.installed) in
+    record {
+      changes = i.changes;
+      creates_too = i.creates_too;
+      can = r.0;
+      watch = subst (λ (ms : List Member). AllByRecursion (HasTopics e.store) ms) (sym left) (each_filter (HasTopics e.store) keep e.members i.watch);
+      rise = r.1;
+      installed = r.2;
+    }
+
+-- where members fire, and the store has the same names
+pub invariant_fired : (e : EngineState) (store : StoreState) (test : Member → Bool) (fired_over : StoreState) → Invariant e → store.changes ≤ e.count → names store ≡ names e.store
+    → (news : List Member) → Pairwise (λ old new. FiresIf (test old) fired_over old new) e.members news → AllByRecursion (CanFire e.labels) news → Invariant (record e { store = store; members = news })
+invariant_fired e store test fired_over i few same news fired can = record {
+  changes = few;
+  creates_too = i.creates_too;
+  can = can;
+  watch = topics_stay e.store store same news (watch_new test fired_over e.store e.members news fired i.watch);
+  rise = rise_new test fired_over e.members news fired i.rise;
+  installed = few_new test fired_over e.creates e.members news fired i.installed;
+}
+
+-- where the store alone is another, of the same names
+pub invariant_store : (e : EngineState) (store : StoreState) → Invariant e → store.changes ≤ e.count → names store ≡ names e.store → Invariant (record e { store = store })
+invariant_store e store i few same = record {
+  changes = few;
+  creates_too = i.creates_too;
+  can = i.can;
+  watch = topics_stay e.store store same e.members i.watch;
+  rise = i.rise;
+  installed = i.installed;
+}
+
+-- the new install number is above all others
+pub above_all : (most : ℕ) (members : List Member) (new : Member) → InstallsAreUpTo most members → new.install ≡ most + 1 → AllByRecursion (λ m. m.install < new.install) members
+above_all most members new h e = each_more (λ (m : Member). m.install ≤ most) (λ (m : Member). m.install < new.install) (λ m le. (let l : m.install < new.install = omega (arith, le, e) in l)) members h

@@ -9,7 +9,7 @@ use Rattle.ncq_plan.specs.declared.expr.Expr.{Expr}
 use Rattle.ncq_plan.specs.Exprs.{rows_in}
 use Rattle.ncq_script.specs.declared.command.Command.{Command}
 use Rattle.ncq_source.specs.StoreStates.{StoreState}
-use Rattle.ncq_engine.specs.declared.member.Member.{Member}
+use Rattle.ncq_book.specs.declared.member.Member.{Member}
 use Rattle.ncq_engine.specs.Engines.{CanFire, FiresIf, HasFired, Pairwise, rows_over, with_told}
 use Rattle.ncq_engine.specs.Firing.{fires, mark, marked}
 use Rattle.ncq_engine.specs.History.{History, Subscription, changes, sources, up_to, world}

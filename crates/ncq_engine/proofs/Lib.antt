@@ -1,6 +1,7 @@
 pub mod Lists
 pub mod HistoryLaws
 pub mod AloneLaws
+pub mod AppliesLaws
 pub mod MarkLaws
 pub mod Worlds
 pub mod NoticeLaws
@@ -14,8 +15,13 @@ pub mod CommandLaws
 pub mod ChangeLaws
 pub mod MemberLaws
 pub mod TellingLoops
-pub mod SortLaws
 pub mod RollLaws
 pub mod CreateLaws
 pub mod Actions
 pub mod ClockLaws
+pub mod ByInstall
+pub mod FiringLaws
+pub mod NotedLaws
+pub mod ExpiryLaws
+pub mod TopicLaws
+pub mod BookLaws

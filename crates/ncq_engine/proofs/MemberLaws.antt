@@ -25,7 +25,7 @@ use Rattle.ncq_plan.specs.Exprs.{expr_width}
 use Rattle.ncq_plan.specs.WellFormed.{arms_width, slots_fit}
 use Rattle.ncq_plan.proofs.CallerLemmas.{plan_is_wide}
 use Rattle.ncq_plan.proofs.PlanFits.{plan_is_well_formed}
-use Rattle.ncq_engine.specs.declared.member.Member.{Member}
+use Rattle.ncq_book.specs.declared.member.Member.{Member}
 use Rattle.ncq_engine.specs.Engines.{answers_in, CanFire, told_text}
 use Rattle.ncq_engine.specs.Notices.{rendered}
 use Rattle.ncq_engine.proofs.NoticeLaws.{difference_same, exchange, exchange_leads}

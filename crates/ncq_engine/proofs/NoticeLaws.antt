@@ -26,7 +26,7 @@ use Rattle.ncq_source.specs.StoreStates.{StoreState}
 use Rattle.ncq_script.specs.declared.command.Command.{Command}
 use Rattle.ncq_xmlql.specs.declared.model.Statement.{Statement}
 use Rattle.ncq_xmlql.specs.WellFormed.{IsWellFormed}
-use Rattle.ncq_engine.specs.declared.member.Member.{Member}
+use Rattle.ncq_book.specs.declared.member.Member.{Member}
 use Rattle.ncq_engine.specs.Engines.{answers_in, rows_over, told_text}
 use Rattle.ncq_engine.specs.Firing.{mark}
 use Rattle.ncq_engine.specs.History.{History, Subscription, sources, up_to, world}

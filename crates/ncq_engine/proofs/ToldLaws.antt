@@ -11,8 +11,8 @@ use Rattle.ncq_event.specs.Orders.{is_before, placed_by, ordered_by}
 use Rattle.ncq_script.specs.declared.command.Command.{Command}
 use Rattle.ncq_script.specs.declared.command.Command.TheVariants.{Declare, Delta, Create, Delete, Clock, Report, Malformed}
 use Rattle.ncq_source.specs.StoreStates.{StoreState}
-use Rattle.ncq_engine.specs.declared.member.Member.{Member}
-use Rattle.ncq_engine.specs.declared.telling.Told.{Told}
+use Rattle.ncq_book.specs.declared.member.Member.{Member}
+use Rattle.ncq_engine.specs.Engines.{Told}
 use Rattle.ncq_engine.specs.Engines.{Pairwise, told_at}
 use Rattle.ncq_engine.specs.Firing.{fires}
 use Rattle.ncq_event.specs.Instants.{is_expired}

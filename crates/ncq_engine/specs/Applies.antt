@@ -58,19 +58,21 @@ refused_change error = error_of (change_refusal error)
 abbrev pub refused_query : BindError → ApplyError
 refused_query error = error_of (query_refusal error)
 
--- the command is accepted: its answer was appended, and the engine stands for it
-abbrev pub Accepts : EngineState → Command → List ℕ → EngineState → List ℕ → Type 0
-Accepts old command out new out' =
-    (history : History) → Stands old history
-    → (first_refusal (language_of old.labels) history command ≡ None)
-    × (Stands new (command ∷ history)
-    × (out' ≡ out ++ accepted_text (language_of old.labels) history (old.count + 1) command))
+-- it holds of each history that the engine stands for
+abbrev pub OfEach : EngineState → (History → Type 0) → Type 0
+OfEach engine holds = (history : History) → Stands engine history → holds history
 
--- the command is refused for this, and the engine stands for what it stood for
-abbrev pub Refuses : EngineState → Command → Refusal → EngineState → Type 0
-Refuses old command why new =
-    (history : History) → Stands old history
-    → (first_refusal (language_of old.labels) history command ≡ Some why) × Stands new history
+-- it holds of the refusal, where the command was refused
+abbrev pub IfRefused : Result Applied ApplyError → (Refusal → Type 0) → Type 0
+IfRefused (Ok applied) holds = Unit {0}
+IfRefused (Err (Refused why)) holds = holds why
+IfRefused (Err OutOfMemory) holds = Unit {0}
+
+-- it holds where the command was accepted or refused: memory did not run out
+abbrev pub IfAnswered : Result Applied ApplyError → Type 0 → Type 0
+IfAnswered (Ok applied) holds = holds
+IfAnswered (Err (Refused why)) holds = holds
+IfAnswered (Err OutOfMemory) holds = Unit {0}
 
 -- where the notices begin and end, and how many there are
 abbrev pub WritesNotices : EngineState → Command → List ℕ → Applied → Type 0
@@ -83,6 +85,21 @@ WritesNotices old command out applied =
     ≡ times (λ fired. nat_lt 0 (length
     (notice_at (language_of old.labels) history command fired)))
     (told history command)))
+
+-- the command is accepted: its answer was appended, and the engine stands for it. Only the crate's
+-- private clauses cite this and what is below.
+abbrev pub Accepts : EngineState → Command → List ℕ → EngineState → List ℕ → Type 0
+Accepts old command out new out' =
+    (history : History) → Stands old history
+    → (first_refusal (language_of old.labels) history command ≡ None)
+    × (Stands new (command ∷ history)
+    × (out' ≡ out ++ accepted_text (language_of old.labels) history (old.count + 1) command))
+
+-- the command is refused for this, and the engine stands for what it stood for
+abbrev pub Refuses : EngineState → Command → Refusal → EngineState → Type 0
+Refuses old command why new =
+    (history : History) → Stands old history
+    → (first_refusal (language_of old.labels) history command ≡ Some why) × Stands new history
 
 -- what each answer says
 abbrev pub Applies

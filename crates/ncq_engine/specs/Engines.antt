@@ -3,8 +3,8 @@
 use Rattle.std.specs.Prelude.{◌≡◌, ◌<◌, ◌≤◌, ◌==◌, ◌&&◌, ℕ, Bool, true, false, if◌then◌else◌}
 use Rattle.std.specs.Prelude.{List, []}
 use Rattle.std.specs.Prelude.{◌∷◌, length}
-use Rattle.std.specs.Prelude.{Option, Some, None, nat_lt, nat_le, slice_get}
-use Rattle.std.specs.Option.{option_map}
+use Rattle.std.specs.Prelude.{Option, Some, None, nat_lt, nat_le, slice_get, map, ◌+◌}
+use Rattle.std.specs.Option.{option_map, unwrap_or}
 use Rattle.std.specs.List.{list_any, AllByRecursion}
 use Rattle.std.specs.Str.{bytes_eq}
 use Rattle.ncq_base.specs.Counts.{SameCounts}
@@ -13,16 +13,20 @@ use Rattle.ncq_callback.specs.Gathered.{answers, answer_of}
 use Rattle.ncq_callback.specs.Labels.{Label}
 use Rattle.ncq_change.specs.Stores.{source_named, world_in}
 use Rattle.ncq_event.specs.Instants.{due}
+use Rattle.ncq_event.specs.declared.firing.Firing.{Firing}
+use Rattle.ncq_event.specs.declared.timing.Timing.{Timing}
 use Rattle.ncq_plan.specs.declared.query.NormalQuery.{NormalQuery}
 use Rattle.ncq_plan.specs.Exprs.{rows_in, expr_width}
 use Rattle.ncq_plan.specs.Plans.{plan_of}
 use Rattle.ncq_plan.specs.Residuals.{passes}
 use Rattle.ncq_plan.specs.WellFormed.{IsWellFormed}
 use Rattle.ncq_row.specs.Embeddings.{Row}
-use Rattle.ncq_source.specs.StoreStates.{StoreState}
+use Rattle.ncq_source.specs.StoreStates.{StoreState, found}
 use Rattle.ncq_source.specs.Stores.{Source}
-use Rattle.ncq_engine.specs.declared.member.Member.{Member}
-use Rattle.ncq_engine.specs.declared.telling.Told.{Told}
+use Rattle.ncq_book.specs.declared.member.Member.{Member}
+use Rattle.ncq_book.specs.Books.{InstallsRise}
+use Rattle.ncq_xmlql.specs.declared.model.Statement.{Statement}
+use Rattle.ncq_engine.specs.Firing.{sources_of}
 use Rattle.ncq_engine.specs.Notices.{rendered}
 
 -- the rows that a subscription's plan has over the elements of a store
@@ -103,6 +107,11 @@ abbrev pub started_text : List Label → StoreState → ℕ → Member → List 
 started_text labels store now m =
     if m.timing.start == now then told_text labels m now (rows_over store m) else []
 
+-- a firing with the text of its notice
+pub record Told : Type 0 where
+  pub firing : Firing
+  pub text : List ℕ
+
 -- its notice at a move of the clock, with the firing
 abbrev pub told_at : List Label → StoreState → Member → Option ℕ → List Told
 told_at labels store m None = []
@@ -115,11 +124,38 @@ told_at labels store m (Some instant) =
 abbrev pub moved_told : List Label → StoreState → ℕ → ℕ → Member → List Told
 moved_told labels store now to m = told_at labels store m (moved_instant store now to m)
 
--- each has a greater install number than those before it
-abbrev pub InstallsRise : List Member → Type 0
-InstallsRise [] = Unit {0}
-InstallsRise (m ∷ more) = AllByRecursion (λ n. m.install < n.install) more × InstallsRise more
-
 -- none has an install number above this one
 abbrev pub InstallsAreUpTo : ℕ → List Member → Type 0
 InstallsAreUpTo most members = AllByRecursion (λ m. m.install ≤ most) members
+
+-- what the member watches are the places of its sources in the store
+abbrev pub HasTopics : StoreState → Member → Type 0
+HasTopics store m = map (found store) m.sources ≡ map Some m.topics
+
+-- the subscription that a create makes, before its first firing
+abbrev pub new_member : Statement → NormalQuery → Timing → ℕ → ℕ → List ℕ → Member
+new_member statement query timing action creates topics = record {
+  name = statement.name;
+  sources = sources_of statement;
+  topics = topics;
+  query = query;
+  plan = plan_of query;
+  timing = timing;
+  action = action;
+  argument = unwrap_or statement.argument [];
+  install = creates + 1;
+  mark = None;
+  told = [];
+}
+
+-- what holds of an engine whatever was answered: there are no more changes and creates than
+-- commands, and its members can fire, watch their sources and rise by install number
+pub record IsEngine
+    (store : StoreState) (count creates : ℕ) (labels : List Label) (members : List Member)
+    : Type 0 where
+  pub changes : store.changes ≤ count
+  pub creates_too : creates ≤ count
+  pub can : AllByRecursion (CanFire labels) members
+  pub watch : AllByRecursion (HasTopics store) members
+  pub rise : InstallsRise members
+  pub installed : InstallsAreUpTo creates members

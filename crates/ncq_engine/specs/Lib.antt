@@ -9,3 +9,4 @@ pub mod Engines
 pub mod Stands
 pub mod Walks
 pub mod Applies
+pub mod Tellings

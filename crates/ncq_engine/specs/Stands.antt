@@ -7,14 +7,14 @@ use Rattle.ncq_base.specs.Counts.{SameCounts}
 use Rattle.ncq_bind.specs.Bindings.{Binds, Roots}
 use Rattle.ncq_callback.specs.Labels.{Label}
 use Rattle.ncq_callback.specs.contracts.notice.Kind.{the_row as kind_row}
-use Rattle.ncq_engine.specs.contracts.member.Member.{the_row as member_row}
+use Rattle.ncq_book.specs.contracts.member.Member.{the_row as member_row}
 use Rattle.ncq_plan.specs.declared.expr.Expr.{Expr}
 use Rattle.ncq_plan.specs.Exprs.{rows_in}
 use Rattle.ncq_row.specs.Embeddings.{Row}
 use Rattle.ncq_source.specs.Stores.{Source as Declared}
 use Rattle.ncq_source.specs.StoreStates.{StoreState, store_code}
 use Rattle.ncq_xmlql.specs.WellFormed.{IsWellFormed}
-use Rattle.ncq_engine.specs.declared.member.Member.{Member}
+use Rattle.ncq_book.specs.declared.member.Member.{Member}
 use Rattle.ncq_engine.specs.Engines.{CanFire, Pairwise, last_in}
 use Rattle.ncq_engine.specs.Firing.{sources_of, mark}
 use Rattle.ncq_engine.specs.History.{History, Source, Subscription, changes, creates, last_change}

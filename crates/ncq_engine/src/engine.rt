@@ -1,45 +1,47 @@
 //! The engine: the sources, the clock and the live subscriptions, and the answer to each command.
-ghost use Rattle.std.specs.Prelude.{◌≡◌, ◌+◌, ◌<◌, ◌≤◌, ◌^◌, ◌++◌, ◌∷◌, [], ℕ, length};
+ghost use Rattle.std.specs.Prelude.{◌≡◌, ◌+◌, ◌-◌, ◌<◌, ◌≤◌, ◌^◌, ◌++◌, ◌∷◌, [], ℕ, List};
+ghost use Rattle.std.specs.Prelude.{length, map};
 ghost use Rattle.std.specs.Prelude.{codes, decimal, IfOk, OnOk, OnErr, IfSome, IfNone, Err, None};
-ghost use Rattle.std.specs.Prelude.{true, false};
-ghost use Rattle.std.specs.List.{filter, flat_map, list_all, list_any};
-ghost use Rattle.std.specs.Option.{unwrap_or};
-ghost use Rattle.std.specs.Str.{bytes_eq};
+ghost use Rattle.std.specs.Prelude.{Some, true, false};
+ghost use Rattle.std.specs.List.{flat_map, list_all};
+ghost use Rattle.std.specs.Option.{is_some};
+ghost use Rattle.ncq_bind.specs.Bindings.{are_declared, roots_in};
 ghost use Rattle.ncq_callback.specs.Labels.{labels};
-ghost use Rattle.ncq_event.specs.Instants.{is_expired};
-ghost use Rattle.ncq_engine.specs.History.{History};
-ghost use Rattle.ncq_engine.specs.Firing.{sources_of};
+ghost use Rattle.ncq_engine.specs.Firing.{source_of};
 ghost use Rattle.ncq_engine.specs.Stands.{EngineState, Stands};
-ghost use Rattle.ncq_engine.specs.Applies.{Applies, WritesNotices, ok_text, kind_at, expired_name};
+ghost use Rattle.ncq_engine.specs.Applies.{Applies, WritesNotices, IfAnswered, IfRefused, OfEach};
+ghost use Rattle.ncq_engine.specs.Applies.{ok_text, kind_at};
 ghost use Rattle.ncq_engine.specs.Applies.{refused_change, change_refusal, refused_query};
 ghost use Rattle.ncq_engine.specs.Applies.{query_refusal};
+ghost use Rattle.ncq_engine.specs.Engines.{HasTopics, new_member};
 ghost use Rattle.ncq_engine.specs.History.{start_of};
-ghost use Rattle.ncq_engine.specs.Firing.{source_of};
+ghost use Rattle.ncq_engine.specs.Languages.{language_of};
 ghost use Rattle.ncq_engine.specs.Notices.{kind_in};
-ghost use Rattle.ncq_engine.specs.Output.{is_at_odds};
-ghost use Rattle.ncq_plan.specs.Plans.{plan_of};
+ghost use Rattle.ncq_engine.specs.Output.{is_at_odds, first_refusal, accepted_text};
 ghost use Rattle.ncq_plan.specs.WellFormed.{IsWellFormed};
-ghost use Rattle.ncq_xmlql.specs.WellFormed.{IsWellFormed as StatementIsWellFormed};
-ghost use Rattle.ncq_script.specs.Proper.{IsProperCommand};
 ghost use Rattle.ncq_pyx.specs.Canonical.{item_is_proper};
+ghost use Rattle.ncq_script.specs.Proper.{IsProperCommand};
+ghost use Rattle.ncq_source.specs.StoreStates.{found, IsDeclared};
+ghost use Rattle.ncq_xmlql.specs.WellFormed.{IsWellFormed as StatementIsWellFormed};
 
-use crate::member::Member;
-use crate::roll::{drop_expired, drop_named};
-use crate::telling::{tell_changed, tell_due};
+use crate::expiry::write_expired;
+use crate::firing::start;
+use crate::telling::{note_all, tell};
+use crate::who::{started, with_news};
 use ncq_base::{Bytes, Copied, Sequence, Steps, write_decimal};
 use ncq_bind::{BindError, bind};
+use ncq_book::{Book, Member, Topics};
 use ncq_callback::{Handlers, Kind};
 use ncq_event::{Timing, is_expired};
 use ncq_plan::{NormalQuery, plan};
 use ncq_pyx::Items;
 use ncq_row::Rows;
 use ncq_script::{Command, Refusal};
-use ncq_source::{ChangeError, DeclareError, Key, Store};
+use ncq_source::{ChangeError, DeclareError, Key, SourceId, Store};
 use ncq_xmlql::{QueryItem, Statement};
 use std::alloc::{AllocError, Global};
 use std::hash::RandomState;
 use std::marker::Model;
-use std::mem;
 use std::sync::ledger::Ledger;
 use thiserror::Error;
 
@@ -76,23 +78,18 @@ impl From<AllocError> for ApplyError {
     }
 }
 
-/// The sources with their elements, the clock, and the live subscriptions in the order of their
-/// creates. While subscribers are told they are off the roll, so that none stands there half told
-/// where memory runs out.
+/// The sources with their elements, and the book of the live subscriptions with the clock.
 #[derive(Drop)]
 pub struct Engine {
     store: Store,
-    clock: u64,
+    book: Book,
     count: u64,
     creates: u64,
     labels: Vec<(Bytes, Kind)>,
-    members: Vec<Member>,
 }
 
 impl Model for Engine {
-    ghost use Rattle.std.specs.Prelude.{◌≤◌};
-    ghost use Rattle.std.specs.List.{AllByRecursion};
-    ghost use Rattle.ncq_engine.specs.Engines.{CanFire, InstallsAreUpTo, InstallsRise};
+    ghost use Rattle.ncq_engine.specs.Engines.{IsEngine};
     ghost use Rattle.ncq_engine.specs.Stands.{EngineState, engine_code};
 
     ghost Value = { EngineState };
@@ -101,16 +98,14 @@ impl Model for Engine {
 
     ghost view = { λ e. record {
       store = e.store;
-      clock = e.clock;
+      clock = e.book.instant;
       count = e.count;
       creates = e.creates;
       labels = e.labels.items;
-      members = e.members.items;
+      members = e.book.members;
     } };
 
-    ghost invariant = { λ e. (e.store.changes ≤ e.count) × (e.creates ≤ e.count)
-        × AllByRecursion (CanFire e.labels.items) e.members.items
-        × InstallsRise e.members.items × InstallsAreUpTo e.creates e.members.items };
+    ghost invariant = { λ e. IsEngine e.store e.count e.creates e.labels.items e.book.members };
 }
 
 impl Engine {
@@ -124,11 +119,10 @@ impl Engine {
     {
         Ok(Engine {
             store: Store::new(alloc, seed),
-            clock: 0,
+            book: Book::new(alloc, seed),
             count: 0,
             creates: 0,
             labels: labels_of(alloc, handlers)?,
-            members: Vec::new(alloc),
         })
     }
 
@@ -136,7 +130,7 @@ impl Engine {
     pub fn now(&self) -> u64
         ensures { result ≡ self.now.clock }
     {
-        self.clock
+        self.book.instant()
     }
 
     /// How many commands were answered: accepted ones and refused ones.
@@ -150,7 +144,7 @@ impl Engine {
     pub fn live(&self) -> usize
         ensures { result ≡ length self.now.members }
     {
-        self.members.len()
+        self.book.len()
     }
 
     /// Answers a command. Ok appends the answer of an accepted one: the line `<k> ok` with its number,
@@ -162,6 +156,49 @@ impl Engine {
     /// The handlers are those that the engine was made for. The command is one that a `ScriptReader`
     /// gives: the elements that it puts are proper, and its statement is well formed.
     pub fn apply<L: Ledger>(
+        &mut self,
+        alloc: Global,
+        command: Command,
+        handlers: &Handlers,
+        out: &mut Vec<u8>,
+        steps: &mut Steps<L>,
+    ) -> Result<Applied, ApplyError>
+        requires few { self.old.count < 2 ^ 48 }
+        requires proper { IsProperCommand command }
+        requires handlers { self.old.labels
+            ≡ (labels handlers.now.items.items (λ h. h.name) (λ h. h.kind)) }
+
+        // An accepted command meets no refusal and joins the history; its answer is appended.
+        ensures accepted { OnOk result (OfEach self.old (λ history.
+            first_refusal (language_of self.old.labels) history command ≡ None)) }
+        ensures joined { OnOk result (OfEach self.old (λ history.
+            Stands self.new (command ∷ history))) }
+        ensures answer { OnOk result (OfEach self.old (λ history. out.new.items
+            ≡ out.old.items ++ accepted_text (language_of self.old.labels) history
+            (self.old.count + 1) command)) }
+        ensures notices { IfOk result (WritesNotices self.old command out.old.items) }
+
+        // A refused one meets this refusal first; the history stays, and what was written.
+        ensures refused { IfRefused result (λ why. OfEach self.old (λ history.
+            first_refusal (language_of self.old.labels) history command ≡ Some why)) }
+        ensures stays { IfRefused result (λ _. OfEach self.old (Stands self.new)) }
+        ensures unwritten { IfRefused result (λ _. out.new.items ≡ out.old.items) }
+
+        // Either is counted, and the handlers' names and kinds stay.
+        ensures counted { IfAnswered result (self.new.count ≡ self.old.count + 1) }
+        ensures labels { IfAnswered result (self.new.labels ≡ self.old.labels) }
+    {
+        self.answer(alloc, command, handlers, out, steps)
+    }
+
+    /// Gives back what serves speed alone. Nothing is kept for that, so nothing changes. It takes no
+    /// memory.
+    pub fn shed(&mut self)
+        ensures { self.new ≡ self.old }
+    {}
+
+    /// Answers a command.
+    fn answer<L: Ledger>(
         &mut self,
         alloc: Global,
         command: Command,
@@ -230,21 +267,14 @@ impl Engine {
             Err(error) => return self.refuse_change(error),
         };
         self.store.reserve(&change)?;
+        let topic = place_of(&self.store, change.source());
         let applied = self.accept(out)?;
         self.store.commit(change);
-        let mut members = mem::replace(&mut self.members, Vec::new(alloc));
-        let notices = tell_changed(
-            alloc,
-            &mut members,
-            source.as_slice(),
-            self.clock,
-            &self.store,
-            handlers,
-            out,
-            steps,
-        )?;
-        self.members = members;
-        Ok(applied.with(notices, out))
+        let watchers = self.book.watchers(alloc, topic)?;
+        let firings = started(alloc, &self.book, watchers.as_slice())?;
+        let told = tell(alloc, &self.book, firings.as_slice(), &self.store, handlers, out, steps)?;
+        note_all(&mut self.book, self.store.changes(), told.news);
+        Ok(applied.with(told.notices, out))
     }
 
     /// Leaves a query, and tells its owner the answer where it starts now.
@@ -263,7 +293,7 @@ impl Engine {
         ensures applies { Applies self.old (Command.Create statement)
             out.old.items result self.new out.new.items }
     {
-        if self.has(statement.name.as_slice()) {
+        if self.book.has(&statement.name) {
             return self.refuse(Refusal::NameTaken);
         }
         let query = match bind(alloc, &statement, &self.store) {
@@ -273,17 +303,16 @@ impl Engine {
         let Some(action) = action_of(handlers, &statement) else {
             return self.refuse(Refusal::Action);
         };
-        let timing = timing_of(&statement, self.clock);
+        let timing = timing_of(&statement, self.book.instant());
         if is_expired(&timing, timing.start) {
             return self.refuse(Refusal::Times);
         }
         let mut member = self.member(alloc, statement, query, action, timing)?;
         let applied = self.accept(out)?;
-        let notices = member.start(alloc, self.clock, &self.store, handlers, out, steps)?;
+        let now = self.book.instant();
+        let notices = start(alloc, &mut member, now, &self.store, handlers, out, steps)?;
         self.creates += 1;
-        if self.members.push(member).is_err() {
-            return Err(ApplyError::OutOfMemory);
-        }
+        self.book.add(alloc, member)?;
         Ok(applied.with(notices, out))
     }
 
@@ -297,26 +326,20 @@ impl Engine {
         timing: Timing,
     ) -> Result<Member, AllocError>
         requires formed { IsWellFormed query }
+        requires declared { are_declared (roots_in self.now.store) statement.query.items ≡ true }
         requires few { self.now.creates < 2 ^ 48 }
-        ensures { IfOk result (λ m. m ≡ record {
-          name = statement.name;
-          sources = sources_of statement;
-          query = query;
-          plan = plan_of query;
-          timing = timing;
-          action = action;
-          argument = unwrap_or statement.argument [];
-          install = self.now.creates + 1;
-          mark = None;
-          told = [];
-        }) }
+        ensures made { IfOk result (λ m. (topics : List ℕ)
+            × (m ≡ new_member statement query timing action self.now.creates topics)) }
+        ensures topics { IfOk result (HasTopics self.now.store) }
     {
         let sources = asked_by(alloc, statement.query.items.as_slice())?;
+        let topics = places_of(alloc, &self.store, sources.as_slice())?;
         let plan = plan(alloc, &query)?;
         let argument = statement.argument.unwrap_or(Bytes::new(alloc));
         Ok(Member {
             name: statement.name,
             sources,
+            topics,
             query,
             plan,
             timing,
@@ -334,11 +357,11 @@ impl Engine {
         ensures applies { Applies self.old (Command.Delete name.now)
             out.old.items result self.new out.new.items }
     {
-        if !self.has(name.as_slice()) {
+        if !self.book.has(name) {
             return self.refuse(Refusal::NoName);
         }
         let applied = self.accept(out)?;
-        drop_named(&mut self.members, name.as_slice());
+        self.book.remove(name);
         Ok(applied)
     }
 
@@ -357,36 +380,20 @@ impl Engine {
         ensures applies { Applies self.old (Command.Clock instant)
             out.old.items result self.new out.new.items }
     {
-        if instant < self.clock {
+        if instant < self.book.instant() {
             return self.refuse(Refusal::Clock);
         }
         let applied = self.accept(out)?;
-        let mut members = mem::replace(&mut self.members, Vec::new(alloc));
-        let notices = tell_due(
-            alloc,
-            &mut members,
-            self.clock,
-            instant,
-            &self.store,
-            handlers,
-            out,
-            steps,
-        )?;
-        let applied = applied.with(notices, out);
-        write_expired(members.as_slice(), instant, out)?;
-        drop_expired(&mut members, instant);
-        self.members = members;
-        self.clock = instant;
+        let due = self.book.due(alloc, instant)?;
+        let firings = with_news(alloc, &self.book, &self.store, due.as_slice())?;
+        let told = tell(alloc, &self.book, firings.as_slice(), &self.store, handlers, out, steps)?;
+        let applied = applied.with(told.notices, out);
+        let expired = self.book.expired(alloc, instant)?;
+        write_expired(&self.book, expired.as_slice(), out)?;
+        self.book.move_to(alloc, instant)?;
+        note_all(&mut self.book, self.store.changes(), told.news);
+        self.book.remove_all(expired.as_slice());
         Ok(applied)
-    }
-
-    /// Whether a live subscription has this name.
-    fn has(&self, name: &[u8]) -> bool
-        ensures { result ≡ list_any (λ m. bytes_eq name.now m.name) self.now.members }
-    {
-        self.members
-            .iter()
-            .any(|member| name == member.name.as_slice())
     }
 
     /// Counts a command that is accepted, and appends the line that says so.
@@ -541,25 +548,27 @@ fn asked_by(alloc: Global, items: &[QueryItem]) -> Result<Sequence<Bytes>, Alloc
     Ok(sources)
 }
 
-/// Appends the lines of those that expire at a move of the clock.
-fn write_expired(members: &[Member], instant: u64, out: &mut Vec<u8>) -> Result<(), AllocError>
-    ensures { OnOk result (out.new.items ≡ out.old.items
-        ++ flat_map (λ m. expired_name m.name)
-        (filter (λ m. is_expired m.timing instant) members.now)) }
+/// The place of a source in the store, as what its askers watch.
+fn place_of(store: &Store, id: SourceId) -> u64
+    requires { IsDeclared store.now id }
+    ensures place { result ≡ id.0 }
+    ensures few { result < 2 ^ 64 - 1 }
 {
-    for member in members {
-        if is_expired(&member.timing, instant) {
-            write_expired_line(member.name.as_slice(), out)?;
-        }
-    }
-    Ok(())
+    prove!(id.0 < store.count());
+    id.0 as u64
 }
 
-fn write_expired_line(name: &[u8], out: &mut Vec<u8>) -> Result<(), AllocError>
-    ensures { OnOk result (out.new.items ≡ out.old.items ++ expired_name name.now) }
+/// The places of sources in the store.
+fn places_of(alloc: Global, store: &Store, sources: &[Bytes]) -> Result<Topics, AllocError>
+    requires { list_all (λ name. is_some (found store.now name)) sources.now ≡ true }
+    ensures { IfOk result (λ topics. map (found store.now) sources.now ≡ map Some topics) }
 {
-    out.extend_from_slice(b"expired ")?;
-    out.extend_from_slice(name)?;
-    out.push(b'\n')?;
-    Ok(())
+    let mut places = Topics::new(alloc);
+    for source in sources {
+        let Some(id) = store.find(source.as_slice()) else {
+            unreachable!();
+        };
+        places.push(id.0 as u64)?;
+    }
+    Ok(places)
 }

@@ -10,11 +10,12 @@
 #![tactic(auto)]
 
 mod engine;
+mod expiry;
+mod firing;
 mod laws;
-mod member;
-mod roll;
 mod telling;
 mod walk;
+mod who;
 
 pub use engine::{Applied, ApplyError, Engine};
 pub use laws::{marks_follow, subscribers_are_apart};

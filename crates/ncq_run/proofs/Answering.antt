@@ -1,17 +1,15 @@
 -- The answer to a command, from what the engine says of it.
 use Rattle.std.proofs.Common.{◌≡◌, ◌+◌, ◌++◌, ◌∷◌, ℕ, List, [], ap, sym, ◌∙◌, subst}
-use Rattle.std.specs.Prelude.{None, Some, Ok, Err}
+use Rattle.std.specs.Prelude.{None, Some}
 use Rattle.ncq_script.specs.Refusals.{refused_text}
 use Rattle.ncq_script.specs.declared.command.Command.{Command}
 use Rattle.ncq_script.specs.declared.refusal.Refusal.{Refusal}
-use Rattle.ncq_engine.specs.Applies.{Applies}
+use Rattle.ncq_engine.specs.Applies.{OfEach}
 use Rattle.ncq_engine.specs.History.{History}
 use Rattle.ncq_engine.specs.Languages.{language_of}
 use Rattle.ncq_engine.specs.Notices.{Language}
 use Rattle.ncq_engine.specs.Output.{output, after, first_refusal, answered, with_accepted, accepted_text}
 use Rattle.ncq_engine.specs.Stands.{EngineState, Stands}
-use Rattle.ncq_engine.specs.declared.engine.Applied.{Applied}
-use Rattle.ncq_engine.specs.declared.engine.ApplyError.TheVariants.{Refused}
 
 module _ (language : Language) (history : History) (command : Command) where
   accepted_output : (number : ℕ) → first_refusal language history command ≡ None → output language history number command ≡ accepted_text language history number command
@@ -35,25 +33,29 @@ abbrev pub Answers : EngineState → Command → EngineState → List ℕ → Ty
 Answers old command new text = (history : History) → Stands old history
     → (text ≡ output (language_of old.labels) history (old.count + 1) command) × Stands new (after (language_of old.labels) history command)
 
-pub answers_accepted : (old : EngineState) (command : Command) (out : List ℕ) (applied : Applied) (new : EngineState) (text : List ℕ) → out ≡ []
-    → Applies old command out (Ok applied) new text → Answers old command new text
-answers_accepted old command out applied new text empty applies history stands =
-    let said = applies.0 history stands in
+pub answers_accepted : (old : EngineState) (command : Command) (out : List ℕ) (new : EngineState) (text : List ℕ) → out ≡ []
+    → OfEach old (λ history. first_refusal (language_of old.labels) history command ≡ None)
+    → OfEach old (λ history. Stands new (command ∷ history))
+    → OfEach old (λ history. text ≡ out ++ accepted_text (language_of old.labels) history (old.count + 1) command) → Answers old command new text
+answers_accepted old command out new text empty accepted joined answer history stands =
     let language = language_of old.labels in
+    let none = accepted history stands in
     let texts : text ≡ accepted_text language history (old.count + 1) command =
-    said.1.1 ∙ ap (λ (xs : List ℕ). xs ++ accepted_text language history (old.count + 1) command) empty in (
-      texts ∙ sym (accepted_output language history command (old.count + 1) said.0),
-      subst (Stands new) (sym (accepted_after language history command said.0)) said.1.0,
+    answer history stands ∙ ap (λ (xs : List ℕ). xs ++ accepted_text language history (old.count + 1) command) empty in (
+      texts ∙ sym (accepted_output language history command (old.count + 1) none),
+      subst (Stands new) (sym (accepted_after language history command none)) (joined history stands),
     )
 
 pub answers_refused : (old : EngineState) (command : Command) (out : List ℕ) (why : Refusal) (new : EngineState) (out' text : List ℕ) (number : ℕ) → out ≡ []
-    → Applies old command out (Err (Refused why)) new out' → number ≡ new.count → text ≡ out' ++ refused_text number why → Answers old command new text
-answers_refused old command out why new out' text number empty applies counted written history stands =
-    let said = applies.0 history stands in
+    → OfEach old (λ history. first_refusal (language_of old.labels) history command ≡ Some why)
+    → OfEach old (Stands new) → out' ≡ out → new.count ≡ old.count + 1
+    → number ≡ new.count → text ≡ out' ++ refused_text number why → Answers old command new text
+answers_refused old command out why new out' text number empty refused stays unwritten counted is written history stands =
     let language = language_of old.labels in
-    let same : number ≡ old.count + 1 = counted ∙ applies.1.0 in
+    let some = refused history stands in
+    let same : number ≡ old.count + 1 = is ∙ counted in
     let texts : text ≡ refused_text (old.count + 1) why =
-    written ∙ ap (λ (xs : List ℕ). xs ++ refused_text number why) (applies.1.1.1 ∙ empty) ∙ ap (λ (n : ℕ). refused_text n why) same in (
-      texts ∙ sym (refused_output language history command (old.count + 1) why said.0),
-      subst (Stands new) (sym (refused_after language history command why said.0)) said.1,
+    written ∙ ap (λ (xs : List ℕ). xs ++ refused_text number why) (unwritten ∙ empty) ∙ ap (λ (n : ℕ). refused_text n why) same in (
+      texts ∙ sym (refused_output language history command (old.count + 1) why some),
+      subst (Stands new) (sym (refused_after language history command why some)) (stays history stands),
     )

@@ -259,3 +259,45 @@ fn an_element_counts_once_for_each_child_that_fits(rt: HostRuntime) -> Result<()
     }
     Ok(())
 }
+
+/// A query over two sources, and one that asks a source twice.
+const SEVERAL: &[Parts<'_>] = &[
+    // It is told at a change of either, and of no third.
+    (
+        &[
+            SOURCE,
+            "source companies root Companies key Symbol\n",
+            "source others root Others key Symbol\n",
+            "create v WHERE <Quotes><Quote><Symbol>$s</></></> IN quotes, <Companies><Company><Symbol>$s</></></> IN companies CONSTRUCT $s DO print\n.\n",
+            "delta quotes\n(Quote\n(Symbol\n-A\n)Symbol\n)Quote\n.\n",
+            "delta others\n(Other\n(Symbol\n-A\n)Symbol\n)Other\n.\n",
+            "delta companies\n(Company\n(Symbol\n-A\n)Symbol\n)Company\n.\n",
+            "delta quotes\n!A\n.\n",
+        ],
+        &[
+            "1 ok\n2 ok\n3 ok\n4 ok\n5 ok\n6 ok\n",
+            "7 ok\nnotice v 0\ngain 1\n-A\nend\n",
+            "8 ok\nnotice v 0\nlose 1\n-A\nend\n",
+        ],
+    ),
+    // One change of a source that it asks twice is one firing, and all its pairs are told at once.
+    (
+        &[
+            SOURCE,
+            "create v WHERE <Quotes><Quote><Symbol>$a</><Tag>$t</></><Quote><Symbol>$b</><Tag>$t</></></> IN quotes CONSTRUCT <p a=$a b=$b/> DO print\n.\n",
+            "delta quotes\n(Quote\n(Symbol\n-A\n)Symbol\n(Tag\n-x\n)Tag\n)Quote\n.\n",
+            "delta quotes\n(Quote\n(Symbol\n-B\n)Symbol\n(Tag\n-x\n)Tag\n)Quote\n.\n",
+            "delta quotes\n!A\n.\n",
+        ],
+        &[
+            "1 ok\n2 ok\n3 ok\nnotice v 0\ngain 1\n(p\nAa A\nAb A\n)p\nend\n",
+            "4 ok\nnotice v 0\ngain 1\n(p\nAa A\nAb B\n)p\ngain 1\n(p\nAa B\nAb A\n)p\ngain 1\n(p\nAa B\nAb B\n)p\nend\n",
+            "5 ok\nnotice v 0\nlose 1\n(p\nAa A\nAb A\n)p\nlose 1\n(p\nAa A\nAb B\n)p\nlose 1\n(p\nAa B\nAb A\n)p\nend\n",
+        ],
+    ),
+];
+
+#[test]
+fn a_query_may_ask_several_sources(rt: HostRuntime) -> Result<(), Fail> {
+    expect_parts(&rt, rt.alloc(), SEVERAL)
+}

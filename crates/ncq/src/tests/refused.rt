@@ -303,3 +303,99 @@ const FAULTS: &[Case<'_>] = &[
 fn a_fault_is_named(rt: HostRuntime) -> Result<(), Fail> {
     expect_each(&rt, rt.alloc(), (SOURCE, "1 ok\n"), FAULTS)
 }
+
+/// Behind the source, a clock and a live `w`: each fault of a create by itself, and each two of them at once, where the
+/// first in their order is told.
+const FIRST_FAULTS: &[Case<'_>] = &[
+    (
+        "create w WHERE <Quotes><Quote><Symbol>$s</></></> IN quotes, <Quotes><Quote><Symbol>$s</></></> IN quotes CONSTRUCT $s DO print\n.\n",
+        "4 refused 8 name-taken\n",
+    ),
+    (
+        "create v WHERE <Quotes><Quote><Symbol>$s</></></> IN x, <Quotes><Quote><Symbol>$s</></></> IN quotes CONSTRUCT $s DO print\n.\n",
+        "4 refused 4 no-source\n",
+    ),
+    (
+        "create v WHERE <Quotes><Quote><Symbol>$s</></></> IN quotes, <Quote><Quote><Symbol>$s</></></> IN quotes CONSTRUCT $s DO print\n.\n",
+        "4 refused 12 root\n",
+    ),
+    (
+        "create v WHERE <Quotes><Quote><Symbol>$s</></></> IN quotes, <Quotes><Quote><Symbol>$s</></></> IN quotes CONSTRUCT $t DO print\n.\n",
+        "4 refused 11 unbound\n",
+    ),
+    (
+        "create v WHERE <Quotes><Quote><Symbol>$s</></></> IN quotes, <Quotes><Quote><Symbol>$s</></></> IN quotes CONSTRUCT $s DO mailto\n.\n",
+        "4 refused 13 action\n",
+    ),
+    (
+        "create v WHERE <Quotes><Quote><Symbol>$s</></></> IN quotes, <Quotes><Quote><Symbol>$s</></></> IN quotes CONSTRUCT $s DO print EXPIRE 4\n.\n",
+        "4 refused 14 times\n",
+    ),
+    (
+        "create w WHERE <Quotes><Quote><Symbol>$s</></></> IN x, <Quotes><Quote><Symbol>$s</></></> IN quotes CONSTRUCT $s DO print\n.\n",
+        "4 refused 8 name-taken\n",
+    ),
+    (
+        "create w WHERE <Quotes><Quote><Symbol>$s</></></> IN quotes, <Quote><Quote><Symbol>$s</></></> IN quotes CONSTRUCT $s DO print\n.\n",
+        "4 refused 8 name-taken\n",
+    ),
+    (
+        "create w WHERE <Quotes><Quote><Symbol>$s</></></> IN quotes, <Quotes><Quote><Symbol>$s</></></> IN quotes CONSTRUCT $t DO print\n.\n",
+        "4 refused 8 name-taken\n",
+    ),
+    (
+        "create w WHERE <Quotes><Quote><Symbol>$s</></></> IN quotes, <Quotes><Quote><Symbol>$s</></></> IN quotes CONSTRUCT $s DO mailto\n.\n",
+        "4 refused 8 name-taken\n",
+    ),
+    (
+        "create w WHERE <Quotes><Quote><Symbol>$s</></></> IN quotes, <Quotes><Quote><Symbol>$s</></></> IN quotes CONSTRUCT $s DO print EXPIRE 4\n.\n",
+        "4 refused 8 name-taken\n",
+    ),
+    (
+        "create v WHERE <Quotes><Quote><Symbol>$s</></></> IN x, <Quote><Quote><Symbol>$s</></></> IN quotes CONSTRUCT $s DO print\n.\n",
+        "4 refused 4 no-source\n",
+    ),
+    (
+        "create v WHERE <Quotes><Quote><Symbol>$s</></></> IN x, <Quotes><Quote><Symbol>$s</></></> IN quotes CONSTRUCT $t DO print\n.\n",
+        "4 refused 4 no-source\n",
+    ),
+    (
+        "create v WHERE <Quotes><Quote><Symbol>$s</></></> IN x, <Quotes><Quote><Symbol>$s</></></> IN quotes CONSTRUCT $s DO mailto\n.\n",
+        "4 refused 4 no-source\n",
+    ),
+    (
+        "create v WHERE <Quotes><Quote><Symbol>$s</></></> IN x, <Quotes><Quote><Symbol>$s</></></> IN quotes CONSTRUCT $s DO print EXPIRE 4\n.\n",
+        "4 refused 4 no-source\n",
+    ),
+    (
+        "create v WHERE <Quotes><Quote><Symbol>$s</></></> IN quotes, <Quote><Quote><Symbol>$s</></></> IN quotes CONSTRUCT $t DO print\n.\n",
+        "4 refused 12 root\n",
+    ),
+    (
+        "create v WHERE <Quotes><Quote><Symbol>$s</></></> IN quotes, <Quote><Quote><Symbol>$s</></></> IN quotes CONSTRUCT $s DO mailto\n.\n",
+        "4 refused 12 root\n",
+    ),
+    (
+        "create v WHERE <Quotes><Quote><Symbol>$s</></></> IN quotes, <Quote><Quote><Symbol>$s</></></> IN quotes CONSTRUCT $s DO print EXPIRE 4\n.\n",
+        "4 refused 12 root\n",
+    ),
+    (
+        "create v WHERE <Quotes><Quote><Symbol>$s</></></> IN quotes, <Quotes><Quote><Symbol>$s</></></> IN quotes CONSTRUCT $t DO mailto\n.\n",
+        "4 refused 11 unbound\n",
+    ),
+    (
+        "create v WHERE <Quotes><Quote><Symbol>$s</></></> IN quotes, <Quotes><Quote><Symbol>$s</></></> IN quotes CONSTRUCT $t DO print EXPIRE 4\n.\n",
+        "4 refused 11 unbound\n",
+    ),
+    (
+        "create v WHERE <Quotes><Quote><Symbol>$s</></></> IN quotes, <Quotes><Quote><Symbol>$s</></></> IN quotes CONSTRUCT $s DO mailto EXPIRE 4\n.\n",
+        "4 refused 13 action\n",
+    ),
+];
+
+#[test]
+fn the_first_fault_of_a_create_is_told(rt: HostRuntime) -> Result<(), Fail> {
+    let before = "source quotes root Quotes key Symbol\nclock 5\ncreate w WHERE <Quotes><Quote><Symbol>$s</></></> IN quotes CONSTRUCT $s DO print\n.\n";
+    let answers = "1 ok\n2 ok\n3 ok\n";
+    expect_each(&rt, rt.alloc(), (before, answers), FIRST_FAULTS)
+}

@@ -3,9 +3,12 @@ use Rattle.ncq_run.proofs.Answering.{answers_accepted, answers_refused}
 use Rattle.ncq_run.proofs.answer.make_answer.Goals as goal
 
 pub returns-in-Ok-clause-made : goal.returns-in-Ok-clause-made
-returns-in-Ok-clause-made g c = answers_accepted _ _ _ _ _ _ c.clear.ensures.items c.in-Ok.ensures.applies
+returns-in-Ok-clause-made g c = answers_accepted _ _ _ _ _ c.clear.ensures.items c.in-Ok.ensures.accepted c.in-Ok.ensures.joined c.in-Ok.ensures.answer
 
 pub returns-in-Err-Refused-clause-made : goal.returns-in-Err-Refused-clause-made
-returns-in-Err-Refused-clause-made g c = on_ok_weaker c.write_refused.result
-    (λ written. answers_refused _ _ _ _ _ _ _ _ c.clear.ensures.items (rw c.in-Err-Refused.field-0-is at c.in-Err-Refused.ensures.applies) c.count.ensures written)
+returns-in-Err-Refused-clause-made g c =
+    let said = c.in-Err-Refused.ensures in
+    let is = c.in-Err-Refused.field-0-is in
+    on_ok_weaker c.write_refused.result
+    (λ written. answers_refused _ _ _ _ _ _ _ _ c.clear.ensures.items (rw is at said.refused) (rw is at said.stays) (rw is at said.unwritten) (rw is at said.counted) c.count.ensures written)
     c.write_refused.ensures.ok

@@ -1,0 +1,155 @@
+-- The firings that the book tells, against the members that fire.
+use Rattle.std.proofs.Common.{◌≡◌, ℕ, ◌+◌, Bool, true, false, ◌&&◌, ◌||◌, ◌==◌, cond, List, [], ◌∷◌, ◌++◌, map, length, slice_get, refl, sym, ◌∙◌, ap, arith}
+use Rattle.std.specs.Prelude.{Option, Some, None, if◌then◌else◌, nat_eq, nat_le, nat_lt, IsSome, is_some}
+use Rattle.std.proofs.lemmas.Bool.Decides.{nat_tests}
+use Rattle.std.specs.List.{filter, flat_map, list_any, AllByRecursion}
+use Rattle.std.specs.Str.{bytes_eq}
+use Rattle.ncq_base.specs.Keys.{times}
+use Rattle.ncq_book.specs.declared.member.Member.{Member}
+use Rattle.ncq_book.specs.Books.{InstallsRise, member_of, timing_of, watchers_of, watches}
+use Rattle.ncq_callback.specs.Labels.{Label}
+use Rattle.ncq_event.specs.declared.firing.Firing.{Firing}
+use Rattle.ncq_event.specs.Calendars.{due_firings, due_of, firing_at}
+use Rattle.ncq_event.specs.Instants.{due}
+use Rattle.ncq_event.specs.Orders.{is_firing, ordered, ordered_by}
+use Rattle.ncq_event.proofs.OrderLaws.{order_unique, ordered_rising, ordered_times}
+use Rattle.ncq_event.proofs.CalendarLaws.{filter_rising, times_kept}
+use Rattle.ncq_source.specs.StoreStates.{StoreState}
+use Rattle.ncq_engine.specs.Engines.{Told, has_news_in, is_told_change, moved_instant, moved_told, rows_over, told_at, told_text}
+use Rattle.ncq_engine.specs.Tellings.{firing_text, has_started, has_its_news, is_news_at, started_at, text_of}
+use Rattle.ncq_engine.proofs.ByInstall.{AreFound, firings_of, found_each}
+use Rattle.ncq_engine.proofs.ChangeLaws.{changed_instant, changed_texts, changed_times, changed_told}
+use Rattle.ncq_engine.proofs.Lists.{filter_append}
+use Rattle.ncq_engine.proofs.ToldLaws.{order_made, times_ordered}
+
+-- a firing with its text
+module _ (labels : List Label) (store : StoreState) (all : List Member) where
+  abbrev with_text : Firing → Told
+  with_text firing = record { firing = firing; text = firing_text labels store all firing }
+
+  text_found : (instant : ℕ) (o : Option Member) (m : Member) → o ≡ Some m → text_of labels store instant o ≡ told_text labels m instant (rows_over store m)
+  text_found instant o m e = ap (text_of labels store instant) e
+
+  map_push : (xs ys : List Firing) → map with_text (xs ++ ys) ≡ map with_text xs ++ map with_text ys
+  map_push [] ys = refl
+  map_push (x ∷ xs) ys = ap (λ more. with_text x ∷ more) (map_push xs ys)
+
+  module _ (instant : Member → Option ℕ) where
+    abbrev notices_of : List Member → List Told
+    notices_of ms = flat_map (λ m. told_at labels store m (instant m)) ms
+
+    one_told : (m : Member) (o : Option ℕ) → member_of m.install all ≡ Some m → map with_text (firing_at m.install o) ≡ told_at labels store m o
+    one_told m None e = refl
+    one_told m (Some d) e = λ i. record { firing = record { instant = d; install = m.install }; text = text_found d (member_of m.install all) m e i } ∷ []
+
+    -- the firings of members, with their texts, are their notices
+    told_is : (ms : List Member) → AreFound all ms → map with_text (firings_of instant ms) ≡ notices_of ms
+    told_is [] h = refl
+    told_is (m ∷ ms) h = map_push (firing_at m.install (instant m)) (firings_of instant ms) ∙ (λ i. one_told m (instant m) h.0 i ++ told_is ms h.1 i)
+
+  texts_are : (xs : List Firing) → flat_map (firing_text labels store all) xs ≡ flat_map (λ (t : Told). t.text) (map with_text xs)
+  texts_are [] = refl
+  texts_are (x ∷ xs) = ap (λ more. firing_text labels store all x ++ more) (texts_are xs)
+
+  times_are : (xs : List Firing) → times (λ f. nat_lt 0 (length (firing_text labels store all f))) xs ≡ times (λ (t : Told). nat_lt 0 (length t.text)) (map with_text xs)
+  times_are [] = refl
+  times_are (x ∷ xs) = ap (λ n. cond (nat_lt 0 (length (firing_text labels store all x))) 1 0 + n) (times_are xs)
+
+  -- the texts of firings of a change are those of the members that it fires
+  module _ (name : List ℕ) (now : ℕ) (rise : InstallsRise all) where
+    pub change_texts : (firings : List Firing) → firings ≡ firings_of (changed_instant name now) all → flat_map (firing_text labels store all) firings ≡ flat_map (λ (t : Told). t.text) (changed_told labels store name now all)
+    change_texts firings e =
+        ap (flat_map (firing_text labels store all)) e ∙ texts_are (firings_of (changed_instant name now) all)
+        ∙ ap (flat_map (λ (t : Told). t.text)) (told_is (changed_instant name now) all (found_each all rise))
+
+    pub change_times : (firings : List Firing) → firings ≡ firings_of (changed_instant name now) all
+        → times (λ f. nat_lt 0 (length (firing_text labels store all f))) firings ≡ times (λ (t : Told). nat_lt 0 (length t.text)) (changed_told labels store name now all)
+    change_times firings e =
+        ap (times (λ f. nat_lt 0 (length (firing_text labels store all f)))) e ∙ times_are (firings_of (changed_instant name now) all)
+        ∙ ap (times (λ (t : Told). nat_lt 0 (length t.text))) (told_is (changed_instant name now) all (found_each all rise))
+
+  -- and so are those of a move of the clock, in the order of the firings
+  module _ (now to : ℕ) (rise : InstallsRise all) where
+    abbrev moved : List Told
+    moved = flat_map (moved_told labels store now to) all
+
+    moved_is : map with_text (firings_of (moved_instant store now to) all) ≡ moved
+    moved_is = told_is (moved_instant store now to) all (found_each all rise)
+
+    pub move_texts : (firings : List Firing) → firings ≡ ordered (firings_of (moved_instant store now to) all)
+        → flat_map (firing_text labels store all) firings ≡ flat_map (λ (t : Told). t.text) (ordered_by (λ (t : Told). t.firing) moved)
+    move_texts firings e =
+        let own = firings_of (moved_instant store now to) all in
+        ap (flat_map (firing_text labels store all)) e ∙ texts_are (ordered own)
+        ∙ ap (flat_map (λ (t : Told). t.text)) (sym (order_made with_text (λ (f : Firing). f) (λ (t : Told). t.firing) (λ x. refl) own) ∙ ap (ordered_by (λ (t : Told). t.firing)) moved_is)
+
+    pub move_times : (firings : List Firing) → firings ≡ ordered (firings_of (moved_instant store now to) all)
+        → times (λ f. nat_lt 0 (length (firing_text labels store all f))) firings ≡ times (λ (t : Told). nat_lt 0 (length t.text)) moved
+    move_times firings e =
+        let own = firings_of (moved_instant store now to) all in
+        let test : Firing → Bool = λ f. nat_lt 0 (length (firing_text labels store all f)) in
+        ap (times test) e ∙ times_ordered (λ (f : Firing). f) test own ∙ times_are own ∙ ap (times (λ (t : Told). nat_lt 0 (length t.text))) moved_is
+
+-- an order of those that are kept
+pub kept_in_order : (test : Firing → Bool) (xs : List Firing) → filter test (ordered xs) ≡ ordered (filter test xs)
+kept_in_order test xs = order_unique (filter test xs) (filter test (ordered xs)) (filter_rising test (ordered xs) (ordered_rising xs))
+    (λ f. times_kept test f (ordered xs) ∙ ap (λ n. cond (test f) n 0) (ordered_times (is_firing f) xs) ∙ sym (times_kept test f xs))
+
+-- the due firings with news are those of the members that a move fires
+module _ (store : StoreState) (now to : ℕ) (all : List Member) where
+  news_found : (m : Member) → member_of m.install all ≡ Some m → has_its_news store (member_of m.install all) ≡ has_news_in store m.mark m.sources
+  news_found m e = ap (has_its_news store) e
+
+  one_due : (m : Member) (o : Option ℕ) → member_of m.install all ≡ Some m
+      → filter (is_news_at store all) (firing_at m.install o) ≡ firing_at m.install (if has_news_in store m.mark m.sources then o else None)
+  one_due m None e = elim (has_news_in store m.mark m.sources) as (λ t. [] ≡ firing_at m.install (if t then None else None)) [ true ↦ refl | false ↦ refl ]
+  one_due m (Some d) e =
+      let f : Firing = record { instant = d; install = m.install } in
+      (λ i. cond (news_found m e i) (f ∷ []) [])
+      ∙ (elim (has_news_in store m.mark m.sources) as (λ t. cond t (f ∷ []) [] ≡ firing_at m.install (if t then Some d else None)) [ true ↦ refl | false ↦ refl ])
+
+  due_kept : (ms : List Member) → AreFound all ms → filter (is_news_at store all) (flat_map (due_of now to) (map timing_of ms)) ≡ firings_of (moved_instant store now to) ms
+  due_kept [] h = refl
+  due_kept (m ∷ ms) h =
+      filter_append (is_news_at store all) (due_of now to (timing_of m)) (flat_map (due_of now to) (map timing_of ms))
+      ∙ (λ i. one_due m (due m.timing now to) h.0 i ++ due_kept ms h.1 i)
+
+  pub move_firings : InstallsRise all → (due firings : List Firing) → due ≡ due_firings now to (map timing_of all) → firings ≡ filter (is_news_at store all) due
+      → firings ≡ ordered (firings_of (moved_instant store now to) all)
+  move_firings rise due firings d f =
+      f ∙ ap (filter (is_news_at store all)) d ∙ kept_in_order (is_news_at store all) (flat_map (due_of now to) (map timing_of all))
+      ∙ ap ordered (due_kept all (found_each all rise))
+
+-- the watchers of a source that have started are the members that its change fires
+module _ (topic now : ℕ) (name : List ℕ) (all : List Member) where
+  -- what is watched is the source
+  abbrev pub Watch : Member → Type 0
+  Watch m = list_any (nat_eq topic) m.topics ≡ list_any (bytes_eq name) m.sources
+
+  one_now : (m : Member) → member_of m.install all ≡ Some m
+      → started_at now all m.install ≡ (if nat_le m.timing.start now then record { instant = now; install = m.install } ∷ [] else [])
+  one_now m e = λ i. if has_started now (e i) then record { instant = now; install = m.install } ∷ [] else []
+
+  by_tests : (install : ℕ) (here : List Firing) (every start asks : Bool) (xs : List ℕ) (rest : List Firing) → flat_map (started_at now all) xs ≡ rest
+      → here ≡ started_at now all install → here ≡ (if start then record { instant = now; install = install } ∷ [] else [])
+      → flat_map (started_at now all) (cond (every && asks) (install ∷ xs) xs) ≡ firing_at install (if every && start && asks then Some now else None) ++ rest
+  by_tests install here true true true xs rest e h s = (λ i. (sym h ∙ s) i ++ e i)
+  by_tests install here true false true xs rest e h s = (λ i. (sym h ∙ s) i ++ e i)
+  by_tests install here true true false xs rest e h s = e
+  by_tests install here true false false xs rest e h s = e
+  by_tests install here false start asks xs rest e h s = e
+
+  chosen_map : (t : Bool) (m : Member) (ms : List Member) → map (λ m. m.install) (cond t (m ∷ ms) ms) ≡ cond t (m.install ∷ map (λ m. m.install) ms) (map (λ m. m.install) ms)
+  chosen_map true m ms = refl
+  chosen_map false m ms = refl
+
+  change_started : (ms : List Member) → AreFound all ms → AllByRecursion Watch ms → flat_map (started_at now all) (watchers_of topic ms) ≡ firings_of (changed_instant name now) ms
+  change_started [] h w = refl
+  change_started (m ∷ ms) h w =
+      ap (flat_map (started_at now all)) (chosen_map (watches topic m) m (filter (watches topic) ms) ∙ (λ i. cond (m.timing.every == 0 && w.0 i) (m.install ∷ watchers_of topic ms) (watchers_of topic ms)))
+      ∙ by_tests m.install (started_at now all m.install) (m.timing.every == 0) (nat_le m.timing.start now) (list_any (bytes_eq name) m.sources) (watchers_of topic ms) (firings_of (changed_instant name now) ms)
+      (change_started ms h.1 w.1) refl (one_now m h.0)
+
+  pub change_firings : InstallsRise all → AllByRecursion Watch all → (watchers : List ℕ) (firings : List Firing) → watchers ≡ watchers_of topic all → firings ≡ flat_map (started_at now all) watchers
+      → firings ≡ firings_of (changed_instant name now) all
+  change_firings rise watch watchers firings w f = f ∙ ap (flat_map (started_at now all)) w ∙ change_started all (found_each all rise) watch
