@@ -25,7 +25,8 @@ use Rattle.ncq_script.specs.declared.command.Command.{Command}
 use Rattle.ncq_script.specs.declared.command.Command.TheVariants.{Create}
 use Rattle.ncq_script.specs.declared.refusal.Refusal.{Refusal}
 use Rattle.ncq_script.specs.declared.refusal.Refusal.TheVariants as refusal
-use Rattle.ncq_source.specs.StoreStates.{StoreState, names}
+use Rattle.ncq_source.specs.StoreStates.{StoreState, Declares, names}
+use Rattle.ncq_source.specs.declared.key.Key.{Key}
 use Rattle.ncq_xmlql.specs.declared.model.Query.{Query}
 use Rattle.ncq_xmlql.specs.declared.model.Statement.{Statement}
 use Rattle.ncq_xmlql.specs.WellFormed.{IsWellFormed as IsWhole}
@@ -49,7 +50,7 @@ use Rattle.ncq_engine.proofs.HistoryLaws.{Installed, installed, never}
 use Rattle.ncq_engine.proofs.Keeping.{keeps_one, keeps_quiet}
 use Rattle.ncq_engine.proofs.Lists.{each_filter, each_more, each_push, flat_map_append}
 use Rattle.ncq_engine.proofs.RollLaws.{few_new, rise_new, watch_new}
-use Rattle.ncq_engine.proofs.TopicLaws.{topics_stay}
+use Rattle.ncq_engine.proofs.TopicLaws.{names_declared, topics_behind, topics_stay}
 use Rattle.ncq_engine.proofs.NoticeLaws.{text_is}
 use Rattle.ncq_engine.proofs.TellingLoops.{pairwise_push}
 use Rattle.ncq_engine.proofs.Worlds.{roots_are, world_is}
@@ -409,3 +410,17 @@ invariant_store e store i few same = record {
 -- the new install number is above all others
 pub above_all : (most : ℕ) (members : List Member) (new : Member) → InstallsAreUpTo most members → new.install ≡ most + 1 → AllByRecursion (λ m. m.install < new.install) members
 above_all most members new h e = each_more (λ (m : Member). m.install ≤ most) (λ (m : Member). m.install < new.install) (λ m le. (let l : m.install < new.install = omega (arith, le, e) in l)) members h
+
+-- where one more source is declared
+pub invariant_declared : (e : EngineState) (store : StoreState) (name root : List ℕ) (key : Key) → Declares e.store store name root key → Invariant e → Invariant (record e { store = store })
+invariant_declared e store name root key d i =
+    let few = i.changes in
+    let same = d.changes in
+    record {
+      changes = (let l : store.changes ≤ e.count = omega (arith, few, same) in l);
+      creates_too = i.creates_too;
+      can = i.can;
+      watch = topics_behind e.store store name (names_declared e.store store name root key d) e.members i.watch;
+      rise = i.rise;
+      installed = i.installed;
+    }
