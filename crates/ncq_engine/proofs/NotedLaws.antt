@@ -162,6 +162,6 @@ module _ (labels : List Label) (mark : ℕ) where
       can_from news ms can
       (each_more (IsNews store ms) (λ n. AllByRecursion (Fits n) ms)
       (λ n is.
-          each_more (λ m. is_of n.install m ≡ true → SameCounts n.rows (rows_over store m) × AllByRecursion (λ row. length row ≡ expr_width m.plan) n.rows) (Fits n)
-          (λ m f e. (f e).1) ms (only_one (λ m. SameCounts n.rows (rows_over store m) × AllByRecursion (λ row. length row ≡ expr_width m.plan) n.rows) n.install ms rise is))
+      each_more (λ m. is_of n.install m ≡ true → SameCounts n.rows (rows_over store m) × AllByRecursion (λ row. length row ≡ expr_width m.plan) n.rows) (Fits n)
+      (λ m f e. (f e).1) ms (only_one (λ m. SameCounts n.rows (rows_over store m) × AllByRecursion (λ row. length row ≡ expr_width m.plan) n.rows) n.install ms rise is))
       news are)

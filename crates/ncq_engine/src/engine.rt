@@ -272,7 +272,15 @@ impl Engine {
         self.store.commit(change);
         let watchers = self.book.watchers(alloc, topic)?;
         let firings = started(alloc, &self.book, watchers.as_slice())?;
-        let told = tell(alloc, &self.book, firings.as_slice(), &self.store, handlers, out, steps)?;
+        let told = tell(
+            alloc,
+            &self.book,
+            firings.as_slice(),
+            &self.store,
+            handlers,
+            out,
+            steps,
+        )?;
         note_all(&mut self.book, self.store.changes(), told.news);
         Ok(applied.with(told.notices, out))
     }
@@ -386,7 +394,15 @@ impl Engine {
         let applied = self.accept(out)?;
         let due = self.book.due(alloc, instant)?;
         let firings = with_news(alloc, &self.book, &self.store, due.as_slice())?;
-        let told = tell(alloc, &self.book, firings.as_slice(), &self.store, handlers, out, steps)?;
+        let told = tell(
+            alloc,
+            &self.book,
+            firings.as_slice(),
+            &self.store,
+            handlers,
+            out,
+            steps,
+        )?;
         let applied = applied.with(told.notices, out);
         let expired = self.book.expired(alloc, instant)?;
         write_expired(&self.book, expired.as_slice(), out)?;

@@ -44,7 +44,12 @@ pub(crate) fn fire<L: Ledger>(
         member.now instant (rows_over store.now member.now)) }
 {
     let rows = rows_of(alloc, &member.plan, store, steps)?;
-    let entries = difference(alloc, &member.query, member.told.as_slice(), rows.as_slice())?;
+    let entries = difference(
+        alloc,
+        &member.query,
+        member.told.as_slice(),
+        rows.as_slice(),
+    )?;
     if entries.as_slice().is_empty() {
         return Ok(rows);
     }

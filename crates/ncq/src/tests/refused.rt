@@ -395,7 +395,8 @@ const FIRST_FAULTS: &[Case<'_>] = &[
 
 #[test]
 fn the_first_fault_of_a_create_is_told(rt: HostRuntime) -> Result<(), Fail> {
-    let before = "source quotes root Quotes key Symbol\nclock 5\ncreate w WHERE <Quotes><Quote><Symbol>$s</></></> IN quotes CONSTRUCT $s DO print\n.\n";
+    let before =
+        "source quotes root Quotes key Symbol\nclock 5\ncreate w WHERE <Quotes><Quote><Symbol>$s</></></> IN quotes CONSTRUCT $s DO print\n.\n";
     let answers = "1 ok\n2 ok\n3 ok\n";
     expect_each(&rt, rt.alloc(), (before, answers), FIRST_FAULTS)
 }

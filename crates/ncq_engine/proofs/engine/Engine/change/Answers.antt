@@ -191,3 +191,19 @@ returns g c =
           c.as_slice-2.result.now c.in_ok-firings.firings c.as_slice-3.result.now (c.as_slice-2.ensures ∙ c.in_ok-watchers.ensures) c.in_ok-firings.ensures c.as_slice-3.ensures all)
           c.in_ok-applied.ensures.places c.with.ensures);
     }
+
+pub invariant_of-self : goal.invariant_of-self
+invariant_of-self g c =
+    let i = c.self.inside in
+    let before = c.self.invariant.changes in
+    let same = c.reserve.ensures.same.changes in
+    let few : c.reserve.new.self.changes ≤ i.count = omega (arith, before, same) in
+    invariant_store (engine i.store i.book.instant i.count i.creates i.labels.items i.book.members) c.reserve.new.self c.self.invariant few (same_names i.store.sources c.reserve.new.self.sources c.reserve.ensures.same.sources)
+
+pub invariant_of-self-2 : goal.invariant_of-self-2
+invariant_of-self-2 g c =
+    let i = c.self.inside in
+    let before = c.self.invariant.changes in
+    let same = c.reserve.ensures.same.changes in
+    let few : c.reserve.new.self.changes ≤ i.count = omega (arith, before, same) in
+    invariant_store (engine i.store i.book.instant i.count i.creates i.labels.items i.book.members) c.reserve.new.self c.self.invariant few (same_names i.store.sources c.reserve.new.self.sources c.reserve.ensures.same.sources)
