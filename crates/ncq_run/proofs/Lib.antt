@@ -3,3 +3,4 @@ pub mod Answering
 pub mod Outputs
 pub mod Turns
 pub mod Words
+pub mod ClockLaws

@@ -1,7 +1,10 @@
-//! Laws of how a session ends. The functions do nothing: each is its contract.
-ghost use Rattle.std.specs.Prelude.{◌≡◌, ◌⊎◌, ℕ};
+//! Laws of sessions: how they end, and their clock. The functions do nothing: each is its contract.
+ghost use Rattle.std.specs.Prelude.{◌≡◌, ◌⊎◌, ℕ, List, []};
 ghost use Rattle.ncq_outside.specs.Causes.{IsFull, Rose};
+ghost use Rattle.ncq_script.specs.declared.command.Command.{Command};
+ghost use Rattle.ncq_engine.specs.Marks.{IsRising};
 ghost use Rattle.ncq_engine.specs.Notices.{Language};
+ghost use Rattle.ncq_engine.specs.Output.{history_of};
 ghost use Rattle.ncq_run.specs.declared.session.Status.{Status};
 ghost use Rattle.ncq_run.specs.declared.session.Status.TheVariants.{Done, NoMemory, WriteFault};
 ghost use Rattle.ncq_run.specs.Status.{Ended, HoldsAll, IsShort, Told};
@@ -21,4 +24,10 @@ pub fn a_sure_sink_is_enough()
     ensures { (language : Language) (limit most sure : ℕ) (old new : Told)
         → HoldsAll language limit sure old
         → IsFull sure new.held → ¬ Ended language limit most old new WriteFault }
+{}
+
+/// The clock of what a script's commands leave behind never falls: a lower instant is refused.
+pub fn clocks_never_fall()
+    ensures { (language : Language) (commands : List Command)
+        → IsRising (history_of language [] commands) }
 {}

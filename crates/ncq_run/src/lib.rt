@@ -9,5 +9,5 @@ mod answer;
 mod laws;
 mod session;
 
-pub use laws::{a_sure_sink_is_enough, nothing_but_memory_ends_it};
+pub use laws::{a_sure_sink_is_enough, clocks_never_fall, nothing_but_memory_ends_it};
 pub use session::{Status, exit_code, run};
