@@ -13,8 +13,10 @@ ghost use Rattle.ncq_base.specs.Counts.{SameCounts};
 use crate::compact::gather;
 use crate::content::{count_up_to, first_places, left_over};
 use crate::index::{Index, cut_all, keep_index};
+use crate::key::{KeyAtom, atoms_of};
 use crate::matching::matching_in;
 use crate::signed::{Places, SignedRow};
+use ncq_base::Atom;
 use ncq_row::{Row, RowKey, Rows};
 use std::alloc::{AllocError, Global};
 use std::marker::Model;
@@ -129,12 +131,43 @@ impl MidFile {
             → SameCounts (rows_at places self.now.rows)
             (filter (has_key slots.now key.now) list)) }
     {
+        let atoms = atoms_of(alloc, key)?;
         matching_in(
             alloc,
             self.rows.as_slice(),
             self.indexes.as_slice(),
             slots,
-            key.as_slice(),
+            atoms.as_slice(),
+            n,
+        )
+    }
+
+    /// The places of the rows that are left at `n` and have this atom in the slot.
+    pub fn matching_atom(
+        &self,
+        alloc: Global,
+        slot: usize,
+        atom: &Atom,
+        n: u64,
+    ) -> Result<Places, AllocError>
+        requires base { self.now.base ≤ n }
+        requires sound { IsSoundAt n self.now.rows }
+        requires slots { HaveSlots (slot ∷ []) self.now.rows }
+        ensures rising { IfOk result (λ places. AreRising 0 places) }
+        ensures gains { IfOk result (λ places. AreGains self.now.rows places) }
+        ensures within { IfOk result (λ places.
+            All (λ place. place < length self.now.rows) places) }
+        ensures counts { IfOk result (λ places.
+            (list : List a_row) → IsContent n self.now.rows list
+            → SameCounts (rows_at places self.now.rows)
+            (filter (has_key (slot ∷ []) (atom.now ∷ [])) list)) }
+    {
+        matching_in(
+            alloc,
+            self.rows.as_slice(),
+            self.indexes.as_slice(),
+            &[slot],
+            &[KeyAtom::new(atom)],
             n,
         )
     }

@@ -12,9 +12,10 @@ ghost use Rattle.ncq_midfile.specs.declared.index.Index.{Index as an_index};
 
 use crate::chain::Chains;
 use crate::content::push_where;
+use crate::key::KeyAtom;
 use crate::matching::is_wanted;
 use crate::signed::{Places, SignedRow};
-use ncq_row::{Row, SlotAtom};
+use ncq_row::Row;
 use std::alloc::{AllocError, Global};
 use std::hash::{FoldHasher, Hash, Hasher};
 
@@ -67,7 +68,7 @@ pub(crate) fn push_from_index(
     rows: &[SignedRow],
     indexes: &[Index],
     slots: &[usize],
-    key: &[SlotAtom],
+    key: &[KeyAtom<'_>],
     n: u64,
 ) -> Result<usize, AllocError>
     requires covers { CoverAll indexes.now rows.now }
@@ -118,7 +119,7 @@ fn push_indexed(
     places: &mut Places,
     rows: &[SignedRow],
     index: &Index,
-    key: &[SlotAtom],
+    key: &[KeyAtom<'_>],
     n: u64,
 ) -> Result<(), AllocError>
     requires covers { Covers index.now rows.now }
@@ -144,7 +145,7 @@ fn push_chosen(
     rows: &[SignedRow],
     candidates: &[usize],
     slots: &[usize],
-    key: &[SlotAtom],
+    key: &[KeyAtom<'_>],
     n: u64,
 ) -> Result<(), AllocError>
     requires within { All (λ place. place < length rows.now) candidates.now }
@@ -161,12 +162,12 @@ fn push_chosen(
 
 /// The hash of atoms.
 #[tactic(auto, using(crate::proofs::FedLaws::fed_more))]
-fn hash_of(key: &[SlotAtom]) -> u64
+fn hash_of(key: &[KeyAtom<'_>]) -> u64
     ensures { result ≡ key_hash key.now }
 {
     let mut state = FoldHasher::default();
     for atom in key {
-        atom.hash(&mut state);
+        atom.get().hash(&mut state);
     }
     state.finish()
 }

@@ -10,6 +10,7 @@ mod compact;
 mod content;
 mod file;
 mod index;
+mod key;
 mod laws;
 mod matching;
 mod signed;

@@ -9,9 +9,10 @@ ghost use Rattle.ncq_midfile.specs.Matching.{HaveSlots, has_key, is_wanted, plac
 
 use crate::content::{left_over, push_where};
 use crate::index::{Index, push_from_index};
+use crate::key::KeyAtom;
 use crate::signed::{Places, SignedRow};
 use ncq_base::same;
-use ncq_row::{Row, SlotAtom};
+use ncq_row::Row;
 use std::alloc::{AllocError, Global};
 
 /// The places of the rows with these atoms that are left at `n`.
@@ -20,7 +21,7 @@ pub(crate) fn matching_in(
     rows: &[SignedRow],
     indexes: &[Index],
     slots: &[usize],
-    key: &[SlotAtom],
+    key: &[KeyAtom<'_>],
     n: u64,
 ) -> Result<Places, AllocError>
     requires covers { CoverAll indexes.now rows.now }
@@ -44,7 +45,7 @@ fn wanted_places(
     rows: &[SignedRow],
     indexes: &[Index],
     slots: &[usize],
-    key: &[SlotAtom],
+    key: &[KeyAtom<'_>],
     n: u64,
 ) -> Result<Places, AllocError>
     requires covers { CoverAll indexes.now rows.now }
@@ -64,7 +65,7 @@ fn push_wanted(
     rows: &[SignedRow],
     from: usize,
     slots: &[usize],
-    key: &[SlotAtom],
+    key: &[KeyAtom<'_>],
     n: u64,
 ) -> Result<(), AllocError>
     requires from { from ≤ length rows.now }
@@ -80,7 +81,7 @@ fn push_wanted(
 }
 
 /// Whether the signed row has a number up to `n`, and these atoms in the slots.
-pub(crate) fn is_wanted(signed: &SignedRow, slots: &[usize], key: &[SlotAtom], n: u64) -> bool
+pub(crate) fn is_wanted(signed: &SignedRow, slots: &[usize], key: &[KeyAtom<'_>], n: u64) -> bool
     requires { All (λ slot. slot < length signed.now.row) slots.now }
     ensures { result ≡ is_wanted slots.now key.now n signed.now }
 {
@@ -88,7 +89,7 @@ pub(crate) fn is_wanted(signed: &SignedRow, slots: &[usize], key: &[SlotAtom], n
 }
 
 /// Whether the row has in each of the slots the atom that stands there in the key.
-fn has_key(row: &Row, slots: &[usize], key: &[SlotAtom]) -> bool
+fn has_key(row: &Row, slots: &[usize], key: &[KeyAtom<'_>]) -> bool
     requires { All (λ slot. slot < length row.now) slots.now }
     ensures { result ≡ has_key slots.now key.now row.now }
 {

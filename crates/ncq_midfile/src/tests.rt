@@ -273,7 +273,14 @@ fn left(alloc: Global, file: &MidFile, key: &RowKey, n: u64) -> Result<(usize, P
         return Ok((99, Places::new(alloc)));
     }
     let all = file.content_at(alloc, n)?;
-    Ok((all.len(), file.matching(alloc, &[0], key, n)?))
+    let places = file.matching(alloc, &[0], key, n)?;
+    if let Some(atom) = key.get(0) {
+        let found = file.matching_atom(alloc, 0, atom.get(), n)?;
+        if found.as_slice() != places.as_slice() {
+            return Ok((99, found));
+        }
+    }
+    Ok((all.len(), places))
 }
 
 /// Whether so many rows are left at the change, and these places have the key: as the file is,
