@@ -1,0 +1,13 @@
+use Rattle.std.proofs.Common.{◌≡◌, ◌+◌, ◌≤◌, ◌++◌, length}
+use Rattle.std.specs.List.{flat_map, AllByRecursion}
+use Rattle.ncq_readers.specs.Passed.{range_parcels}
+use Rattle.ncq_readers.specs.Readings.{HaveSlot}
+use Rattle.ncq_readers.proofs.ranges.add_range_parcels.Given as goal
+
+-- with the parcels of the groups to come, those so far are all
+abbrev pub invariant-loop-slot : goal.invariant-loop-slot
+invariant-loop-slot g l = record {
+  parcels : l.parcels ++ flat_map (range_parcels l.rows) l.slot-iterator ≡ l.initial.parcels ++ flat_map (range_parcels l.rows) l.groups.entries;
+  cost : l.steps + length (flat_map (range_parcels l.rows) l.slot-iterator) ≤ l.initial.steps + length (flat_map (range_parcels l.rows) l.groups.entries);
+  slots : AllByRecursion (λ table. HaveSlot table.0 l.rows) l.slot-iterator;
+}

@@ -1,0 +1,4 @@
+pub mod Readings
+pub mod ReaderTables
+pub mod Passed
+pub mod Tables

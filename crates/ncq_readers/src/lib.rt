@@ -1,0 +1,15 @@
+//! What reads a file: selections by slot and constant or interval, and joins.
+//! The number of each reader comes in with how it reads; signed rows of the file come in, and
+//! parcels for the selections that take them go out. A constant is found by its hash, and no
+//! group stands without a constant.
+#![tactic(auto)]
+
+mod equals;
+mod laws;
+mod ranges;
+mod readers;
+#[cfg(test)]
+mod tests;
+
+pub use laws::selections_get_what_they_take;
+pub use readers::Readers;
