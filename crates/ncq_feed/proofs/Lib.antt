@@ -1,0 +1,15 @@
+pub mod PassingLaws
+pub mod Variants
+pub mod WiringLaws
+pub mod ContentLaws
+pub mod Leads
+pub mod FedLaws
+pub mod GrowthLaws
+pub mod TurnLaws
+pub mod PendingLaws
+pub mod ParcelLaws
+pub mod JoinLaws
+pub mod ScanLaws
+pub mod FeedLaws
+pub mod SumLaws
+pub mod CountLaws

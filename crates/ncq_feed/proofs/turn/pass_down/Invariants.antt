@@ -1,0 +1,4 @@
+use Rattle.ncq_feed.proofs.turn.pass_down.Given as goal
+
+abbrev pub ghost-deliver : goal.ghost-deliver
+ghost-deliver g a = g.run

@@ -1,0 +1,72 @@
+use Rattle.std.proofs.Common.{◌≤◌, ◌-◌, ◌∷◌, subst, sym, ap, ◌∙◌, ℕ}
+use Rattle.ncq_midfile.specs.Content.{since}
+use Rattle.ncq_feed.specs.Runs.{is_among, due, count_in}
+use Rattle.ncq_feed.proofs.CountLaws.{few, turn_refused, join_cost, join_spent, left_due, made_due, down_cost, down_spent}
+use Rattle.ncq_feed.proofs.GrowthLaws.{there_up}
+use Rattle.ncq_feed.proofs.TurnLaws.{idle_turn, busy_turn, turn_known, turn_start, nothing_in, news_shown, file_based}
+use Rattle.ncq_feed.proofs.turn.take_turn.Goals as goal
+
+pub feed_join-requires : goal.feed_join-requires
+feed_join-requires g c = λ κs within.
+    let under = c.requires.1.1.0 in
+    let passed = c.requires.1.1.1.0 in
+    (within, (c.requires.1.0, (under, (turn_start g.run c.args.at c.args.pending.now.keys c.args.shelf.now passed, (turn_known g.run c.args.shelf.now under c.args.at _ passed, few g.run c.args.shelf.now under c.args.at (λ number. is_among number (c.args.at ∷ c.args.pending.now.keys)) passed.passed c.args.at)))))
+
+pub content-requires : goal.content-requires
+content-requires g c =
+    there_up g.run c.feed_join.new.shelf c.feed_join.ensures.under c.args.at (turn_start g.run c.args.at c.args.pending.now.keys c.args.shelf.now c.requires.1.1.1.0)
+
+pub rows_since-requires : goal.rows_since-requires
+rows_since-requires g c =
+    subst (λ n. c.content.result.now.base ≤ n) (sym c.requires.1.0)
+    (file_based g.run c.feed_join.new.shelf c.feed_join.ensures.under c.args.at (turn_start g.run c.args.at c.args.pending.now.keys c.args.shelf.now c.requires.1.1.1.0) c.content.result.now c.content.ensures)
+
+pub pass_down-requires : goal.pass_down-requires
+pass_down-requires g c = λ κs within.
+    (within, (c.requires.1.0, (c.feed_join.ensures.under, turn_start g.run c.args.at c.args.pending.now.keys c.args.shelf.now c.requires.1.1.1.0)))
+
+pub tell_joins-requires : goal.tell_joins-requires
+tell_joins-requires g c = (c.pass_down.ensures.under, turn_start g.run c.args.at c.args.pending.now.keys c.args.shelf.now c.requires.1.1.1.0)
+
+pub returns-then-is_empty-clause-passed : goal.returns-then-is_empty-clause-passed
+returns-then-is_empty-clause-passed g c =
+    let there = turn_start g.run c.args.at c.args.pending.now.keys c.args.shelf.now c.requires.1.1.1.0 in
+    let shown = news_shown g.run c.feed_join.new.shelf c.feed_join.ensures.under c.args.at there c.content.result.now c.content.ensures in
+    idle_turn g.run c.requires.1.1.0.start c.args.at c.args.pending.now.keys c.args.shelf.now c.feed_join.new.shelf c.requires.1.1.1.0 c.requires.1.1.1.1 c.in_ok-feed_join.ensures.joined
+    (shown ∙ ap (λ n. since n c.content.result.now.rows) (sym c.requires.1.0) ∙ sym c.rows_since.ensures ∙ nothing_in c.rows_since.result.now c.if-is_empty.ensures)
+
+pub returns-clause-passed : goal.returns-clause-passed
+returns-clause-passed g c =
+    busy_turn g.run c.requires.1.1.0.start c.args.at c.args.pending.now.keys c.args.shelf.now c.feed_join.new.shelf c.requires.1.1.1.0 c.requires.1.1.1.1 c.in_ok-feed_join.ensures.joined
+    c.pass_down.new.shelf c.pass_down.new.pending.keys c.tell_joins.new.pending.keys c.in_ok-pass_down.ensures.down c.in_ok-tell_joins.ensures
+
+pub returns-in_err-feed_join-clause-cost : goal.returns-in_err-feed_join-clause-cost
+returns-in_err-feed_join-clause-cost g c =
+    turn_refused g.run c.args.at c.args.pending.now.keys c.args.shelf.now c.requires.1.1.0 c.requires.1.1.1.0 (turn_start g.run c.args.at c.args.pending.now.keys c.args.shelf.now c.requires.1.1.1.0) c.args.steps.now c.feed_join.new.steps c.feed_join.ensures.cost
+
+pub returns-then-is_empty-clause-cost : goal.returns-then-is_empty-clause-cost
+returns-then-is_empty-clause-cost g c = join_cost g.run c.args.at c.args.pending.now.keys c.args.shelf.now c.feed_join.new.shelf c.requires.1.1.0 c.feed_join.ensures.under c.requires.1.1.1.0 c.in_ok-feed_join.ensures.joined (turn_start g.run c.args.at c.args.pending.now.keys c.args.shelf.now c.requires.1.1.1.0) c.args.steps.now c.feed_join.new.steps c.in_ok-feed_join.ensures.spent
+
+pub returns-then-is_empty-clause-spent : goal.returns-then-is_empty-clause-spent
+returns-then-is_empty-clause-spent g c = join_spent g.run c.args.at c.args.pending.now.keys c.args.shelf.now c.feed_join.new.shelf c.requires.1.1.0 c.feed_join.ensures.under c.requires.1.1.1.0 c.in_ok-feed_join.ensures.joined (turn_start g.run c.args.at c.args.pending.now.keys c.args.shelf.now c.requires.1.1.1.0) c.args.steps.now c.feed_join.new.steps c.in_ok-feed_join.ensures.spent
+
+pub returns-in_err-pass_down-clause-cost : goal.returns-in_err-pass_down-clause-cost
+returns-in_err-pass_down-clause-cost g c =
+    down_cost g.run c.args.at c.args.pending.now.keys c.args.shelf.now c.feed_join.new.shelf c.requires.1.1.0 c.feed_join.ensures.under c.requires.1.1.1.0 c.in_ok-feed_join.ensures.joined (turn_start g.run c.args.at c.args.pending.now.keys c.args.shelf.now c.requires.1.1.1.0) c.args.steps.now c.feed_join.new.steps c.in_ok-feed_join.ensures.spent c.pass_down.new.steps
+    (c.pass_down.ensures.cost (λ (number : ℕ). due g.run number - count_in g.run c.feed_join.new.shelf number) (left_due g.run c.args.at c.args.pending.now.keys c.args.shelf.now c.feed_join.new.shelf c.requires.1.1.0 c.feed_join.ensures.under c.requires.1.1.1.0 c.in_ok-feed_join.ensures.joined (turn_start g.run c.args.at c.args.pending.now.keys c.args.shelf.now c.requires.1.1.1.0) c.args.steps.now c.feed_join.new.steps c.in_ok-feed_join.ensures.spent))
+
+pub returns-in_err-tell_joins-clause-cost : goal.returns-in_err-tell_joins-clause-cost
+returns-in_err-tell_joins-clause-cost g c =
+    down_cost g.run c.args.at c.args.pending.now.keys c.args.shelf.now c.feed_join.new.shelf c.requires.1.1.0 c.feed_join.ensures.under c.requires.1.1.1.0 c.in_ok-feed_join.ensures.joined (turn_start g.run c.args.at c.args.pending.now.keys c.args.shelf.now c.requires.1.1.1.0) c.args.steps.now c.feed_join.new.steps c.in_ok-feed_join.ensures.spent c.pass_down.new.steps
+    (c.pass_down.ensures.cost (λ (number : ℕ). due g.run number - count_in g.run c.feed_join.new.shelf number) (left_due g.run c.args.at c.args.pending.now.keys c.args.shelf.now c.feed_join.new.shelf c.requires.1.1.0 c.feed_join.ensures.under c.requires.1.1.1.0 c.in_ok-feed_join.ensures.joined (turn_start g.run c.args.at c.args.pending.now.keys c.args.shelf.now c.requires.1.1.1.0) c.args.steps.now c.feed_join.new.steps c.in_ok-feed_join.ensures.spent))
+
+pub returns-clause-cost : goal.returns-clause-cost
+returns-clause-cost g c =
+    down_cost g.run c.args.at c.args.pending.now.keys c.args.shelf.now c.feed_join.new.shelf c.requires.1.1.0 c.feed_join.ensures.under c.requires.1.1.1.0 c.in_ok-feed_join.ensures.joined (turn_start g.run c.args.at c.args.pending.now.keys c.args.shelf.now c.requires.1.1.1.0) c.args.steps.now c.feed_join.new.steps c.in_ok-feed_join.ensures.spent c.pass_down.new.steps
+    (c.pass_down.ensures.cost (λ (number : ℕ). due g.run number - count_in g.run c.feed_join.new.shelf number) (left_due g.run c.args.at c.args.pending.now.keys c.args.shelf.now c.feed_join.new.shelf c.requires.1.1.0 c.feed_join.ensures.under c.requires.1.1.1.0 c.in_ok-feed_join.ensures.joined (turn_start g.run c.args.at c.args.pending.now.keys c.args.shelf.now c.requires.1.1.1.0) c.args.steps.now c.feed_join.new.steps c.in_ok-feed_join.ensures.spent))
+
+pub returns-clause-spent : goal.returns-clause-spent
+returns-clause-spent g c =
+    down_spent g.run c.args.at c.args.pending.now.keys c.args.shelf.now c.feed_join.new.shelf c.requires.1.1.0 c.feed_join.ensures.under c.requires.1.1.1.0 c.in_ok-feed_join.ensures.joined (turn_start g.run c.args.at c.args.pending.now.keys c.args.shelf.now c.requires.1.1.1.0) c.args.steps.now c.feed_join.new.steps c.in_ok-feed_join.ensures.spent c.pass_down.new.shelf c.args.pending.now.keys c.pass_down.new.pending.keys c.in_ok-pass_down.ensures.down c.pass_down.new.steps
+    (c.pass_down.ensures.cost (λ (number : ℕ). count_in g.run c.pass_down.new.shelf number - count_in g.run c.feed_join.new.shelf number)
+    (made_due g.run c.args.at c.args.pending.now.keys c.args.shelf.now c.feed_join.new.shelf c.requires.1.1.0 c.feed_join.ensures.under c.requires.1.1.1.0 c.in_ok-feed_join.ensures.joined (turn_start g.run c.args.at c.args.pending.now.keys c.args.shelf.now c.requires.1.1.1.0) c.args.steps.now c.feed_join.new.steps c.in_ok-feed_join.ensures.spent c.pass_down.new.shelf c.args.pending.now.keys c.pass_down.new.pending.keys c.in_ok-pass_down.ensures.down))

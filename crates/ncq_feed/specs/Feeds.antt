@@ -1,0 +1,76 @@
+-- What a change makes of the files of a shelf.
+use Rattle.std.specs.Prelude.{◌≡◌, ℕ, ◌+◌, List, [], length, slice_get, Option, Some, None}
+use Rattle.std.specs.List.{AllByRecursion}
+use Rattle.std.specs.FinMap.{get, entries}
+use Rattle.ncq_base.specs.Counts.{total_by}
+use Rattle.ncq_source.specs.Stores.{Source}
+use Rattle.ncq_source.specs.Changes.{Chains}
+use Rattle.ncq_source.specs.ChangeStates.{ChangeState}
+use Rattle.ncq_source.specs.StoreStates.{StoreState, found, At}
+use Rattle.ncq_source.specs.declared.change.SourceId.{SourceId}
+use Rattle.ncq_plan.specs.declared.expr.Expr.{Expr}
+use Rattle.ncq_plan.specs.Exprs.{World}
+use Rattle.ncq_plan.specs.Deltas.{delta_of}
+use Rattle.ncq_plan.specs.Totals.{SameChanges}
+use Rattle.ncq_plan.specs.Totals.{SignedRow as PlainRow}
+use Rattle.ncq_change.specs.Entries.{scans_of, world_of, of_source, after_in}
+use Rattle.ncq_change.specs.Stores.{kept_in, world_in}
+use Rattle.ncq_midfile.specs.declared.signed.SignedRow.{SignedRow}
+use Rattle.ncq_delta.specs.Leads.{unnumbered}
+use Rattle.ncq_shelf.specs.KeptFiles.{KeptFile, Files}
+use Rattle.ncq_shelf.specs.Stands.{IsGrounded}
+use Rattle.ncq_shelf.specs.Contents.{AreFormed, AreWide, AreUpTo, Fits, with_more}
+
+-- the name of a source, where there is one
+abbrev pub name_in : Option Source → List ℕ
+name_in None = []
+name_in (Some source) = source.name
+
+-- the name of the source at this place
+abbrev pub name_at : StoreState → SourceId → List ℕ
+name_at store id = name_in (slice_get store.sources id.0)
+
+-- the change is one of a source that is found by its name, and its entries say what their keys held
+pub record IsPreparedFrom (store : StoreState) (change : ChangeState) : Type 0 where
+  pub source : found store (name_at store change.source) ≡ Some change.source.0
+  pub chains : At store change.source (λ source. Chains source.elements change.entries)
+
+-- the elements of each source after the change
+abbrev pub world_after : StoreState → ChangeState → World
+world_after store change =
+    world_of (after_in (kept_in store) (name_at store change.source) change.entries)
+
+-- the signed rows that the change makes of an expression
+abbrev pub delta_by : StoreState → ChangeState → Expr → List PlainRow
+delta_by store change expr =
+    delta_of (world_in store) (world_after store change)
+    (scans_of (of_source (name_at store change.source) change.entries)) expr
+
+-- the files stand for the sources at a change: each has the rows of its expression over the world,
+-- and none of a later change
+pub record AreReady (now : ℕ) (world : World) (files : Files) : Type 0 where
+  pub grounded : IsGrounded files
+  pub formed : AreFormed files
+  pub wide : AreWide files
+  pub up_to : AreUpTo now files
+  pub fits : Fits now world files
+
+-- the file has behind its rows, under the number of the change, the signed rows of its expression,
+-- each as often with each sign
+pub record IsFedFile (number : ℕ) (delta : List PlainRow) (old new : KeptFile) : Type 0 where
+  pub news : List SignedRow
+  pub behind : new ≡ with_more old news
+  pub numbers : AllByRecursion (λ r. r.number ≡ number) news
+  pub rows : SameChanges (unnumbered news) delta
+
+-- each file has the signed rows that the change makes of its expression, and no file came or went
+pub record AreFed (store : StoreState) (change : ChangeState) (old new : Files) : Type 0 where
+  pub each : (number : ℕ) (file : KeptFile) → get old number ≡ Some file
+      → (fed : KeptFile) × (get new number ≡ Some fed)
+      × IsFedFile (store.changes + 1) (delta_by store change file.expr) file fed
+  pub no_other : (number : ℕ) → get old number ≡ None → get new number ≡ None
+
+-- the signed rows that the change makes of the expressions of all files, together
+abbrev pub feed_work : StoreState → ChangeState → Files → ℕ
+feed_work store change files =
+    total_by (λ entry. length (delta_by store change entry.1.expr)) (entries files)

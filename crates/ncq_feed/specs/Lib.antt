@@ -1,0 +1,6 @@
+pub mod Feeds
+pub mod JoinFeeds
+pub mod Passing
+pub mod Runs
+pub mod ScanFeeds
+pub mod Turns

@@ -1,0 +1,28 @@
+//! Copies of rows of a file.
+ghost use Rattle.std.specs.Prelude.{◌≡◌, ◌+◌, ◌<◌, ◌≤◌, length, IfOk};
+ghost use Rattle.std.specs.List.{All};
+ghost use Rattle.ncq_midfile.specs.Content.{rows_at};
+
+use ncq_base::Steps;
+use ncq_midfile::MidFile;
+use ncq_row::Rows;
+use std::alloc::{AllocError, Global};
+use std::sync::ledger::Ledger;
+
+/// A copy of the row at each of the places. Each is one step.
+pub(crate) fn copies_at<L: Ledger>(
+    alloc: Global,
+    file: &MidFile,
+    places: &[usize],
+    steps: &mut Steps<L>,
+) -> Result<Rows, AllocError>
+    requires { All (λ place. place < length file.now.rows) places.now }
+    ensures rows { IfOk result (λ rows. rows ≡ rows_at places.now file.now.rows) }
+    ensures cost { steps.new ≤ steps.old + length places.now }
+{
+    let mut rows = Rows::new(alloc);
+    for place in places {
+        rows.push(file.row(*place).copy(alloc, steps)?)?;
+    }
+    Ok(rows)
+}

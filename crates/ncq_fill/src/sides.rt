@@ -1,0 +1,51 @@
+//! What finds the rows of the two sides of a join.
+ghost use Rattle.std.specs.Prelude.{◌≡◌, Some, IfOk};
+ghost use Rattle.std.specs.FinMap.{get};
+ghost use Rattle.ncq_midfile.specs.Matching.{HaveSlots};
+ghost use Rattle.ncq_delta.specs.Joins.{left_slots, right_slots};
+ghost use Rattle.ncq_shelf.specs.KeptFiles.{KeptFile};
+ghost use Rattle.ncq_shelf.specs.Stands.{IsThere};
+
+use ncq_row::Pairs;
+use ncq_shelf::Shelf;
+use std::alloc::{AllocError, Global};
+
+/// Makes sure that the rows of each side are found by its slots of the pairs.
+pub(crate) fn index_sides(
+    alloc: Global,
+    shelf: &mut Shelf,
+    left: u64,
+    right: u64,
+    pairs: &Pairs,
+) -> Result<(), AllocError>
+    requires left { IsThere shelf.old left }
+    requires right { IsThere shelf.old right }
+    requires lefts { (file : KeptFile) → get shelf.old left ≡ Some file
+        → HaveSlots (left_slots pairs.now) file.content.rows }
+    requires rights { (file : KeptFile) → get shelf.old right ≡ Some file
+        → HaveSlots (right_slots pairs.now) file.content.rows }
+    ensures { shelf.new ≡ shelf.old }
+{
+    let lefts = left_slots(alloc, pairs)?;
+    let rights = right_slots(alloc, pairs)?;
+    shelf.ensure_index(alloc, left, lefts.as_slice())?;
+    shelf.ensure_index(alloc, right, rights.as_slice())
+}
+
+/// The slots of the pairs on the left.
+fn left_slots(alloc: Global, pairs: &Pairs) -> Result<Vec<usize>, AllocError>
+    ensures { IfOk result (λ slots. slots.items ≡ left_slots pairs.now) }
+{
+    pairs.as_slice().iter().map(|pair| pair.left).collect(alloc)
+}
+
+/// The slots of the pairs on the right.
+fn right_slots(alloc: Global, pairs: &Pairs) -> Result<Vec<usize>, AllocError>
+    ensures { IfOk result (λ slots. slots.items ≡ right_slots pairs.now) }
+{
+    pairs
+        .as_slice()
+        .iter()
+        .map(|pair| pair.right)
+        .collect(alloc)
+}

@@ -1,0 +1,13 @@
+pub mod Closures
+pub mod Collects
+pub mod Released
+pub mod Empty
+pub mod Grown
+pub mod Fresh
+pub mod Made
+pub mod Places
+pub mod Cuts
+pub mod Installed
+pub mod FedFacts
+pub mod SameTable
+pub mod CompactLaws

@@ -1,0 +1,46 @@
+use Rattle.std.proofs.Common.{◌≡◌, ℕ, ◌-◌, Some, sym, ap, ◌∙◌, subst}
+use Rattle.std.specs.FinMap.{get, insert}
+use Rattle.ncq_shelf.specs.KeptFiles.{KeptFile, Files}
+use Rattle.ncq_shelf.specs.Stands.{IsGrounded}
+use Rattle.ncq_group.specs.Tables.{TableState}
+use Rattle.ncq_group.specs.Releases.{IsReleased, with_use_less}
+use Rattle.ncq_group.specs.Collected.{IsCollected}
+use Rattle.ncq_group.proofs.Released.{grounded_low, facts_after, released}
+use Rattle.ncq_group.proofs.table.GroupTable.release.Goals as goal
+
+-- the files after the count of uses was lowered are those of the definition
+lowered : (files low : Files) (number uses : ℕ) (file : KeptFile) → uses ≡ file.uses → low ≡ insert files number (record file { uses = uses - 1 }) → low ≡ with_use_less files number file
+lowered files low number uses file is e = e ∙ ap (λ (u : ℕ). insert files number (record file { uses = u - 1 })) is
+
+pub collect-requires : goal.collect-requires
+collect-requires c =
+    let old : TableState = record { files = c.self.inside.filed.shelf; next_file = c.self.inside.filed.next; number = c.self.inside.number } in
+    let v : c.self.inside.filed.shelf ≡ c.args.self.now.files = ap (λ t. t.files) c.self.view_is in
+    let at : get c.self.inside.filed.shelf c.args.file.0 ≡ Some c.requires.file = subst (λ fs. get fs c.args.file.0 ≡ Some c.requires.file) (sym v) c.requires.at in
+    let low = lowered c.self.inside.filed.shelf c.set_uses.new.self c.args.file.0 c.uses-uses.result c.requires.file (c.uses-uses.ensures c.requires.file at) (c.set_uses.ensures c.requires.file at) in
+    subst IsGrounded (sym low) (grounded_low old c.self.invariant c.args.file.0 c.requires.file at)
+
+pub invariant_of-self : goal.invariant_of-self
+invariant_of-self c =
+    let old : TableState = record { files = c.self.inside.filed.shelf; next_file = c.self.inside.filed.next; number = c.self.inside.number } in
+    let v : c.self.inside.filed.shelf ≡ c.args.self.now.files = ap (λ t. t.files) c.self.view_is in
+    let at : get c.self.inside.filed.shelf c.args.file.0 ≡ Some c.requires.file = subst (λ fs. get fs c.args.file.0 ≡ Some c.requires.file) (sym v) c.requires.at in
+    let low = lowered c.self.inside.filed.shelf c.set_uses.new.self c.args.file.0 c.uses-uses.result c.requires.file (c.uses-uses.ensures c.requires.file at) (c.set_uses.ensures c.requires.file at) in
+    facts_after old c.self.invariant c.args.file.0 c.requires.file at c.collect.new.shelf c.collect.ensures.grounded
+    (subst (λ fs. IsCollected fs c.args.file.0 c.collect.new.shelf) low c.collect.ensures.collected)
+
+pub returns-clause-files : goal.returns-clause-files
+returns-clause-files c =
+    let old : TableState = record { files = c.self.inside.filed.shelf; next_file = c.self.inside.filed.next; number = c.self.inside.number } in
+    let v : c.self.inside.filed.shelf ≡ c.args.self.now.files = ap (λ t. t.files) c.self.view_is in
+    let at : get c.self.inside.filed.shelf c.args.file.0 ≡ Some c.requires.file = subst (λ fs. get fs c.args.file.0 ≡ Some c.requires.file) (sym v) c.requires.at in
+    let low = lowered c.self.inside.filed.shelf c.set_uses.new.self c.args.file.0 c.uses-uses.result c.requires.file (c.uses-uses.ensures c.requires.file at) (c.set_uses.ensures c.requires.file at) in
+    subst (λ fs. IsReleased fs c.args.file.0 c.collect.new.shelf) v
+    (released old c.self.invariant c.args.file.0 c.requires.file at c.collect.new.shelf c.collect.ensures.grounded
+    (subst (λ fs. IsCollected fs c.args.file.0 c.collect.new.shelf) low c.collect.ensures.collected))
+
+pub uses-uses-requires : goal.uses-uses-requires
+uses-uses-requires c = record { file = c.requires.file; at = subst (λ t. get t.files c.args.file.0 ≡ Some c.requires.file) (sym c.self.view_is) c.requires.at }
+
+pub set_uses-requires : goal.set_uses-requires
+set_uses-requires c = record { file = c.requires.file; at = subst (λ t. get t.files c.args.file.0 ≡ Some c.requires.file) (sym c.self.view_is) c.requires.at }

@@ -1,0 +1,76 @@
+-- Files that were added for parts of an expression. Only the crate's private clauses cite it.
+use Rattle.std.specs.Prelude.{◌≡◌, ◌≢◌, ◌⊎◌, ℕ, ◌+◌, ◌<◌, ◌≤◌, List, [], ◌∷◌, map, Some, None}
+use Rattle.std.specs.FinMap.{get, insert}
+use Rattle.std.specs.List.{AllByRecursion}
+use Rattle.ncq_plan.specs.declared.expr.Expr.{Expr}
+use Rattle.ncq_plan.specs.Exprs.{World, operators}
+use Rattle.ncq_row.specs.Embeddings.{Row}
+use Rattle.ncq_midfile.specs.Made.{gained_at}
+use Rattle.ncq_shelf.specs.Parts.{IsPart}
+use Rattle.ncq_shelf.specs.KeptFiles.{KeptFile, Files}
+use Rattle.ncq_shelf.specs.Stands.{IsReadIn, IsGrounded}
+use Rattle.ncq_feed.specs.Feeds.{AreReady}
+use Rattle.ncq_group.specs.Closure.{IsKept}
+use Rattle.ncq_group.specs.Installs.{IsFresh, rows_of_all}
+use Rattle.ncq_group.specs.declared.filed.Filed.{Filed}
+
+-- files were added for parts of the whole expression, with the numbers from low to below high, and
+-- all others are as before
+pub record IsGrown (whole : Expr) (now : ℕ) (world : World) (old : Files) (low : ℕ) (new : Files)
+    (high : ℕ) : Type 0 where
+  pub ready : AreReady now world new
+  pub stays : (number : ℕ) (file : KeptFile) → get old number ≡ Some file
+      → get new number ≡ Some file
+  pub before : (number : ℕ) (file : KeptFile) → get new number ≡ Some file → number < low
+      → get old number ≡ Some file
+  pub fresh : (number : ℕ) (file : KeptFile) → get new number ≡ Some file → low ≤ number
+      → (file.uses ≡ 0) × IsFresh whole now file
+  pub below : (number : ℕ) (file : KeptFile) → get new number ≡ Some file → number < high
+  pub dense : (number : ℕ) → low ≤ number → number < high
+      → (file : KeptFile) × (get new number ≡ Some file)
+  pub order : low ≤ high
+  pub room : high ≤ low + operators whole
+
+-- the new files that no file reads are those of such expressions
+abbrev pub OnlyUnread : (Expr → Type 0) → ℕ → Files → Type 0
+OnlyUnread Such low new =
+    (number : ℕ) (file : KeptFile) → get new number ≡ Some file → low ≤ number
+    → Such file.expr ⊎ IsReadIn new file.expr
+
+-- no expression stands twice in the list
+abbrev pub AreApart : List Expr → Type 0
+AreApart [] = Unit {0}
+AreApart (expr ∷ list) = AllByRecursion (λ other. expr ≢ other) list × AreApart list
+
+-- the rows of these parts of the expression were made, none of which had a file
+pub record HasMade (whole : Expr) (world : World) (old : Files) (made : List Expr) (before after : ℕ)
+    : Type 0 where
+  pub apart : AreApart made
+  pub parts : AllByRecursion (λ part. IsPart part whole) made
+  pub unknown : AllByRecursion (λ part. IsKept old part → ⊥) made
+  pub cost : after ≤ before + rows_of_all world made
+
+-- a file for the expression, without a use, whose rows are there from the base on
+abbrev pub new_file : Expr → ℕ → List Row → KeptFile
+new_file expr now rows =
+    record { expr = expr; uses = 0; content = record { base = now; rows = map (gained_at now) rows } }
+
+-- the shelf has one more file, with the rows at the base now, under the number that was next
+pub record IsPut (old : Filed) (at : ℕ) (expr : Expr) (now : ℕ) (rows : List Row) (new : Filed)
+    : Type 0 where
+  pub number : at ≡ old.next
+  pub next : new.next ≡ old.next + 1
+  pub files : new.shelf ≡ insert old.shelf old.next (new_file expr now rows)
+
+-- the files below the number are as before, and there are no others
+pub record IsCut (old : Files) (low : ℕ) (new : Files) : Type 0 where
+  pub kept : (number : ℕ) → number < low → get new number ≡ get old number
+  pub gone : (number : ℕ) → low ≤ number → get new number ≡ None
+
+-- the file is gone where nothing needs it, and all others are as before
+pub record IsDropped (old : Files) (number : ℕ) (new : Files) : Type 0 where
+  pub grounded : IsGrounded new
+  pub others : (other : ℕ) → other ≢ number → get new other ≡ get old other
+  pub here : (file : KeptFile) → get new number ≡ Some file → get old number ≡ Some file
+  pub read : (file : KeptFile) → get new number ≡ Some file → file.uses ≡ 0
+      → IsReadIn new file.expr

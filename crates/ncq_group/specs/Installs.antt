@@ -1,0 +1,53 @@
+-- What an install adds.
+use Rattle.std.specs.Prelude.{◌≡◌, ◌≢◌, ◌⊎◌, ℕ, ◌+◌, ◌<◌, ◌≤◌, List, [], ◌∷◌, length, Some}
+use Rattle.std.specs.FinMap.{get}
+use Rattle.ncq_base.specs.Counts.{total_by}
+use Rattle.ncq_plan.specs.declared.expr.Expr.{Expr}
+use Rattle.ncq_plan.specs.Exprs.{World, rows_in}
+use Rattle.ncq_shelf.specs.Parts.{IsPart}
+use Rattle.ncq_shelf.specs.KeptFiles.{KeptFile, Files}
+use Rattle.ncq_shelf.specs.Stands.{Stands}
+use Rattle.ncq_shelf.specs.Contents.{IsUpTo}
+use Rattle.ncq_group.specs.Closure.{IsKept}
+use Rattle.ncq_group.specs.Tables.{TableState}
+
+-- a file for a part of the whole expression, made at the change of now
+pub record IsFresh (whole : Expr) (now : ℕ) (file : KeptFile) : Type 0 where
+  pub part : IsPart file.expr whole
+  pub base : file.content.base ≡ now
+  pub up_to : IsUpTo now file.content
+
+-- one more use of the expression, and a file for each of its parts that had none; the new files
+-- have the numbers from the old next number on
+pub record IsInstalled (expr : Expr) (old new : TableState) (number : ℕ) : Type 0 where
+  pub stands : Stands new.files expr number
+  pub others : (other : ℕ) (file : KeptFile) → get old.files other ≡ Some file → other ≢ number
+      → get new.files other ≡ Some file
+  pub gains : (file : KeptFile) → get old.files number ≡ Some file
+      → get new.files number ≡ Some (record file { uses = file.uses + 1 })
+  pub before : (other : ℕ) (file : KeptFile) → get new.files other ≡ Some file
+      → other < old.next_file → (state : KeptFile) × (get old.files other ≡ Some state)
+  pub fresh : (other : ℕ) (file : KeptFile) → get new.files other ≡ Some file
+      → old.next_file ≤ other → IsFresh expr old.number file
+  pub unused : (other : ℕ) (file : KeptFile) → get new.files other ≡ Some file
+      → old.next_file ≤ other → other ≢ number → file.uses ≡ 0
+  pub first_use : (file : KeptFile) → get new.files number ≡ Some file
+      → old.next_file ≤ number → file.uses ≡ 1
+  pub dense : (other : ℕ) → old.next_file ≤ other → other < new.next_file
+      → (file : KeptFile) × (get new.files other ≡ Some file)
+  pub order : old.next_file ≤ new.next_file
+  pub same : new.number ≡ old.number
+
+-- the expression stands in the list
+abbrev pub IsNamed : Expr → List Expr → Type 0
+IsNamed expr [] = ⊥
+IsNamed expr (other ∷ list) = (expr ≡ other) ⊎ IsNamed expr list
+
+-- the list names each part of the expression that has no file
+abbrev pub NamesTheMissing : Files → Expr → List Expr → Type 0
+NamesTheMissing files expr list =
+    (part : Expr) → IsPart part expr → (IsKept files part → ⊥) → IsNamed part list
+
+-- how many rows the expressions of the list have, together
+abbrev pub rows_of_all : World → List Expr → ℕ
+rows_of_all world list = total_by (λ expr. length (rows_in expr world)) list

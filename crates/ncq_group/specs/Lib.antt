@@ -1,0 +1,6 @@
+pub mod Closure
+pub mod Collected
+pub mod Grown
+pub mod Installs
+pub mod Releases
+pub mod Tables

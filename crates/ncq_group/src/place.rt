@@ -1,0 +1,124 @@
+//! Files for an expression and its parts, bottom up.
+ghost use Rattle.std.specs.Prelude.{◌≡◌, ℕ, ◌+◌, ◌<◌, ◌≤◌, ◌^◌, List, length};
+ghost use Rattle.std.specs.Prelude.{OnOk, OnErr, IfOk, Some, None};
+ghost use Rattle.std.specs.FinMap.{get};
+ghost use Rattle.std.specs.List.{AllByRecursion};
+ghost use Rattle.ncq_change.specs.Stores.{world_in};
+ghost use Rattle.ncq_plan.specs.declared.expr.Expr.{Expr as an_expr};
+ghost use Rattle.ncq_plan.specs.Exprs.{operators};
+ghost use Rattle.ncq_plan.specs.WellFormed.{IsWellFormedExpr};
+ghost use Rattle.ncq_shelf.specs.KeptFiles.{KeptFile};
+ghost use Rattle.ncq_shelf.specs.Parts.{IsInput};
+ghost use Rattle.ncq_shelf.specs.Stands.{Stands};
+ghost use Rattle.ncq_shelf.specs.Inputs.{AreInputs};
+ghost use Rattle.ncq_feed.specs.Feeds.{AreReady};
+ghost use Rattle.ncq_group.specs.Closure.{IsKept};
+ghost use Rattle.ncq_group.specs.Grown.{HasMade, IsGrown, IsPut, OnlyUnread};
+
+use crate::filed::Filed;
+use ncq_base::Steps;
+use ncq_fill::first_rows;
+use ncq_midfile::MidFile;
+use ncq_plan::Expr;
+use ncq_row::Rows;
+use ncq_shelf::Inputs;
+use ncq_source::Store;
+use std::alloc::{AllocError, Global};
+use std::sync::ledger::Ledger;
+
+/// The number of the expression's file; where there is none, one is made, and one for each of its
+/// parts that has none.
+#[cycle(placing)]
+pub(crate) fn place<L: Ledger>(
+    alloc: Global,
+    filed: &mut Filed,
+    expr: &Expr,
+    store: &Store,
+    steps: &mut Steps<L>,
+) -> Result<u64, AllocError>
+    requires ready { AreReady store.now.changes (world_in store.now) filed.old.shelf }
+    requires below { (number : ℕ) (file : KeptFile) → get filed.old.shelf number ≡ Some file
+        → number < filed.old.next }
+    requires formed { IsWellFormedExpr expr.now }
+    requires room { filed.old.next + operators expr.now < 2 ^ 64 }
+    ensures grown { IsGrown expr.now store.now.changes (world_in store.now)
+        filed.old.shelf filed.old.next filed.new.shelf filed.new.next }
+    ensures stands { IfOk result (λ number. Stands filed.new.shelf expr.now number) }
+    ensures unread { OnOk result (OnlyUnread (λ e. e ≡ expr.now) filed.old.next filed.new.shelf) }
+    ensures cost { (made : List an_expr)
+        × HasMade expr.now (world_in store.now) filed.old.shelf made steps.old steps.new
+        × OnOk result (AllByRecursion (IsKept filed.new.shelf) made) }
+{
+    let inputs = place_inputs(alloc, filed, expr, store, steps)?;
+    if let Some(number) = filed.shelf.find(expr) {
+        return Ok(number);
+    }
+    let rows = first_rows(alloc, &mut filed.shelf, expr, inputs, store, steps)?;
+    let number = put(alloc, filed, expr, inputs, store.changes(), rows)?;
+    Ok(number)
+}
+
+/// The numbers of the files of the expression's inputs.
+#[cycle(placing)]
+fn place_inputs<L: Ledger>(
+    alloc: Global,
+    filed: &mut Filed,
+    expr: &Expr,
+    store: &Store,
+    steps: &mut Steps<L>,
+) -> Result<Inputs, AllocError>
+    requires ready { AreReady store.now.changes (world_in store.now) filed.old.shelf }
+    requires below { (number : ℕ) (file : KeptFile) → get filed.old.shelf number ≡ Some file
+        → number < filed.old.next }
+    requires formed { IsWellFormedExpr expr.now }
+    requires room { filed.old.next + operators expr.now < 2 ^ 64 }
+    ensures grown { IsGrown expr.now store.now.changes (world_in store.now)
+        filed.old.shelf filed.old.next filed.new.shelf filed.new.next }
+    ensures room { filed.new.next + 1 ≤ filed.old.next + operators expr.now }
+    ensures inputs { IfOk result (λ inputs. AreInputs filed.new.shelf expr.now inputs) }
+    ensures unread { OnOk result (OnlyUnread (λ e. IsInput e expr.now)
+        filed.old.next filed.new.shelf) }
+    ensures cost { (made : List an_expr)
+        × HasMade expr.now (world_in store.now) filed.old.shelf made steps.old steps.new
+        × OnOk result (AllByRecursion (IsKept filed.new.shelf) made) }
+{
+    match expr {
+        Expr::Scan { .. } => Ok(Inputs::Nothing),
+        Expr::EqSel { input, .. } => {
+            let number = place(alloc, filed, input.get(), store, steps)?;
+            Ok(Inputs::One(number))
+        }
+        Expr::RangeSel { input, .. } => {
+            let number = place(alloc, filed, input.get(), store, steps)?;
+            Ok(Inputs::One(number))
+        }
+        Expr::Join { left, right, .. } => {
+            let first = place(alloc, filed, left.get(), store, steps)?;
+            let second = place(alloc, filed, right.get(), store, steps)?;
+            Ok(Inputs::Two(first, second))
+        }
+    }
+}
+
+/// A file with these rows for an expression that has none.
+fn put(
+    alloc: Global,
+    filed: &mut Filed,
+    expr: &Expr,
+    inputs: Inputs,
+    now: u64,
+    rows: Rows,
+) -> Result<u64, AllocError>
+    requires absent { get filed.old.shelf filed.old.next ≡ None }
+    requires new { (number : ℕ) → Stands filed.old.shelf expr.now number → ⊥ }
+    requires inputs { AreInputs filed.old.shelf expr.now inputs }
+    requires room { filed.old.next + 1 < 2 ^ 64 }
+    ensures ok { IfOk result (λ number. IsPut filed.old number expr.now now rows filed.new) }
+    ensures err { OnErr result (filed.new ≡ filed.old) }
+{
+    let content = MidFile::new(alloc, now, rows)?;
+    let number = filed.next;
+    filed.shelf.add(alloc, number, expr, inputs, content)?;
+    filed.next = number + 1;
+    Ok(number)
+}

@@ -1,0 +1,242 @@
+//! The table of shared files.
+ghost use Rattle.std.specs.Prelude.{◌≡◌, ℕ, ◌+◌, ◌-◌, ◌<◌, ◌≤◌, ◌^◌, List, Some, IfOk, OnOk, OnErr};
+ghost use Rattle.std.specs.FinMap.{empty, get, insert, len};
+ghost use Rattle.std.specs.List.{AllByRecursion};
+ghost use Rattle.std.specs.Option.{option_map};
+ghost use Rattle.ncq_plan.specs.declared.expr.Expr.{Expr as an_expr};
+ghost use Rattle.ncq_plan.specs.WellFormed.{IsWellFormedExpr};
+ghost use Rattle.ncq_midfile.specs.Content.{IsSoundAt};
+ghost use Rattle.ncq_change.specs.Stores.{world_in};
+ghost use Rattle.ncq_shelf.specs.KeptFiles.{KeptFile};
+ghost use Rattle.ncq_shelf.specs.Stands.{IsThere};
+ghost use Rattle.ncq_shelf.specs.Contents.{Fits, IsCompacted, cut_to};
+ghost use Rattle.ncq_feed.specs.Feeds.{IsPreparedFrom, AreFed, world_after, feed_work};
+ghost use Rattle.ncq_group.specs.Installs.{IsInstalled, NamesTheMissing, rows_of_all};
+ghost use Rattle.ncq_group.specs.Releases.{HasUse, IsReleased};
+ghost use Rattle.ncq_group.specs.Tables.{Facts};
+
+use crate::collect::collect;
+use crate::filed::Filed;
+use crate::mark::GroupMark;
+use crate::place::place;
+use crate::undo::cut;
+use ncq_base::{FileId, Steps};
+use ncq_feed::feed;
+use ncq_midfile::MidFile;
+use ncq_plan::Expr;
+use ncq_shelf::Shelf;
+use ncq_source::{Change, Store};
+use std::alloc::{AllocError, Global};
+use std::marker::Model;
+use std::sync::ledger::Ledger;
+
+/// The files of all installed expressions and their subexpressions, each once, the number that the
+/// next new file gets, and the change up to which the files stand.
+#[derive(Drop)]
+pub struct GroupTable {
+    filed: Filed,
+    number: u64,
+}
+
+impl Model for GroupTable {
+    ghost use Rattle.ncq_group.specs.Tables.{TableState, table_code, Facts};
+
+    ghost Value = { TableState };
+
+    ghost coded = { table_code };
+
+    ghost view = { λ t. record {
+      files = t.filed.shelf;
+      next_file = t.filed.next;
+      number = t.number;
+    } };
+
+    ghost invariant = { λ t. Facts (record {
+      files = t.filed.shelf;
+      next_file = t.filed.next;
+      number = t.number;
+    }) };
+}
+
+impl GroupTable {
+    /// No file; both numbers are 0. It takes no memory.
+    pub fn new(alloc: Global) -> GroupTable
+        ensures files { result.files ≡ empty }
+        ensures next_file { result.next_file ≡ 0 }
+        ensures number { result.number ≡ 0 }
+    {
+        GroupTable {
+            filed: Filed {
+                shelf: Shelf::new(alloc),
+                next: 0,
+            },
+            number: 0,
+        }
+    }
+
+    /// Every table meets the facts: this call does nothing.
+    pub fn facts(&self)
+        ensures { Facts self.now }
+    {
+        let _filed = &self.filed;
+    }
+
+    /// The change up to which the files stand.
+    pub fn number(&self) -> u64
+        ensures { result ≡ self.now.number }
+    {
+        self.number
+    }
+
+    /// The number that the next new file gets.
+    pub fn next_file(&self) -> u64
+        ensures { result ≡ self.now.next_file }
+    {
+        self.filed.next
+    }
+
+    /// How many files there are.
+    pub fn files(&self) -> usize
+        ensures { result ≡ len self.now.files }
+    {
+        self.filed.shelf.len()
+    }
+
+    /// The rows of a file. It takes no memory.
+    pub fn file(&self, file: FileId) -> &MidFile
+        requires { IsThere self.now.files file.0 }
+        ensures { (kept : KeptFile) → get self.now.files file.0 ≡ Some kept
+            → result.now ≡ kept.content }
+    {
+        self.filed.shelf.content(file.0)
+    }
+
+    /// How far the table is now. It takes no memory.
+    pub fn mark(&self) -> GroupMark
+        ensures { result ≡ (self.now.number, self.now.next_file) }
+    {
+        GroupMark::new(self.number, self.filed.next)
+    }
+
+    /// One more use of the expression. The answer is the number of its file; those of its parts
+    /// that have no file get one, with the rows of now. After an error the table is as it was. Each
+    /// row of a new file is one step, whatever it answers. The only error is that memory ran out.
+    pub fn install<L: Ledger>(
+        &mut self,
+        alloc: Global,
+        expr: &Expr,
+        store: &Store,
+        steps: &mut Steps<L>,
+    ) -> Result<FileId, AllocError>
+        requires formed { IsWellFormedExpr expr.now }
+        requires number { store.now.changes ≡ self.old.number }
+        requires fits { Fits self.old.number (world_in store.now) self.old.files }
+        requires uses { (number : ℕ) (file : KeptFile) → get self.old.files number ≡ Some file
+            → file.uses < 2 ^ 64 - 1 }
+        requires room { self.old.next_file ≤ 2 ^ 64 - 257 }
+        ensures ok { IfOk result (λ file. IsInstalled expr.now self.old self.new file.0) }
+        ensures fits { Fits self.old.number (world_in store.now) self.new.files }
+        ensures err { OnErr result (self.new ≡ self.old) }
+
+        // `missing` is any list that names each part of the expression without a file.
+        ensures cost { (missing : List an_expr)
+            → NamesTheMissing self.old.files expr.now missing
+            → steps.new ≤ steps.old + rows_of_all (world_in store.now) missing }
+    {
+        let low = self.filed.next;
+        match place(alloc, &mut self.filed, expr, store, steps) {
+            Ok(number) => {
+                let uses = self.filed.shelf.uses(number);
+                self.filed.shelf.set_uses(number, uses + 1);
+                Ok(FileId(number))
+            }
+            Err(refused) => {
+                cut(&mut self.filed.shelf, low, self.filed.next);
+                self.filed.next = low;
+                Err(refused)
+            }
+        }
+    }
+
+    /// Gives up one use of the file. What no use and no other file needs any more is taken away. It
+    /// takes no memory, and time in proportion to what goes.
+    pub fn release(&mut self, file: FileId)
+        requires { HasUse self.old.files file.0 }
+        ensures files { IsReleased self.old.files file.0 self.new.files }
+        ensures next_file { self.new.next_file ≡ self.old.next_file }
+        ensures number { self.new.number ≡ self.old.number }
+    {
+        let uses = self.filed.shelf.uses(file.0);
+        self.filed.shelf.set_uses(file.0, uses - 1);
+        collect(&mut self.filed.shelf, file.0);
+    }
+
+    /// Gives each file the signed rows that the change makes of its expression, under the number of
+    /// the change. After an error the table is as it was. Each signed row is one step, whatever it
+    /// answers. The only error is that memory ran out.
+    pub fn feed<L: Ledger>(
+        &mut self,
+        alloc: Global,
+        change: &Change,
+        store: &Store,
+        steps: &mut Steps<L>,
+    ) -> Result<(), AllocError>
+        requires change { IsPreparedFrom store.now change.now }
+        requires number { store.now.changes ≡ self.old.number }
+        requires more { self.old.number < 2 ^ 64 - 1 }
+        requires fits { Fits self.old.number (world_in store.now) self.old.files }
+        ensures number { OnOk result (self.new.number ≡ self.old.number + 1) }
+        ensures fed { OnOk result (AreFed store.now change.now self.old.files self.new.files) }
+        ensures fits { OnOk result (Fits self.new.number (world_after store.now change.now)
+            self.new.files) }
+        ensures next_file { self.new.next_file ≡ self.old.next_file }
+        ensures err { OnErr result (self.new ≡ self.old) }
+        ensures cost { steps.new ≤ steps.old + feed_work store.now change.now self.old.files }
+    {
+        feed(alloc, &mut self.filed.shelf, change, store, steps)?;
+        self.number += 1;
+        Ok(())
+    }
+
+    /// Takes the signed rows of the changes after the mark away, and makes both numbers those of
+    /// the mark, at which each file of now stood. It takes no memory.
+    pub fn roll_back(&mut self, mark: GroupMark)
+        requires number { mark.0 ≤ self.old.number }
+        requires next_file { mark.1 ≤ self.old.next_file }
+        requires base { (number : ℕ) (file : KeptFile) → get self.old.files number ≡ Some file
+            → file.content.base ≤ mark.0 }
+        requires below { (number : ℕ) (file : KeptFile) → get self.old.files number ≡ Some file
+            → number < mark.1 }
+        ensures number { self.new.number ≡ mark.0 }
+        ensures next_file { self.new.next_file ≡ mark.1 }
+        ensures files { (number : ℕ)
+            → get self.new.files number ≡ option_map (cut_to mark.0) (get self.old.files number) }
+    {
+        self.filed.shelf.roll_back(mark.number());
+        self.filed.next = mark.next();
+        self.number = mark.number();
+    }
+
+    /// Makes a change the base of a file: it has then the rows that are left there, each as one that
+    /// is there from the base on. After an error the table is as it was. The only error is that
+    /// memory ran out.
+    pub fn compact(&mut self, alloc: Global, file: FileId, change: u64) -> Result<(), AllocError>
+        requires there { IsThere self.old.files file.0 }
+        requires base { (kept : KeptFile) → get self.old.files file.0 ≡ Some kept
+            → kept.content.base ≤ change }
+        requires last { (kept : KeptFile) → get self.old.files file.0 ≡ Some kept
+            → AllByRecursion (λ r. r.number ≤ change) kept.content.rows }
+        requires sound { (kept : KeptFile) → get self.old.files file.0 ≡ Some kept
+            → IsSoundAt change kept.content.rows }
+        requires number { change ≤ self.old.number }
+        ensures ok { OnOk result ((kept : KeptFile) → get self.old.files file.0 ≡ Some kept
+            → (next : KeptFile) × (self.new.files ≡ insert self.old.files file.0 next)
+            × IsCompacted change kept next) }
+        ensures err { OnErr result (self.new ≡ self.old) }
+        ensures next_file { self.new.next_file ≡ self.old.next_file }
+        ensures number { self.new.number ≡ self.old.number }
+    {
+        self.filed.shelf.compact(alloc, file.0, change)?;
+        Ok(())
+    }
+}

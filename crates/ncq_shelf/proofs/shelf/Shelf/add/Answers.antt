@@ -1,0 +1,77 @@
+use Rattle.std.proofs.Common.{◌≡◌, ℕ, cond, Some, None, sym, ap, ◌∙◌, subst}
+use Rattle.std.specs.Map.{lookup}
+use Rattle.std.specs.FinMap.{get, insert}
+use Rattle.ncq_plan.specs.declared.expr.Expr.{Expr}
+use Rattle.ncq_shelf.specs.Indexed.{is_expr}
+use Rattle.ncq_shelf.specs.declared.file.File.{File}
+use Rattle.ncq_shelf.specs.Shown.{shown}
+use Rattle.ncq_shelf.specs.Stands.{Stands}
+use Rattle.ncq_shelf.specs.Inputs.{AreInputs}
+use Rattle.ncq_shelf.specs.Wired.{IsShelved}
+use Rattle.ncq_shelf.proofs.Turns.{any_err, alike_nowhere}
+use Rattle.ncq_shelf.proofs.Others.{one_each, shown_others, alike_others}
+use Rattle.ncq_shelf.proofs.Added.{shelved_more, shown_more, unread_yet, shelved_alike, same_scans, kept_again, nothing_yet}
+use Rattle.ncq_shelf.proofs.shelf.Shelf.add.Goals as goal
+
+pub enroll-requires-clause-inputs : goal.enroll-requires-clause-inputs
+enroll-requires-clause-inputs c = subst (λ f. AreInputs f c.args.expr.now c.args.inputs) (sym (ap shown c.reserve-2.ensures.entries ∙ c.self.view_is)) c.requires.inputs
+
+pub enroll-requires-clause-one : goal.enroll-requires-clause-one
+enroll-requires-clause-one c =
+    let shelved = kept_again c.self.inside.files.entries c.reserve-2.new.self.entries c.self.inside.numbers.entries c.reserve.new.self.entries c.self.inside.scans.entries c.reserve-2.ensures.entries c.reserve.ensures.entries c.self.invariant in
+    one_each c.reserve-2.new.self.entries c.reserve.new.self.entries shelved.indexed
+
+pub enroll-requires-clause-unread : goal.enroll-requires-clause-unread
+enroll-requires-clause-unread c =
+    let shelved = kept_again c.self.inside.files.entries c.reserve-2.new.self.entries c.self.inside.numbers.entries c.reserve.new.self.entries c.self.inside.scans.entries c.reserve-2.ensures.entries c.reserve.ensures.entries c.self.invariant in
+    let seen = ap shown c.reserve-2.ensures.entries ∙ c.self.view_is in
+    unread_yet c.reserve-2.new.self.entries c.reserve.new.self.entries c.self.inside.scans.entries shelved c.args.number c.args.expr.now (ap (λ m. get m c.args.number) seen ∙ c.requires.absent) (λ n s. c.requires.new n (subst (λ m. Stands m c.args.expr.now n) seen s))
+
+pub invariant_of-self-in_err-enroll : goal.invariant_of-self-in_err-enroll
+invariant_of-self-in_err-enroll c =
+    let shelved = kept_again c.self.inside.files.entries c.reserve-2.new.self.entries c.self.inside.numbers.entries c.reserve.new.self.entries c.self.inside.scans.entries c.reserve-2.ensures.entries c.reserve.ensures.entries c.self.invariant in
+    shelved_alike c.reserve-2.new.self.entries c.enroll.new.files.entries c.reserve.new.self.entries c.self.inside.scans.entries c.self.inside.scans.entries shelved c.in_err-enroll.ensures.err (same_scans c.self.inside.scans.entries)
+
+pub returns-in_err-enroll-clause-err : goal.returns-in_err-enroll-clause-err
+returns-in_err-enroll-clause-err c =
+    any_err c.from_residual-in_err-enroll.result
+    (shown_others c.reserve-2.new.self.entries c.enroll.new.files.entries (alike_others c.reserve-2.new.self.entries c.enroll.new.files.entries c.in_err-enroll.ensures.err) ∙ ap shown c.reserve-2.ensures.entries ∙ c.self.view_is)
+
+pub invariant_of-self-in_err-enroll_scan : goal.invariant_of-self-in_err-enroll_scan
+invariant_of-self-in_err-enroll_scan c =
+    let shelved = kept_again c.self.inside.files.entries c.reserve-2.new.self.entries c.self.inside.numbers.entries c.reserve.new.self.entries c.self.inside.scans.entries c.reserve-2.ensures.entries c.reserve.ensures.entries c.self.invariant in
+    let alike = alike_nowhere c.reserve-2.new.self.entries c.args.expr.now c.args.number c.in_err-enroll_scan.ensures.scan c.enroll.new.files.entries c.in_ok-enroll.ensures.ok in
+    shelved_alike c.reserve-2.new.self.entries c.enroll.new.files.entries c.reserve.new.self.entries c.self.inside.scans.entries c.enroll_scan.new.scans.entries shelved alike c.in_err-enroll_scan.ensures.err
+
+pub returns-in_err-enroll_scan-clause-err : goal.returns-in_err-enroll_scan-clause-err
+returns-in_err-enroll_scan-clause-err c =
+    let alike = alike_nowhere c.reserve-2.new.self.entries c.args.expr.now c.args.number c.in_err-enroll_scan.ensures.scan c.enroll.new.files.entries c.in_ok-enroll.ensures.ok in
+    any_err c.from_residual-in_err-enroll_scan.result
+    (shown_others c.reserve-2.new.self.entries c.enroll.new.files.entries (alike_others c.reserve-2.new.self.entries c.enroll.new.files.entries alike) ∙ ap shown c.reserve-2.ensures.entries ∙ c.self.view_is)
+
+pub invariant_of-self-2 : goal.invariant_of-self-2
+invariant_of-self-2 c =
+    let file : File = record { expr = c.in_ok-copy.copy; uses = 0; content = c.args.content; inputs = c.args.inputs; readers = c.new.result } in
+    let shelved = kept_again c.self.inside.files.entries c.reserve-2.new.self.entries c.self.inside.numbers.entries c.reserve.new.self.entries c.self.inside.scans.entries c.reserve-2.ensures.entries c.reserve.ensures.entries c.self.invariant in
+    let seen = ap shown c.reserve-2.ensures.entries ∙ c.self.view_is in
+    let a = rw c.unwrap-none.ensures at c.insert.ensures.updates in
+    let e = rw c.unwrap-old.ensures at c.insert-2.ensures.updates in
+    let known : (q : Expr) → lookup (is_expr q) c.insert-2.new.self.entries ≡ cond (is_expr file.expr q) (Some c.args.number) (lookup (is_expr q) c.reserve.new.self.entries) =
+    λ q. e.0 q ∙ (λ i. cond (is_expr ((c.in_ok-key.ensures ∙ sym c.in_ok-copy.ensures) i) q) (Some c.args.number) (lookup (is_expr q) c.reserve.new.self.entries)) in
+    shelved_more c.reserve-2.new.self.entries c.reserve.new.self.entries c.self.inside.scans.entries shelved c.args.number c.args.expr.now (ap (λ m. get m c.args.number) seen ∙ c.requires.absent) (λ n s. c.requires.new n (subst (λ m. Stands m c.args.expr.now n) seen s))
+    file c.in_ok-copy.ensures (subst (λ f. AreInputs f c.args.expr.now c.args.inputs) (sym seen) c.requires.inputs) (nothing_yet c.new.result c.new.ensures)
+    c.enroll.new.files.entries c.in_ok-enroll.ensures.ok c.insert.new.self.entries a.0 c.insert-2.new.self.entries known c.enroll_scan.new.scans.entries c.in_ok-enroll_scan.ensures.ok
+
+pub returns-clause-ok : goal.returns-clause-ok
+returns-clause-ok c =
+    let file : File = record { expr = c.in_ok-copy.copy; uses = 0; content = c.args.content; inputs = c.args.inputs; readers = c.new.result } in
+    let shelved = kept_again c.self.inside.files.entries c.reserve-2.new.self.entries c.self.inside.numbers.entries c.reserve.new.self.entries c.self.inside.scans.entries c.reserve-2.ensures.entries c.reserve.ensures.entries c.self.invariant in
+    let seen = ap shown c.reserve-2.ensures.entries ∙ c.self.view_is in
+    let a = rw c.unwrap-none.ensures at c.insert.ensures.updates in
+    let e = rw c.unwrap-old.ensures at c.insert-2.ensures.updates in
+    let known : (q : Expr) → lookup (is_expr q) c.insert-2.new.self.entries ≡ cond (is_expr file.expr q) (Some c.args.number) (lookup (is_expr q) c.reserve.new.self.entries) =
+    λ q. e.0 q ∙ (λ i. cond (is_expr ((c.in_ok-key.ensures ∙ sym c.in_ok-copy.ensures) i) q) (Some c.args.number) (lookup (is_expr q) c.reserve.new.self.entries)) in
+    shown_more c.reserve-2.new.self.entries c.reserve.new.self.entries c.self.inside.scans.entries shelved c.args.number c.args.expr.now (ap (λ m. get m c.args.number) seen ∙ c.requires.absent) (λ n s. c.requires.new n (subst (λ m. Stands m c.args.expr.now n) seen s))
+    file c.in_ok-copy.ensures (subst (λ f. AreInputs f c.args.expr.now c.args.inputs) (sym seen) c.requires.inputs) (nothing_yet c.new.result c.new.ensures)
+    c.enroll.new.files.entries c.in_ok-enroll.ensures.ok c.insert.new.self.entries a.0 c.insert-2.new.self.entries known c.enroll_scan.new.scans.entries c.in_ok-enroll_scan.ensures.ok
+    ∙ (λ i. insert (seen i) c.args.number (record { expr = c.in_ok-copy.ensures i; uses = 0; content = c.args.content }))

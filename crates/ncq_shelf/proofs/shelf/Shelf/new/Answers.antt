@@ -1,0 +1,5 @@
+use Rattle.ncq_shelf.proofs.Consumers.{shelved_none}
+use Rattle.ncq_shelf.proofs.shelf.Shelf.new.Goals as goal
+
+pub invariant_of-result : goal.invariant_of-result
+invariant_of-result c = shelved_none c.new.result.entries c.new-2.result.entries c.new-3.result.entries c.new.ensures.empty c.new-2.ensures.empty c.new-3.ensures.empty

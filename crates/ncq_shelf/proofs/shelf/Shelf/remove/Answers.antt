@@ -1,0 +1,59 @@
+use Rattle.std.proofs.Common.{◌≡◌, Some, sym, ap, ◌∙◌, subst}
+use Rattle.std.specs.Option.{option_map}
+use Rattle.std.specs.FinMap.{get, remove}
+use Rattle.ncq_shelf.specs.Stands.{IsIdle}
+use Rattle.ncq_shelf.specs.Inputs.{AreInputs}
+use Rattle.ncq_shelf.specs.Shown.{shown, state_of}
+use Rattle.ncq_shelf.proofs.Maps.{one_value, there}
+use Rattle.ncq_shelf.proofs.ShownFiles.{get_shown}
+use Rattle.ncq_shelf.proofs.Indexes.{shown_at}
+use Rattle.ncq_shelf.proofs.Removed.{inputs_left, one_left, known_left, shown_less, shelved_less}
+use Rattle.ncq_shelf.proofs.shelf.Shelf.remove.Goals as goal
+
+pub returns-in_default-clause-gone : goal.returns-in_default-clause-gone
+returns-in_default-clause-gone c =
+    absurd (there (subst (λ f. get f c.args.number ≡ Some c.requires.file) (sym c.self.view_is) c.requires.at) (get_shown c.self.inside.files.entries c.args.number ∙ ap (option_map state_of) (sym c.in_default.ensures.value)))
+
+pub returns-in_default-clause-inputs : goal.returns-in_default-clause-inputs
+returns-in_default-clause-inputs c =
+    absurd (there (subst (λ f. get f c.args.number ≡ Some c.requires.file) (sym c.self.view_is) c.requires.at) (get_shown c.self.inside.files.entries c.args.number ∙ ap (option_map state_of) (sym c.in_default.ensures.value)))
+
+pub strike-requires-clause-inputs : goal.strike-requires-clause-inputs
+strike-requires-clause-inputs c =
+    let idle : IsIdle (shown c.self.inside.files.entries) c.args.number = subst (λ f. IsIdle f c.args.number) (sym c.self.view_is) c.requires in
+    inputs_left c.self.inside.files.entries c.self.inside.numbers.entries c.self.inside.scans.entries c.self.invariant c.args.number idle c.in-Some.file (sym c.in-Some.ensures.value)
+    c.swap_remove.new.self.entries c.swap_remove.ensures.updates.0 c.swap_remove-number.new.self.entries c.swap_remove-number.ensures.updates.0
+
+pub strike-requires-clause-one : goal.strike-requires-clause-one
+strike-requires-clause-one c =
+    let idle : IsIdle (shown c.self.inside.files.entries) c.args.number = subst (λ f. IsIdle f c.args.number) (sym c.self.view_is) c.requires in
+    one_left c.self.inside.files.entries c.self.inside.numbers.entries c.self.inside.scans.entries c.self.invariant c.args.number idle c.in-Some.file (sym c.in-Some.ensures.value)
+    c.swap_remove.new.self.entries c.swap_remove.ensures.updates.0 c.swap_remove-number.new.self.entries c.swap_remove-number.ensures.updates.0
+
+pub strike-requires-clause-known : goal.strike-requires-clause-known
+strike-requires-clause-known c =
+    let idle : IsIdle (shown c.self.inside.files.entries) c.args.number = subst (λ f. IsIdle f c.args.number) (sym c.self.view_is) c.requires in
+    known_left c.self.inside.files.entries c.self.inside.numbers.entries c.self.inside.scans.entries c.self.invariant c.args.number idle c.in-Some.file (sym c.in-Some.ensures.value)
+    c.swap_remove.new.self.entries c.swap_remove.ensures.updates.0 c.swap_remove-number.new.self.entries c.swap_remove-number.ensures.updates.0
+
+pub invariant_of-self-2 : goal.invariant_of-self-2
+invariant_of-self-2 c =
+    let idle : IsIdle (shown c.self.inside.files.entries) c.args.number = subst (λ f. IsIdle f c.args.number) (sym c.self.view_is) c.requires in
+    shelved_less c.self.inside.files.entries c.self.inside.numbers.entries c.self.inside.scans.entries c.self.invariant c.args.number idle c.in-Some.file (sym c.in-Some.ensures.value)
+    c.swap_remove.new.self.entries c.swap_remove.ensures.updates.0 c.swap_remove-number.new.self.entries c.swap_remove-number.ensures.updates.0
+    c.strike.new.files.entries c.strike.ensures c.strike_scan.new.scans.entries c.strike_scan.ensures
+
+pub returns-clause-gone : goal.returns-clause-gone
+returns-clause-gone c =
+    let idle : IsIdle (shown c.self.inside.files.entries) c.args.number = subst (λ f. IsIdle f c.args.number) (sym c.self.view_is) c.requires in
+    shown_less c.self.inside.files.entries c.self.inside.numbers.entries c.self.inside.scans.entries c.self.invariant c.args.number idle c.in-Some.file (sym c.in-Some.ensures.value)
+    c.swap_remove.new.self.entries c.swap_remove.ensures.updates.0 c.swap_remove-number.new.self.entries c.swap_remove-number.ensures.updates.0
+    c.strike.new.files.entries c.strike.ensures c.strike_scan.new.scans.entries c.strike_scan.ensures
+    ∙ (λ i. remove (c.self.view_is i) c.args.number)
+
+pub returns-clause-inputs : goal.returns-clause-inputs
+returns-clause-inputs c = λ state at.
+    let e : state_of c.in-Some.file ≡ state =
+    one_value (shown_at c.self.inside.files.entries c.args.number c.in-Some.file (sym c.in-Some.ensures.value)) (subst (λ f. get f c.args.number ≡ Some state) (sym c.self.view_is) at) in
+    subst (λ f. AreInputs f state.expr c.in-Some.file.inputs) c.self.view_is
+    (subst (λ s. AreInputs (shown c.self.inside.files.entries) s.expr c.in-Some.file.inputs) e (c.self.invariant.indexed.inputs c.args.number c.in-Some.file (sym c.in-Some.ensures.value)))

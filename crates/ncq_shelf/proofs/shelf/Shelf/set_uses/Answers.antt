@@ -1,0 +1,30 @@
+use Rattle.std.proofs.Common.{◌≡◌, Some, sym, ap, ◌∙◌, subst, refl, rules}
+use Rattle.std.specs.Option.{option_map}
+use Rattle.std.specs.FinMap.{get, insert}
+use Rattle.ncq_shelf.specs.Shown.{state_of}
+use Rattle.ncq_shelf.specs.declared.file.File.{File}
+use Rattle.ncq_shelf.proofs.Maps.{one_value, there}
+use Rattle.ncq_shelf.proofs.ShownFiles.{get_shown}
+use Rattle.ncq_shelf.proofs.Indexes.{shown_at}
+use Rattle.ncq_shelf.proofs.SameFiles.{shown_written, shelved_written}
+use Rattle.ncq_shelf.proofs.shelf.Shelf.set_uses.Goals as goal
+
+pub returns-in_default : goal.returns-in_default
+returns-in_default c = λ file at.
+    absurd (there (subst (λ f. get f c.args.number ≡ Some file) (sym c.self.view_is) at) (get_shown c.self.inside.files.entries c.args.number ∙ ap (option_map state_of) (sym c.in_default.ensures.value)))
+
+pub invariant_of-self-2 : goal.invariant_of-self-2
+invariant_of-self-2 c =
+    let file = c.in-Some.file.now in
+    let w : File = record file { uses = c.args.uses } in
+    shelved_written c.self.inside.files.entries c.args.number file w (sym c.in-Some.ensures.value) refl refl refl
+    (c.get_mut.follows.lender w).entries ((c.get_mut.follows.holds w).3 (search rules)).0 c.self.inside.numbers.entries c.self.inside.scans.entries c.self.invariant
+
+pub returns : goal.returns
+returns c = λ file at.
+    let w : File = record c.in-Some.file.now { uses = c.args.uses } in
+    let e : state_of c.in-Some.file.now ≡ file =
+    one_value (shown_at c.self.inside.files.entries c.args.number c.in-Some.file.now (sym c.in-Some.ensures.value)) (subst (λ f. get f c.args.number ≡ Some file) (sym c.self.view_is) at) in
+    shown_written c.self.inside.files.entries c.args.number c.in-Some.file.now w (sym c.in-Some.ensures.value) refl refl refl
+    (c.get_mut.follows.lender w).entries ((c.get_mut.follows.holds w).3 (search rules)).0
+    ∙ (λ i. insert (c.self.view_is i) c.args.number (record (e i) { uses = c.args.uses }))

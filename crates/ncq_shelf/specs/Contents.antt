@@ -1,0 +1,67 @@
+-- The rows of files: against the sources, by a change, and in all.
+use Rattle.std.specs.Prelude.{◌≡◌, ◌≢◌, ℕ, ◌≤◌, List, ◌++◌, map, length, Option, Some}
+use Rattle.std.specs.List.{AllByRecursion}
+use Rattle.std.specs.Option.{option_map}
+use Rattle.std.specs.FinMap.{get, entries}
+use Rattle.ncq_base.specs.Counts.{total_by}
+use Rattle.ncq_row.specs.Embeddings.{Row}
+use Rattle.ncq_plan.specs.Exprs.{World, rows_in, expr_width}
+use Rattle.ncq_plan.specs.WellFormed.{IsWellFormedExpr}
+use Rattle.ncq_midfile.specs.Content.{IsContent, rows_of, up_to}
+use Rattle.ncq_midfile.specs.Files.{FileState}
+use Rattle.ncq_midfile.specs.Made.{gained_at}
+use Rattle.ncq_midfile.specs.declared.signed.SignedRow.{SignedRow}
+use Rattle.ncq_shelf.specs.KeptFiles.{KeptFile, Files}
+
+-- the expression of each file is well formed
+abbrev pub AreFormed : Files → Type 0
+AreFormed files =
+    (number : ℕ) (file : KeptFile) → get files number ≡ Some file → IsWellFormedExpr file.expr
+
+-- each row of the file has a value for each slot of its expression, and so in each file
+abbrev pub IsWide : KeptFile → Type 0
+IsWide file = AllByRecursion (λ r. length r.row ≡ expr_width file.expr) file.content.rows
+
+abbrev pub AreWide : Files → Type 0
+AreWide files = (number : ℕ) (file : KeptFile) → get files number ≡ Some file → IsWide file
+
+-- the file was made at this change or before, and has no row of a later one; so in each file
+pub record IsUpTo (now : ℕ) (content : FileState) : Type 0 where
+  pub base : content.base ≤ now
+  pub last : AllByRecursion (λ r. r.number ≤ now) content.rows
+
+abbrev pub AreUpTo : ℕ → Files → Type 0
+AreUpTo now files =
+    (number : ℕ) (file : KeptFile) → get files number ≡ Some file → IsUpTo now file.content
+
+-- each file has, at this change, the rows of its expression over the world
+abbrev pub Fits : ℕ → World → Files → Type 0
+Fits now world files =
+    (number : ℕ) (file : KeptFile) → get files number ≡ Some file
+    → IsContent now file.content.rows (rows_in file.expr world)
+
+-- the sum of f over the numbers of the files
+abbrev pub sum_over : Files → (ℕ → ℕ) → ℕ
+sum_over files f = total_by (λ entry. f entry.0) (entries files)
+
+-- the file with these rows
+abbrev pub with_rows : List SignedRow → KeptFile → KeptFile
+with_rows rows file = record file { content = record { base = file.content.base; rows = rows } }
+
+-- the file with more rows behind its own
+abbrev pub with_more : KeptFile → List SignedRow → KeptFile
+with_more file more = with_rows (file.content.rows ++ more) file
+
+-- the file without its rows of later changes
+abbrev pub cut_to : ℕ → KeptFile → KeptFile
+cut_to n file = with_rows (up_to n file.content.rows) file
+
+-- the file after its base was made n: its rows are those left at n, there from the base on
+pub record IsCompacted (n : ℕ) (old new : KeptFile) : Type 0 where
+  pub expr : new.expr ≡ old.expr
+  pub uses : new.uses ≡ old.uses
+  pub base : new.content.base ≡ n
+  pub gains : new.content.rows ≡ map (gained_at n) (rows_of new.content.rows)
+  pub content : IsContent n old.content.rows (rows_of new.content.rows)
+  pub stays : (list : List Row) → IsContent n old.content.rows list
+      → IsContent n new.content.rows list

@@ -1,0 +1,10 @@
+pub mod Contents
+pub mod Enrolled
+pub mod Indexed
+pub mod Inputs
+pub mod KeptFiles
+pub mod Parts
+pub mod Readers
+pub mod Shown
+pub mod Stands
+pub mod Wired

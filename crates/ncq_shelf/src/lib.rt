@@ -1,0 +1,15 @@
+//! The files that share their rows: each expression has one file at most, under a number.
+//! Expressions come in with the numbers of their inputs' files; files are found by expression, by
+//! source and by what they read, each without a look at the others, and a change goes on from a
+//! file to those that read it. A file knows the files that it reads.
+#![tactic(auto)]
+
+mod cut;
+mod enroll;
+mod file;
+mod inputs;
+mod scans;
+mod shelf;
+
+pub use inputs::Inputs;
+pub use shelf::Shelf;
