@@ -196,8 +196,8 @@ module _ (now : ℕ) (world : World) where
     unread_add only other file at above = elim (from_new other file at) [
       | inl here ↦ inl (ap (λ f. f.expr) here.1)
       | inr before ↦ elim (only other file before above) [
-          | inl reads ↦ inr (record { reader = number; file = added; at = at_number; reads = reads })
-          | inr r ↦ inr (read_more stays_mid r)
+        | inl reads ↦ inr (record { reader = number; file = added; at = at_number; reads = reads })
+        | inr r ↦ inr (read_more stays_mid r)
       ]
     ]
 

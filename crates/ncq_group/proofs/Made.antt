@@ -90,16 +90,23 @@ module _ (world : World) where
       → (rest : List Expr) × (rows_of_all world list ≡ length (rows_in expr world) + rows_of_all world rest) × ((other : Expr) → IsNamed other list → expr ≢ other → IsNamed other rest)
   named_total expr [] named = absurd named
   named_total expr (e ∷ list) named = elim named [
-    | inl same ↦ (list, ap (λ x. length (rows_in x world) + rows_of_all world list) (sym same), λ other is differs. elim is [
-      | inl e_is ↦ absurd (differs (same ∙ sym e_is))
-      | inr in_list ↦ in_list
-    ])
+    | inl same ↦ (
+      list,
+      ap (λ x. length (rows_in x world) + rows_of_all world list) (sym same),
+      λ other is differs. elim is [
+        | inl e_is ↦ absurd (differs (same ∙ sym e_is))
+        | inr in_list ↦ in_list
+      ],
+    )
     | inr in_list ↦
-        let below = named_total expr list in_list in
-        (e ∷ below.0, (let h = below.1 in omega arith), λ other is differs. elim is [
-          | inl here ↦ inl here
-          | inr there ↦ inr (below.2 other there differs)
-        ])
+        let below = named_total expr list in_list in (
+          e ∷ below.0,
+          (let h = below.1 in omega arith),
+          λ other is differs. elim is [
+            | inl here ↦ inl here
+            | inr there ↦ inr (below.2 other there differs)
+          ],
+        )
   ]
 
   all_named : (expr : Expr) (made list rest : List Expr) → ((other : Expr) → IsNamed other list → expr ≢ other → IsNamed other rest) → AllByRecursion (λ other. expr ≢ other) made → AllByRecursion (λ e. IsNamed e list) made → AllByRecursion (λ e. IsNamed e rest) made

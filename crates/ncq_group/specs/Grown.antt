@@ -43,8 +43,8 @@ AreApart [] = Unit {0}
 AreApart (expr ∷ list) = AllByRecursion (λ other. expr ≢ other) list × AreApart list
 
 -- the rows of these parts of the expression were made, none of which had a file
-pub record HasMade (whole : Expr) (world : World) (old : Files) (made : List Expr) (before after : ℕ)
-    : Type 0 where
+pub record HasMade (whole : Expr) (world : World) (old : Files) (made : List Expr)
+    (before after : ℕ) : Type 0 where
   pub apart : AreApart made
   pub parts : AllByRecursion (λ part. IsPart part whole) made
   pub unknown : AllByRecursion (λ part. IsKept old part → ⊥) made
@@ -52,8 +52,11 @@ pub record HasMade (whole : Expr) (world : World) (old : Files) (made : List Exp
 
 -- a file for the expression, without a use, whose rows are there from the base on
 abbrev pub new_file : Expr → ℕ → List Row → KeptFile
-new_file expr now rows =
-    record { expr = expr; uses = 0; content = record { base = now; rows = map (gained_at now) rows } }
+new_file expr now rows = record {
+  expr = expr;
+  uses = 0;
+  content = record { base = now; rows = map (gained_at now) rows };
+}
 
 -- the shelf has one more file, with the rows at the base now, under the number that was next
 pub record IsPut (old : Filed) (at : ℕ) (expr : Expr) (now : ℕ) (rows : List Row) (new : Filed)

@@ -217,8 +217,8 @@ impl GroupTable {
         self.number = mark.number();
     }
 
-    /// Makes a change the base of a file: it has then the rows that are left there, each as one that
-    /// is there from the base on. After an error the table is as it was. The only error is that
+    /// Makes a change the base of a file: it has then the rows that are left there, each as one
+    /// that is there from the base on. After an error the table is as it was. The only error is that
     /// memory ran out.
     pub fn compact(&mut self, alloc: Global, file: FileId, change: u64) -> Result<(), AllocError>
         requires there { IsThere self.old.files file.0 }

@@ -32,7 +32,7 @@ use Rattle.ncq_shelf.proofs.ShownFiles.{get_shown}
 use Rattle.ncq_shelf.proofs.Layers.{no_input-scan, input_of-equal, input_of-range, input_of-join}
 use Rattle.ncq_shelf.proofs.InputLaws.{only_told, sides_told}
 use Rattle.ncq_shelf.proofs.Indexes.{shown_at, kept_at, shown_put, indexed_added, indexed_none}
-use Rattle.ncq_shelf.proofs.Arms.{reads_input}
+use Rattle.ncq_shelf.proofs.Readings.{reads_input}
 use Rattle.ncq_shelf.proofs.ScanLaws.{Scans}
 use Rattle.ncq_shelf.proofs.Others.{AreOthers, enrolled_others, alike_others, shown_others, was_there, indexed_others}
 
@@ -51,14 +51,6 @@ input_of_kept files numbers indexed whole n s input i =
     let same : k.0.expr ≡ whole = sym (ap (λ x. x.expr) k.2) ∙ s.of in
     input_stands (shown files) k.0.expr k.0.inputs (indexed.inputs n k.0 k.1) input (subst (IsInput input) (sym same) i)
 
--- an input is read in one of the ways
-pub input_reads : (inner whole : Expr) → IsInput inner whole → (way : Reading) × Reads inner way whole
-input_reads inner = expr_cases (λ w. IsInput inner w → (way : Reading) × Reads inner way w)
-    (λ source shape i. absurd (no_input-scan inner source shape i))
-    (λ input slot constant i. (equal slot constant, ap (λ e. EqSel e slot constant) (sym (input_of-equal inner input slot constant i))))
-    (λ input slot interval i. (range slot interval, ap (λ e. RangeSel e slot interval) (sym (input_of-range inner input slot interval i))))
-    (λ left right pairs i. (joined, record { first = left; second = right; pairs = pairs; is = refl; side = input_of-join inner left right pairs i }))
-
 -- scans by one word
 pub scans_known : (m : Files) (es : Scans) (source : List ℕ) → KnowsScans m es source → (n : ℕ) → IsScanIn es source n ↔ IsScanOf m source n
 scans_known m es source k n = (
@@ -66,13 +58,15 @@ scans_known m es source k n = (
   λ s. elim (lookup (bytes_eq source) es) as (λ o. lookup (bytes_eq source) es ≡ o → IsScanIn es source n) [
     | Some t ↦ λ e. record { tables = t; at = e; reader = (k.known t e n).1 s }
     | None ↦ λ e. absurd (k.unknown e n s)
-  ] refl)
+  ] refl,
+)
 
 pub knows_scans : (m : Files) (es : Scans) (source : List ℕ) → ((n : ℕ) → IsScanIn es source n ↔ IsScanOf m source n) → KnowsScans m es source
 knows_scans m es source k = record {
   known = λ t at n. (
     λ r. (k n).0 (record { tables = t; at = at; reader = r }),
-    λ s. let i = (k n).1 s in subst (λ x. IsReader x joined n) (one_value i.at at) i.reader);
+    λ s. let i = (k n).1 s in subst (λ x. IsReader x joined n) (one_value i.at at) i.reader,
+  );
   unknown = λ none n s. is_there ((k n).1 s).at none;
 }
 
@@ -103,25 +97,6 @@ shelved_alike old new numbers s0 s1 shelved alike same = record {
     seen = shown_others old new (alike_others old new alike)
 
 module _ (f0 : List (ℕ × File)) (n0 : List (Expr × ℕ)) (s0 : Scans) (shelved : IsShelved f0 n0 s0) where
-  -- whether a file is read
-  module _ (number : ℕ) (file : File) (at : lookup (nat_eq number) f0 ≡ Some file) where
-    read_told : (way : Reading) (n : ℕ) → IsReader file.readers way n → IsReadIn (shown f0) file.expr
-    read_told way n r =
-        let s = (shelved.wired.readers number file at way n).0 r in
-        record { reader = n; file = s.stands.file; at = s.stands.at; reads = subst (IsInput file.expr) (sym s.stands.of) (reads_input file.expr way s.whole s.reads) }
-
-    read_found : IsReadIn (shown f0) file.expr → (way : Reading) × (n : ℕ) × IsReader file.readers way n
-    read_found i =
-        let w = input_reads file.expr i.file.expr i.reads in
-        (w.0, i.reader, (shelved.wired.readers number file at w.0 i.reader).1 (record { whole = i.file.expr; reads = w.1; stands = record { file = i.file; at = i.at; of = refl } }))
-
-    pub tells_idle : (told : Bool) → TellsUnread file.readers told → file.uses ≡ 0 → TellsIdle (shown f0) number told
-    tells_idle true tells unused = record {
-      file = state_of file; at = shown_at f0 number file at; unused = unused;
-      unread = λ i. let r = read_found i in tells r.0 r.1 r.2;
-    }
-    tells_idle false tells unused = λ state here _. subst (λ s. IsReadIn (shown f0) s.expr) (one_value (shown_at f0 number file at) here) (read_told tells.0 tells.1 tells.2)
-
   -- a new file
   module _ (number : ℕ) (whole : Expr) (absent : get (shown f0) number ≡ None) (unknown : (n : ℕ) → Stands (shown f0) whole n → ⊥) where
     stands_known : (q : ℕ) (g : File) (way : Reading) (n : ℕ) → lookup (nat_eq q) f0 ≡ Some g → IsReader g.readers way n → ReadsSo (shown f0) g.expr way n
@@ -185,14 +160,15 @@ module _ (f0 : List (ℕ × File)) (n0 : List (Expr × ℕ)) (s0 : Scans) (shelv
           subst (λ x. KnowsReaders more x.readers x.expr) (one_value a.1 k1)
           (subst (λ e. KnowsReaders more a.0.readers e) (sym a.2.expr)
           (λ way n. (
-          λ r. elim ((a.3 way n).0 r) as (λ _. ReadsSo more g0.expr way n) [
-            | inl h ↦ let s = (shelved.wired.readers q g0 k0 way n).0 h in record { whole = s.whole; reads = s.reads; stands = keep s.whole n s.stands }
-            | inr p ↦ record { whole = whole; reads = p.0; stands = its n p.1 }
-          ],
-          λ r. elim (split r.whole n r.stands) as (λ _. IsReader a.0.readers way n) [
-            | inl s ↦ (a.3 way n).1 (inl ((shelved.wired.readers q g0 k0 way n).1 (record { whole = r.whole; reads = r.reads; stands = s })))
-            | inr p ↦ (a.3 way n).1 (inr (subst (Reads g0.expr way) (sym p.0) r.reads, p.1))
-          ])))
+            λ r. elim ((a.3 way n).0 r) as (λ _. ReadsSo more g0.expr way n) [
+              | inl h ↦ let s = (shelved.wired.readers q g0 k0 way n).0 h in record { whole = s.whole; reads = s.reads; stands = keep s.whole n s.stands }
+              | inr p ↦ record { whole = whole; reads = p.0; stands = its n p.1 }
+            ],
+            λ r. elim (split r.whole n r.stands) as (λ _. IsReader a.0.readers way n) [
+              | inl s ↦ (a.3 way n).1 (inl ((shelved.wired.readers q g0 k0 way n).1 (record { whole = r.whole; reads = r.reads; stands = s })))
+              | inr p ↦ (a.3 way n).1 (inr (subst (Reads g0.expr way) (sym p.0) r.reads, p.1))
+            ],
+          )))
 
       knows_all : (q : ℕ) (g : File) → lookup (nat_eq q) f2 ≡ Some g → KnowsReaders more g.readers g.expr
       knows_all q g k = elim (cases_eq q number) as (λ _. KnowsReaders more g.readers g.expr) [
@@ -207,15 +183,16 @@ module _ (f0 : List (ℕ × File)) (n0 : List (Expr × ℕ)) (s0 : Scans) (shelv
 
       scans_all : (source : List ℕ) (n : ℕ) → IsScanIn s1 source n ↔ IsScanOf more source n
       scans_all source n =
-          let k = scans_known (shown f0) s0 source (shelved.wired.scans source) n in
-          (λ i. elim ((gains source n).0 i) as (λ _. IsScanOf more source n) [
-            | inl h ↦ let s = k.0 h in record { shape = s.shape; stands = keep (Scan source s.shape) n s.stands }
-            | inr p ↦ record { shape = p.0.shape; stands = subst (λ e. Stands more e n) p.0.is (its n p.1) }
-          ],
-          λ s. elim (split (Scan source s.shape) n s.stands) as (λ _. IsScanIn s1 source n) [
-            | inl t ↦ (gains source n).1 (inl (k.1 (record { shape = s.shape; stands = t })))
-            | inr p ↦ (gains source n).1 (inr (record { shape = s.shape; is = p.0 }, p.1))
-          ])
+          let k = scans_known (shown f0) s0 source (shelved.wired.scans source) n in (
+            λ i. elim ((gains source n).0 i) as (λ _. IsScanOf more source n) [
+              | inl h ↦ let s = k.0 h in record { shape = s.shape; stands = keep (Scan source s.shape) n s.stands }
+              | inr p ↦ record { shape = p.0.shape; stands = subst (λ e. Stands more e n) p.0.is (its n p.1) }
+            ],
+            λ s. elim (split (Scan source s.shape) n s.stands) as (λ _. IsScanIn s1 source n) [
+              | inl t ↦ (gains source n).1 (inl (k.1 (record { shape = s.shape; stands = t })))
+              | inr p ↦ (gains source n).1 (inr (record { shape = s.shape; is = p.0 }, p.1))
+            ],
+          )
 
       pub shelved_more : IsShelved f2 n1 s1
       shelved_more = record {
@@ -232,19 +209,6 @@ kept_again old new n0 n1 s e d shelved = subst (λ f. IsShelved f n1 s) (sym e) 
 
 pub same_scans : (s : Scans) → SameScans s s
 same_scans s source n = (λ i. i, λ i. i)
-
--- no files
-pub shelved_none : (files : List (ℕ × File)) (numbers : List (Expr × ℕ)) (scans : Scans) → files ≡ [] → numbers ≡ [] → scans ≡ [] → IsShelved files numbers scans
-shelved_none files numbers scans no_files no_numbers no_scans = record {
-  indexed = indexed_none files numbers no_files no_numbers;
-  wired = record {
-    readers = λ n file e. absurd (is_there e (ap (lookup (nat_eq n)) no_files));
-    scans = λ source. record {
-      known = λ t e. absurd (is_there e (ap (lookup (bytes_eq source)) no_scans));
-      unknown = λ _ n s. is_there s.stands.at (get_shown files n ∙ ap (λ f. option_map state_of (lookup (nat_eq n) f)) no_files);
-    };
-  };
-}
 
 -- nothing reads through tables without entries
 pub nothing_yet : (t : ReaderTables) → t ≡ record { equals = []; ranges = []; joins = [] } → (way : Reading) (n : ℕ) → IsReader t way n → ⊥

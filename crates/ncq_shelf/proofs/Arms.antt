@@ -25,16 +25,8 @@ use Rattle.ncq_shelf.specs.declared.inputs.Inputs.TheVariants.{Nothing, One, Two
 use Rattle.ncq_shelf.proofs.Maps.{one_value}
 use Rattle.ncq_shelf.proofs.Indexes.{kept_at}
 use Rattle.ncq_shelf.proofs.InputLaws.{only_told}
+use Rattle.ncq_shelf.proofs.Readings.{reads_input}
 use Rattle.ncq_shelf.proofs.Layers.{out-Scan, out-EqSel, out-RangeSel, out-Join, no_input-scan, input_of-equal, equal-input_of, input_of-range, range-input_of, input_of-join, left-input_of, right-input_of}
-
--- what is read so is an input
-pub reads_input : (inner : Expr) (way : Reading) (whole : Expr) → Reads inner way whole → IsInput inner whole
-reads_input inner (equal slot constant) whole r = subst (IsInput inner) (sym r) (equal-input_of inner slot constant)
-reads_input inner (range slot interval) whole r = subst (IsInput inner) (sym r) (range-input_of inner slot interval)
-reads_input inner joined whole r = subst (IsInput inner) (sym r.is) (elim r.side as (λ _. IsInput inner (Join r.first r.second r.pairs)) [
-  | inl e ↦ subst (λ x. IsInput x (Join r.first r.second r.pairs)) (sym e) (left-input_of r.first r.second r.pairs)
-  | inr e ↦ subst (λ x. IsInput x (Join r.first r.second r.pairs)) (sym e) (right-input_of r.first r.second r.pairs)
-])
 
 pub scan_reads_nothing : (whole : Expr) (source : List ℕ) (shape : Shape) → whole ≡ Scan source shape → (inner : Expr) (way : Reading) → Reads inner way whole → ⊥
 scan_reads_nothing whole source shape is inner way r = no_input-scan inner source shape (subst (IsInput inner) is (reads_input inner way whole r))
@@ -106,7 +98,8 @@ module _ (files : List (ℕ × File)) (one : OneEach files) (whole : Expr) (inpu
       pub reads_of_equal : (constant : Atom) → whole ≡ EqSel inner slot constant → (q : ℕ) (f : File) (way : Reading) → lookup (nat_eq q) files ≡ Some f → is_at at (equal slot constant) q way ↔ Reads f.expr way whole
       reads_of_equal constant is q f way k = (
         λ u. subst (λ w. Reads f.expr w whole) (sym u.1) (inner_of_equal constant is f (subst (λ n. lookup (nat_eq n) files ≡ Some f) u.0 k)),
-        λ r. (its_number q f k (reads_input f.expr way whole r), way_of_equal inner f.expr slot constant way (subst (Reads f.expr way) is r)))
+        λ r. (its_number q f k (reads_input f.expr way whole r), way_of_equal inner f.expr slot constant way (subst (Reads f.expr way) is r)),
+      )
 
       pub inner_of_range : (interval : Interval) → whole ≡ RangeSel inner slot interval → (f : File) → lookup (nat_eq at) files ≡ Some f → whole ≡ RangeSel f.expr slot interval
       inner_of_range interval is f k = is ∙ ap (λ e. RangeSel e slot interval) (sym (its_input f k ∙ input_of-range only.input inner slot interval (subst (IsInput only.input) is only.reads)))
@@ -114,7 +107,8 @@ module _ (files : List (ℕ × File)) (one : OneEach files) (whole : Expr) (inpu
       pub reads_of_range : (interval : Interval) → whole ≡ RangeSel inner slot interval → (q : ℕ) (f : File) (way : Reading) → lookup (nat_eq q) files ≡ Some f → is_at at (range slot interval) q way ↔ Reads f.expr way whole
       reads_of_range interval is q f way k = (
         λ u. subst (λ w. Reads f.expr w whole) (sym u.1) (inner_of_range interval is f (subst (λ n. lookup (nat_eq n) files ≡ Some f) u.0 k)),
-        λ r. (its_number q f k (reads_input f.expr way whole r), way_of_range inner f.expr slot interval way (subst (Reads f.expr way) is r)))
+        λ r. (its_number q f k (reads_input f.expr way whole r), way_of_range inner f.expr slot interval way (subst (Reads f.expr way) is r)),
+      )
 
   -- a join
   module _ (first second : Expr) (pairs : List Pair) (is : whole ≡ Join first second pairs) where
@@ -169,4 +163,5 @@ module _ (files : List (ℕ × File)) (one : OneEach files) (whole : Expr) (inpu
             elim (input_of-join f.expr first second pairs (subst (IsInput f.expr) is (reads_input f.expr way whole r))) as (λ _. is_at_either left right joined q way) [
               | inl e ↦ inl (one q left f l.0 k l.1 (e ∙ sym l.2), w)
               | inr e ↦ inr (one q right f g.0 k g.1 (e ∙ sym g.2), w)
-            ])
+            ],
+      )

@@ -36,7 +36,7 @@ use Rattle.ncq_shelf.proofs.Maps.{one_value, there}
 use Rattle.std.specs.Option.{option_map}
 use Rattle.ncq_shelf.proofs.ShownFiles.{get_shown}
 use Rattle.ncq_shelf.proofs.Indexes.{shown_at, kept_at, indexed_none}
-use Rattle.ncq_shelf.proofs.InputLaws.{only_told, sides_told}
+use Rattle.ncq_shelf.proofs.Added.{input_of_kept}
 use Rattle.ncq_shelf.proofs.Layers.{left-input_of, right-input_of}
 use Rattle.ncq_shelf.proofs.Readings.{reads_once, reads_input, input_read}
 
@@ -47,23 +47,12 @@ last_true false b h = absurd (true≢false (sym h))
 is_less : (m n : ℕ) → nat_lt m n ≡ true → m < n
 is_less m n h = ltb-true m n h
 
--- an input of an expression whose inputs have files has one
-input_stands : (files : Files) (whole : Expr) (inputs : Inputs) → AreInputs files whole inputs → (input : Expr) → IsInput input whole → (number : ℕ) × Stands files input number
-input_stands files whole inputs are input reads = elim inputs as (λ i. AreInputs files whole i → (number : ℕ) × Stands files input number) [
-  | Nothing ↦ λ a. absurd (a input reads)
-  | One only ↦ λ a. (only, only_told files whole only a input reads)
-  | Two left right ↦ λ a. elim (sides_told files whole left right a input reads) [ inl s ↦ (left, s) | inr s ↦ (right, s) ]
-] are
-
 module _ (files : List (ℕ × File)) (numbers : List (Expr × ℕ)) (scans : List (List ℕ × ReaderTables)) (shelved : IsShelved files numbers scans) where
   one_file : (expr : Expr) (first second : ℕ) → Stands (shown files) expr first → Stands (shown files) expr second → first ≡ second
   one_file expr first second s t = one_value ((shelved.indexed.found expr first).1 s) ((shelved.indexed.found expr second).1 t)
 
   stands_input : (whole : Expr) (reader : ℕ) → Stands (shown files) whole reader → (input : Expr) → IsInput input whole → (number : ℕ) × Stands (shown files) input number
-  stands_input whole reader s input reads =
-      let k = kept_at files reader s.file s.at in
-      let of : k.0.expr ≡ whole = sym (ap (λ f. f.expr) k.2) ∙ s.of in
-      input_stands (shown files) k.0.expr k.0.inputs (shelved.indexed.inputs reader k.0 k.1) input (subst (λ w. IsInput input w) (sym of) reads)
+  stands_input whole reader s input reads = input_of_kept files numbers shelved.indexed whole reader s input reads
 
   -- the scans of a source
   pub scans_told : (source : List ℕ) (tables : ReaderTables) → lookup (bytes_eq source) scans ≡ Some tables → AreScansOf (shown files) source tables.joins

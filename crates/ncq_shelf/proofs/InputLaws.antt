@@ -43,7 +43,10 @@ are_inputs_rest old number idle other state at inputs are = elim inputs as (λ i
   | Nothing ↦ λ a. a
   | One only ↦ λ a. record { input = a.input; reads = a.reads; only = a.only; stands = down a.input only a.reads a.stands }
   | Two left right ↦ λ a. record {
-    first = a.first; second = a.second; pairs = a.pairs; is = a.is;
+    first = a.first;
+    second = a.second;
+    pairs = a.pairs;
+    is = a.is;
     on_left = down a.first left (side_reads-left old state.expr left right a) a.on_left;
     on_right = down a.second right (side_reads-right old state.expr left right a) a.on_right;
   }

@@ -92,10 +92,13 @@ fewer_none number p parcels none = empty (rows_to number parcels) (let e = one_m
 
 all_keys : (files : Files) (parcels : List Parcel) → ((number : ℕ) → get files number ≡ None → rows_to number parcels ≡ []) → AllByRecursion (λ p. HasKey p.file.0 (entries files)) parcels
 all_keys files [] none = tt
-all_keys files (p ∷ parcels) none = (elim (get files p.file.0) as (λ o. get files p.file.0 ≡ o → HasKey p.file.0 (entries files)) [
-  | Some file ↦ λ at. key_found p.file.0 (entries files) file (sym (get-entries files p.file.0) ∙ at)
-  | None ↦ λ at. absurd (not_none p.file.0 p parcels refl (none p.file.0 at))
-] refl, all_keys files parcels (λ number at. fewer_none number p parcels (none number at)))
+all_keys files (p ∷ parcels) none = (
+  elim (get files p.file.0) as (λ o. get files p.file.0 ≡ o → HasKey p.file.0 (entries files)) [
+    | Some file ↦ λ at. key_found p.file.0 (entries files) file (sym (get-entries files p.file.0) ∙ at)
+    | None ↦ λ at. absurd (not_none p.file.0 p parcels refl (none p.file.0 at))
+  ] refl,
+  all_keys files parcels (λ number at. fewer_none number p parcels (none number at)),
+)
 
 -- parcels for files alone are no more than what bounds those of each file, together
 pub parcels_bound : (files : Files) (parcels : List Parcel) (bound : ℕ → ℕ) → ((number : ℕ) → get files number ≡ None → rows_to number parcels ≡ []) → ((number : ℕ) → length (rows_to number parcels) ≤ bound number) → length parcels ≤ sum_over files bound

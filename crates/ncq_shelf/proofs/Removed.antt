@@ -80,11 +80,12 @@ module _ (f0 : List (ℕ × File)) (n0 : List (Expr × ℕ)) (s0 : Scans) (shelv
         subst (λ x. KnowsReaders less x.readers x.expr) (one_value a.1 k2)
         (subst (λ e. KnowsReaders less a.0.readers e) (sym a.2.expr)
         (λ way n. (
-        λ r.
-          let h = (a.3 way n).0 r in
-          let s = (shelved.wired.readers q g0 k0 way n).0 h.0 in
-          record { whole = s.whole; reads = s.reads; stands = keep s.whole n s.stands (λ same. h.1 (subst (Reads g0.expr way) (sym (its s.whole n same s.stands)) s.reads) same) },
-        λ r. (a.3 way n).1 ((shelved.wired.readers q g0 k0 way n).1 (record { whole = r.whole; reads = r.reads; stands = back r.whole n r.stands }), λ reads same. apart r.whole n r.stands same))))
+          λ r.
+              let h = (a.3 way n).0 r in
+              let s = (shelved.wired.readers q g0 k0 way n).0 h.0 in
+              record { whole = s.whole; reads = s.reads; stands = keep s.whole n s.stands (λ same. h.1 (subst (Reads g0.expr way) (sym (its s.whole n same s.stands)) s.reads) same) },
+          λ r. (a.3 way n).1 ((shelved.wired.readers q g0 k0 way n).1 (record { whole = r.whole; reads = r.reads; stands = back r.whole n r.stands }), λ reads same. apart r.whole n r.stands same),
+        )))
 
     knows_all : (q : ℕ) (g : File) → lookup (nat_eq q) f2 ≡ Some g → KnowsReaders less g.readers g.expr
     knows_all q g k =
@@ -93,12 +94,13 @@ module _ (f0 : List (ℕ × File)) (n0 : List (Expr × ℕ)) (s0 : Scans) (shelv
 
     scans_all : (source : List ℕ) (n : ℕ) → IsScanIn s1 source n ↔ IsScanOf less source n
     scans_all source n =
-        let k = scans_known (shown f0) s0 source (shelved.wired.scans source) n in
-        (λ i.
-          let h = (loses source n).0 i in
-          let s = k.0 h.0 in
-          record { shape = s.shape; stands = keep (Scan source s.shape) n s.stands (λ same. h.1 (record { shape = s.shape; is = its (Scan source s.shape) n same s.stands }) same) },
-        λ s. (loses source n).1 (k.1 (record { shape = s.shape; stands = back (Scan source s.shape) n s.stands }), λ scans same. apart (Scan source s.shape) n s.stands same))
+        let k = scans_known (shown f0) s0 source (shelved.wired.scans source) n in (
+          λ i.
+              let h = (loses source n).0 i in
+              let s = k.0 h.0 in
+              record { shape = s.shape; stands = keep (Scan source s.shape) n s.stands (λ same. h.1 (record { shape = s.shape; is = its (Scan source s.shape) n same s.stands }) same) },
+          λ s. (loses source n).1 (k.1 (record { shape = s.shape; stands = back (Scan source s.shape) n s.stands }), λ scans same. apart (Scan source s.shape) n s.stands same),
+        )
 
     pub shelved_less : IsShelved f2 n1 s1
     shelved_less = record {

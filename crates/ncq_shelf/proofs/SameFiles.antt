@@ -61,9 +61,10 @@ module _ (old new : List (ℕ × File)) (there : HaveSame old new) (back : HaveS
   wired_same scans wired = record {
     readers = λ number file at reading n.
         let h = back number file at in
-        let k = wired.readers number h.file h.at reading n in
-        (λ is. subst (λ e. ReadsSo (shown new) e reading n) h.expr (reads_there h.file.expr reading n (k.0 (subst (λ t. IsReader t reading n) (sym h.readers) is))),
-        λ r. subst (λ t. IsReader t reading n) h.readers (k.1 (reads_back h.file.expr reading n (subst (λ e. ReadsSo (shown new) e reading n) (sym h.expr) r))));
+        let k = wired.readers number h.file h.at reading n in (
+          λ is. subst (λ e. ReadsSo (shown new) e reading n) h.expr (reads_there h.file.expr reading n (k.0 (subst (λ t. IsReader t reading n) (sym h.readers) is))),
+          λ r. subst (λ t. IsReader t reading n) h.readers (k.1 (reads_back h.file.expr reading n (subst (λ e. ReadsSo (shown new) e reading n) (sym h.expr) r))),
+        );
     scans = λ source. record {
       known = λ tables at n.
           let k = (wired.scans source).known tables at n in

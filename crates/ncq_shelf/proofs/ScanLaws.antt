@@ -73,7 +73,8 @@ module _ (old new : Scans) (source : List ℕ) (others : (q : List ℕ) → q �
     λ s. elim s as (λ _. IsScanIn new source n) [
       | inl i ↦ (after n).1 (g.kept joined n ((before n).0 i))
       | inr p ↦ (after n).1 (subst (λ m. IsReader w joined m) (sym p.1) g.here)
-    ])
+    ],
+  )
 
   pub gains_scan : Gains t joined number w → GainsScan old (λ q. q ≡ source) number new
   gains_scan g q n = elim (which q source) as (λ _. IsScanIn new q n ↔ (IsScanIn old q n ⊎ ((q ≡ source) × (n ≡ number)))) [
@@ -84,7 +85,8 @@ module _ (old new : Scans) (source : List ℕ) (others : (q : List ℕ) → q �
   loses_here : Loses t joined number w → (q : List ℕ) (n : ℕ) → q ≡ source → IsScanIn new q n ↔ (IsScanIn old q n × (q ≡ source → n ≡ number → ⊥))
   loses_here l q n same = subst (λ (s : List ℕ). IsScanIn new s n ↔ (IsScanIn old s n × (s ≡ source → n ≡ number → ⊥))) (sym same) (
     λ i. ((before n).1 (l.only joined n ((after n).0 i)), λ _ e. l.gone (subst (λ m. IsReader w joined m) e ((after n).0 i))),
-    λ p. elim (l.kept joined n ((before n).0 p.0)) as (λ _. IsScanIn new source n) [ inl b ↦ (after n).1 b | inr x ↦ absurd (p.1 refl x.1) ])
+    λ p. elim (l.kept joined n ((before n).0 p.0)) as (λ _. IsScanIn new source n) [ inl b ↦ (after n).1 b | inr x ↦ absurd (p.1 refl x.1) ],
+  )
 
   pub loses_scan : Loses t joined number w → LosesScan old (λ q. q ≡ source) number new
   loses_scan l q n = elim (which q source) as (λ _. IsScanIn new q n ↔ (IsScanIn old q n × (q ≡ source → n ≡ number → ⊥))) [
@@ -103,12 +105,14 @@ module _ (whole : Expr) (source : List ℕ) (shape : Shape) (is : whole ≡ Scan
   pub gains_by : (old new : Scans) (number : ℕ) → GainsScan old (λ q. q ≡ source) number new → GainsScan old (λ q. ScansSource q whole) number new
   gains_by old new number g q n = (
     λ i. elim ((g q n).0 i) as (λ _. IsScanIn old q n ⊎ (ScansSource q whole × (n ≡ number))) [ inl b ↦ inl b | inr p ↦ inr (scans_it q p.0, p.1) ],
-    λ s. elim s as (λ _. IsScanIn new q n) [ inl b ↦ (g q n).1 (inl b) | inr p ↦ (g q n).1 (inr (source_is q p.0, p.1)) ])
+    λ s. elim s as (λ _. IsScanIn new q n) [ inl b ↦ (g q n).1 (inl b) | inr p ↦ (g q n).1 (inr (source_is q p.0, p.1)) ],
+  )
 
   pub loses_by : (old new : Scans) (number : ℕ) → LosesScan old (λ q. q ≡ source) number new → LosesScan old (λ q. ScansSource q whole) number new
   loses_by old new number l q n = (
     λ i. let h = (l q n).0 i in (h.0, λ s e. h.1 (source_is q s) e),
-    λ p. (l q n).1 (p.0, λ e x. p.1 (scans_it q e) x))
+    λ p. (l q n).1 (p.0, λ e x. p.1 (scans_it q e) x),
+  )
 
 -- where the expression scans no source
 module _ (old : Scans) (whole : Expr) (number : ℕ) (nothing : (source : List ℕ) → ScansSource source whole → ⊥) where

@@ -77,7 +77,8 @@ module _ (old new : List (ℕ × File)) (at : ℕ) (file : File) (here : lookup 
       λ s. elim s as (λ _. IsReader tables way n) [
         | inl b ↦ g.kept way n b
         | inr p ↦ subst (λ m. IsReader tables way m) (sym p.1) (subst (λ w. IsReader tables w number) (sym p.0.1) g.here)
-      ])
+      ],
+    )
 
     more_there : (q : ℕ) → q ≢ at → (t : ReaderTables) → More (is_at at reading q) number t t
     more_there q differs t way n = (λ i. inl i, λ s. elim s as (λ _. IsReader t way n) [ inl b ↦ b | inr p ↦ absurd (differs p.0.0) ])
@@ -88,7 +89,8 @@ module _ (old new : List (ℕ × File)) (at : ℕ) (file : File) (here : lookup 
     less_here : Loses file.readers reading number tables → Less (is_at at reading at) number file.readers tables
     less_here l way n = (
       λ i. (l.only way n i, λ a e. l.gone (subst (λ m. IsReader tables reading m) e (subst (λ w. IsReader tables w n) a.1 i))),
-      λ p. elim (l.kept way n p.0) as (λ _. IsReader tables way n) [ inl b ↦ b | inr x ↦ absurd (p.1 (refl, x.0) x.1) ])
+      λ p. elim (l.kept way n p.0) as (λ _. IsReader tables way n) [ inl b ↦ b | inr x ↦ absurd (p.1 (refl, x.0) x.1) ],
+    )
 
     less_there : (q : ℕ) → q ≢ at → (t : ReaderTables) → Less (is_at at reading q) number t t
     less_there q differs t way n = (λ i. (i, λ a e. differs a.0), λ p. p.0)
@@ -116,14 +118,15 @@ module _ (old mid new : List (ℕ × File)) where
     enrolls_both one two = record {
       there = chained (λ q. More (is_at left reading q) number) (λ q. More (is_at right reading q) number) (λ q. More (is_at_either left right reading q) number) one.there two.there
           (λ q f k b c x y way n. (
-          λ i. elim ((y way n).0 i) as (λ _. IsReader f.readers way n ⊎ (is_at_either left right reading q way × (n ≡ number))) [
-            | inl h ↦ elim ((x way n).0 h) as (λ _. IsReader f.readers way n ⊎ (is_at_either left right reading q way × (n ≡ number))) [ inl g ↦ inl g | inr p ↦ inr (inl p.0, p.1) ]
-            | inr p ↦ inr (inr p.0, p.1)
-          ],
-          λ s. elim s as (λ _. IsReader c way n) [
-            | inl h ↦ (y way n).1 (inl ((x way n).1 (inl h)))
-            | inr p ↦ elim p.0 as (λ _. IsReader c way n) [ inl u ↦ (y way n).1 (inl ((x way n).1 (inr (u, p.1)))) | inr u ↦ (y way n).1 (inr (u, p.1)) ]
-          ]));
+            λ i. elim ((y way n).0 i) as (λ _. IsReader f.readers way n ⊎ (is_at_either left right reading q way × (n ≡ number))) [
+              | inl h ↦ elim ((x way n).0 h) as (λ _. IsReader f.readers way n ⊎ (is_at_either left right reading q way × (n ≡ number))) [ inl g ↦ inl g | inr p ↦ inr (inl p.0, p.1) ]
+              | inr p ↦ inr (inr p.0, p.1)
+            ],
+            λ s. elim s as (λ _. IsReader c way n) [
+              | inl h ↦ (y way n).1 (inl ((x way n).1 (inl h)))
+              | inr p ↦ elim p.0 as (λ _. IsReader c way n) [ inl u ↦ (y way n).1 (inl ((x way n).1 (inr (u, p.1)))) | inr u ↦ (y way n).1 (inr (u, p.1)) ]
+            ],
+          ));
       none = λ q h. two.none q (one.none q h);
     }
 
@@ -131,11 +134,12 @@ module _ (old mid new : List (ℕ × File)) where
     strikes_both one two = record {
       there = chained (λ q. Less (is_at left reading q) number) (λ q. Less (is_at right reading q) number) (λ q. Less (is_at_either left right reading q) number) one.there two.there
           (λ q f k b c x y way n. (
-          λ i.
-              let h = (y way n).0 i in
-              let g = (x way n).0 h.0 in
-              (g.0, λ u e. elim u as (λ _. ⊥) [ inl v ↦ g.1 v e | inr v ↦ h.1 v e ]),
-          λ p. (y way n).1 ((x way n).1 (p.0, λ u e. p.1 (inl u) e), λ u e. p.1 (inr u) e)));
+            λ i.
+                let h = (y way n).0 i in
+                let g = (x way n).0 h.0 in
+                (g.0, λ u e. elim u as (λ _. ⊥) [ inl v ↦ g.1 v e | inr v ↦ h.1 v e ]),
+            λ p. (y way n).1 ((x way n).1 (p.0, λ u e. p.1 (inl u) e), λ u e. p.1 (inr u) e),
+          ));
       none = λ q h. two.none q (one.none q h);
     }
 
@@ -147,10 +151,11 @@ module _ (old mid kept new : List (ℕ × File)) (left number : ℕ) (unread : (
         (chained mid kept new (λ _. Same) (λ q. Less (is_at left joined q) number) (λ q. Less (is_at left joined q) number) two.there three.there
         (λ q f k b c x y way n. (λ i. let h = (y way n).0 i in ((x way n).0 h.0, h.1), λ p. (y way n).1 ((x way n).1 p.0, p.1))))
         (λ q f k b c x y way n. (
-        λ i.
-            let h = (y way n).0 i in
-            elim ((x way n).0 h.0) as (λ _. IsReader f.readers way n) [ inl g ↦ g | inr p ↦ absurd (h.1 p.0 p.1) ],
-        λ g. (y way n).1 ((x way n).1 (inl g), λ u e. unread q f k (subst (λ m. IsReader f.readers joined m) e (subst (λ w. IsReader f.readers w n) u.1 g)))));
+          λ i.
+              let h = (y way n).0 i in
+              elim ((x way n).0 h.0) as (λ _. IsReader f.readers way n) [ inl g ↦ g | inr p ↦ absurd (h.1 p.0 p.1) ],
+          λ g. (y way n).1 ((x way n).1 (inl g), λ u e. unread q f k (subst (λ m. IsReader f.readers joined m) e (subst (λ w. IsReader f.readers w n) u.1 g))),
+        ));
     none = λ q h. three.none q (two.none q (one.none q h));
   }
 
@@ -160,20 +165,30 @@ module _ (old new : List (ℕ × File)) (reads : ℕ → Reading → Type 0) (wh
   pub enrolled : Enrolls old reads number new → IsEnrolled old whole number new
   enrolled e = record {
     there = λ q f k.
-        let a = e.there q f k in
-        (a.0, a.1, a.2, λ way n. (
-        λ i. elim ((a.3 way n).0 i) as (λ _. IsReader f.readers way n ⊎ (Reads f.expr way whole × (n ≡ number))) [ inl h ↦ inl h | inr p ↦ inr ((same q f way k).0 p.0, p.1) ],
-        λ s. elim s as (λ _. IsReader a.0.readers way n) [ inl h ↦ (a.3 way n).1 (inl h) | inr p ↦ (a.3 way n).1 (inr ((same q f way k).1 p.0, p.1)) ]));
+        let a = e.there q f k in (
+          a.0,
+          a.1,
+          a.2,
+          λ way n. (
+            λ i. elim ((a.3 way n).0 i) as (λ _. IsReader f.readers way n ⊎ (Reads f.expr way whole × (n ≡ number))) [ inl h ↦ inl h | inr p ↦ inr ((same q f way k).0 p.0, p.1) ],
+            λ s. elim s as (λ _. IsReader a.0.readers way n) [ inl h ↦ (a.3 way n).1 (inl h) | inr p ↦ (a.3 way n).1 (inr ((same q f way k).1 p.0, p.1)) ],
+          ),
+        );
     none = e.none;
   }
 
   pub struck : Strikes old reads number new → IsStruck old whole number new
   struck e = record {
     there = λ q f k.
-        let a = e.there q f k in
-        (a.0, a.1, a.2, λ way n. (
-        λ i. let h = (a.3 way n).0 i in (h.0, λ u x. h.1 ((same q f way k).1 u) x),
-        λ p. (a.3 way n).1 (p.0, λ u x. p.1 ((same q f way k).0 u) x)));
+        let a = e.there q f k in (
+          a.0,
+          a.1,
+          a.2,
+          λ way n. (
+            λ i. let h = (a.3 way n).0 i in (h.0, λ u x. h.1 ((same q f way k).1 u) x),
+            λ p. (a.3 way n).1 (p.0, λ u x. p.1 ((same q f way k).0 u) x),
+          ),
+        );
     none = e.none;
   }
 
@@ -194,10 +209,15 @@ module _ (old : List (ℕ × File)) (whole : Expr) (number : ℕ) (nothing : (in
   pub alike_nowhere : (new : List (ℕ × File)) → IsEnrolled old whole number new → AreAlike old new
   alike_nowhere new e = record {
     there = λ q f k.
-        let a = e.there q f k in
-        (a.0, a.1, a.2, λ way n. (
-        λ i. elim ((a.3 way n).0 i) as (λ _. IsReader f.readers way n) [ inl h ↦ h | inr p ↦ absurd (nothing f.expr way p.0) ],
-        λ h. (a.3 way n).1 (inl h)));
+        let a = e.there q f k in (
+          a.0,
+          a.1,
+          a.2,
+          λ way n. (
+            λ i. elim ((a.3 way n).0 i) as (λ _. IsReader f.readers way n) [ inl h ↦ h | inr p ↦ absurd (nothing f.expr way p.0) ],
+            λ h. (a.3 way n).1 (inl h),
+          ),
+        );
     none = e.none;
   }
 

@@ -22,9 +22,10 @@ pub(crate) fn cut_all(files: &mut IndexMap<u64, File>, change: u64)
 /// Takes them away from the file at this place.
 fn cut_at(files: &mut IndexMap<u64, File>, at: usize, change: u64)
     requires within { at < length files.old.entries }
-    requires base { (number : ℕ) (file : a_file) → slice_get files.old.entries at ≡ Some (number, file)
-        → file.content.base ≤ change }
-    ensures { (number : ℕ) (file : a_file) → slice_get files.old.entries at ≡ Some (number, file)
+    requires base { (number : ℕ) (file : a_file)
+        → slice_get files.old.entries at ≡ Some (number, file) → file.content.base ≤ change }
+    ensures { (number : ℕ) (file : a_file)
+        → slice_get files.old.entries at ≡ Some (number, file)
         → files.new ≡ with_value_at files.old at (cut_file change file) }
 {
     let (_, file) = files.pair_mut(at);

@@ -53,12 +53,7 @@ pub(crate) fn enroll(
 
 /// The files that the expression reads know the number as that of a reader no more. It takes no
 /// memory.
-pub(crate) fn strike(
-    files: &mut IndexMap<u64, File>,
-    expr: &Expr,
-    inputs: Inputs,
-    number: u64,
-)
+pub(crate) fn strike(files: &mut IndexMap<u64, File>, expr: &Expr, inputs: Inputs, number: u64)
     requires inputs { AreInputs (shown files.old.entries) expr.now inputs }
     requires one { OneEach files.old.entries }
     requires known { IsKnown files.old.entries expr.now number }
@@ -188,13 +183,7 @@ fn enroll_join(files: &mut IndexMap<u64, File>, at: u64, number: u64) -> Result<
 }
 
 /// The number selects no more of a file by the constant.
-fn strike_equal(
-    files: &mut IndexMap<u64, File>,
-    at: u64,
-    slot: usize,
-    constant: &Atom,
-    number: u64,
-)
+fn strike_equal(files: &mut IndexMap<u64, File>, at: u64, slot: usize, constant: &Atom, number: u64)
     requires there { HasFile files.old.entries at }
     requires known { (file : a_file) → lookup (nat_eq at) files.old.entries ≡ Some file
         → IsReader file.readers (equal slot constant.now) number }

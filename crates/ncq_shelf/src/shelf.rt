@@ -233,8 +233,8 @@ impl Shelf {
         file.content.ensure_index(alloc, slots)
     }
 
-    /// Makes a change the base of a file: it has then the rows that are left there, each as one that
-    /// is there from the base on. After an error all is as before.
+    /// Makes a change the base of a file: it has then the rows that are left there, each as one
+    /// that is there from the base on. After an error all is as before.
     pub fn compact(&mut self, alloc: Global, number: u64, change: u64) -> Result<(), AllocError>
         requires there { IsThere self.old number }
         requires base { (file : KeptFile) → get self.old number ≡ Some file
@@ -316,7 +316,8 @@ impl Shelf {
         let Some(file) = self.files.get(&input) else {
             unreachable!()
         };
-        file.readers.parcels(alloc, file.content.rows_since(change), steps)
+        file.readers
+            .parcels(alloc, file.content.rows_since(change), steps)
     }
 }
 

@@ -51,9 +51,11 @@ place-returns-clause-unread g t c =
 pub place-returns-clause-cost : goal.place-returns-clause-cost
 place-returns-clause-cost g t c =
     let p = c.in_ok-number.ensures.ok in
-    let i = c.in_ok-inputs.ensures.cost in
-    (i.0 ++ c.args.expr.now ∷ [], made_whole (world_in c.args.store.now) c.args.expr.now c.args.filed.now.shelf c.place_inputs.new.filed.shelf i.0 c.args.steps.now c.place_inputs.new.steps c.first_rows.new.steps c.place_inputs.ensures.grown.stays i.1 i.2 c.in_default.ensures c.first_rows.ensures.cost,
-    kept_whole c.args.expr.now c.place_inputs.new.filed.shelf c.put.new.filed.shelf i.0 (stays_mid c.args.store.now.changes (world_in c.args.store.now) c.args.expr.now c.args.filed.now.shelf c.args.filed.now.next c.place_inputs.new.filed.shelf c.place_inputs.new.filed.next c.put.new.filed.shelf (record { base = c.args.store.now.changes; rows = map (gained_at c.args.store.now.changes) c.in_ok-rows.rows }) (p.files ∙ (λ k. insert (c.first_rows.ensures.same k) c.place_inputs.new.filed.next (new_file c.args.expr.now (c.changes.ensures k) c.in_ok-rows.rows))) c.place_inputs.ensures.grown c.in_default.ensures) i.2 (c.place_inputs.new.filed.next, stands_added c.args.store.now.changes (world_in c.args.store.now) c.args.expr.now c.args.filed.now.shelf c.args.filed.now.next c.place_inputs.new.filed.shelf c.place_inputs.new.filed.next c.put.new.filed.shelf (record { base = c.args.store.now.changes; rows = map (gained_at c.args.store.now.changes) c.in_ok-rows.rows }) (p.files ∙ (λ k. insert (c.first_rows.ensures.same k) c.place_inputs.new.filed.next (new_file c.args.expr.now (c.changes.ensures k) c.in_ok-rows.rows))) c.place_inputs.ensures.grown c.in_default.ensures))
+    let i = c.in_ok-inputs.ensures.cost in (
+      i.0 ++ c.args.expr.now ∷ [],
+      made_whole (world_in c.args.store.now) c.args.expr.now c.args.filed.now.shelf c.place_inputs.new.filed.shelf i.0 c.args.steps.now c.place_inputs.new.steps c.first_rows.new.steps c.place_inputs.ensures.grown.stays i.1 i.2 c.in_default.ensures c.first_rows.ensures.cost,
+      kept_whole c.args.expr.now c.place_inputs.new.filed.shelf c.put.new.filed.shelf i.0 (stays_mid c.args.store.now.changes (world_in c.args.store.now) c.args.expr.now c.args.filed.now.shelf c.args.filed.now.next c.place_inputs.new.filed.shelf c.place_inputs.new.filed.next c.put.new.filed.shelf (record { base = c.args.store.now.changes; rows = map (gained_at c.args.store.now.changes) c.in_ok-rows.rows }) (p.files ∙ (λ k. insert (c.first_rows.ensures.same k) c.place_inputs.new.filed.next (new_file c.args.expr.now (c.changes.ensures k) c.in_ok-rows.rows))) c.place_inputs.ensures.grown c.in_default.ensures) i.2 (c.place_inputs.new.filed.next, stands_added c.args.store.now.changes (world_in c.args.store.now) c.args.expr.now c.args.filed.now.shelf c.args.filed.now.next c.place_inputs.new.filed.shelf c.place_inputs.new.filed.next c.put.new.filed.shelf (record { base = c.args.store.now.changes; rows = map (gained_at c.args.store.now.changes) c.in_ok-rows.rows }) (p.files ∙ (λ k. insert (c.first_rows.ensures.same k) c.place_inputs.new.filed.next (new_file c.args.expr.now (c.changes.ensures k) c.in_ok-rows.rows))) c.place_inputs.ensures.grown c.in_default.ensures),
+    )
 
 pub place_inputs-place-requires : goal.place_inputs-place-requires
 place_inputs-place-requires g t c κs within =
@@ -173,6 +175,8 @@ pub place_inputs-returns-in_ok-second-in-Join-clause-cost : goal.place_inputs-re
 place_inputs-returns-in_ok-second-in-Join-clause-cost g t c =
     let two = join_two c.args.expr.now c.get-in-Join.result.now c.get-in-Join-2.result.now c.in-Join.left c.in-Join.right c.in-Join.pairs c.in-Join.is c.get-in-Join.ensures c.get-in-Join-2.ensures in
     let i = c.in_ok-first-in-Join.ensures.cost in
-    let j = c.in_ok-second-in-Join.ensures.cost in
-    (i.0 ++ j.0, made_then (world_in c.args.store.now) c.args.expr.now c.args.filed.now.shelf c.place-in-Join.new.filed.shelf i.0 j.0 c.args.steps.now c.place-in-Join.new.steps c.place-in-Join-2.new.steps c.place-in-Join.ensures.grown.stays (made_within (world_in c.args.store.now) c.get-in-Join.result.now c.args.expr.now c.args.filed.now.shelf i.0 c.args.steps.now c.place-in-Join.new.steps (parts_left c.args.expr.now c.get-in-Join.result.now _ two) i.1) i.2 (made_within (world_in c.args.store.now) c.get-in-Join-2.result.now c.args.expr.now c.place-in-Join.new.filed.shelf j.0 c.place-in-Join.new.steps c.place-in-Join-2.new.steps (parts_right c.args.expr.now c.get-in-Join.result.now c.get-in-Join-2.result.now two) j.1),
-    kept_both c.place-in-Join.new.filed.shelf c.place-in-Join-2.new.filed.shelf i.0 j.0 c.place-in-Join-2.ensures.grown.stays i.2 j.2)
+    let j = c.in_ok-second-in-Join.ensures.cost in (
+      i.0 ++ j.0,
+      made_then (world_in c.args.store.now) c.args.expr.now c.args.filed.now.shelf c.place-in-Join.new.filed.shelf i.0 j.0 c.args.steps.now c.place-in-Join.new.steps c.place-in-Join-2.new.steps c.place-in-Join.ensures.grown.stays (made_within (world_in c.args.store.now) c.get-in-Join.result.now c.args.expr.now c.args.filed.now.shelf i.0 c.args.steps.now c.place-in-Join.new.steps (parts_left c.args.expr.now c.get-in-Join.result.now _ two) i.1) i.2 (made_within (world_in c.args.store.now) c.get-in-Join-2.result.now c.args.expr.now c.place-in-Join.new.filed.shelf j.0 c.place-in-Join.new.steps c.place-in-Join-2.new.steps (parts_right c.args.expr.now c.get-in-Join.result.now c.get-in-Join-2.result.now two) j.1),
+      kept_both c.place-in-Join.new.filed.shelf c.place-in-Join-2.new.filed.shelf i.0 j.0 c.place-in-Join-2.ensures.grown.stays i.2 j.2,
+    )

@@ -43,8 +43,12 @@ returns-clause-ok c =
     let same : (state : KeptFile) → get c.args.self.now c.args.number ≡ Some state → state_of file ≡ state = λ state at.
     one_value (shown_at c.self.inside.files.entries c.args.number file (sym c.in-Some.ensures.value)) (subst (λ f. get f c.args.number ≡ Some state) (sym c.self.view_is) at) in
     compacted c.compact.result c.args.change file.content c.compact.new.self c.compact.ensures.base c.compact.ensures.gains c.compact.ensures.content c.compact.ensures.stays
-    (λ is state at. (state_of w, written ∙ (λ i. insert (c.self.view_is i) c.args.number (state_of w)), subst (λ (s : KeptFile). IsCompacted c.args.change s (state_of w)) (same state at)
-    (record { expr = refl; uses = refl; base = is.base; gains = is.gains; content = is.content; stays = is.stays })))
+    (λ is state at. (
+      state_of w,
+      written ∙ (λ i. insert (c.self.view_is i) c.args.number (state_of w)),
+      subst (λ (s : KeptFile). IsCompacted c.args.change s (state_of w)) (same state at)
+          (record { expr = refl; uses = refl; base = is.base; gains = is.gains; content = is.content; stays = is.stays }),
+    ))
 
 pub returns-clause-err : goal.returns-clause-err
 returns-clause-err c =

@@ -1,0 +1,10 @@
+use Rattle.ncq_change.specs.Stores.{world_in}
+use Rattle.ncq_shelf.specs.Contents.{Fits}
+use Rattle.ncq_group.proofs.TestLaws.{AreUses}
+use Rattle.ncq_group.proofs.tests.are_kept.Given as goal
+
+abbrev pub invariant-loop-letter : goal.invariant-loop-letter
+invariant-loop-letter g l = record {
+  fits : Fits l.table.number (world_in l.store) l.table.files;
+  uses : AreUses l.table.files l.used.items;
+}
