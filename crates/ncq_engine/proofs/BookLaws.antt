@@ -1,6 +1,6 @@
 -- What the book tells at a change and at a move of the clock, against the members.
-use Rattle.std.proofs.Common.{◌≡◌, ℕ, ◌+◌, ◌==◌, ◌||◌, Bool, true, false, cond, List, [], ◌∷◌, ◌++◌, map, length, refl, sym, ◌∙◌, ap, subst}
-use Rattle.std.specs.Prelude.{Option, Some, None, nat_lt, is_some, IsSome, if◌then◌else◌}
+use Rattle.std.proofs.Common.{◌≡◌, ℕ, ◌+◌, ◌<◌, ◌==◌, ◌||◌, Bool, true, false, cond, List, [], ◌∷◌, ◌++◌, map, length, refl, sym, ◌∙◌, ap, subst}
+use Rattle.std.specs.Prelude.{Option, Some, None, nat_le, nat_lt, is_some, IsSome, if◌then◌else◌}
 use Rattle.std.specs.List.{filter, flat_map, list_any, AllByRecursion}
 use Rattle.ncq_base.specs.Keys.{times}
 use Rattle.ncq_book.specs.declared.member.Member.{Member}
@@ -9,39 +9,47 @@ use Rattle.ncq_callback.specs.Labels.{Label}
 use Rattle.ncq_event.specs.declared.firing.Firing.{Firing}
 use Rattle.ncq_event.specs.Calendars.{due_firings}
 use Rattle.ncq_event.specs.Orders.{ordered, ordered_by, placed_by, is_before}
+use Rattle.ncq_shelf.specs.KeptFiles.{Files}
 use Rattle.ncq_source.specs.StoreStates.{StoreState, found}
-use Rattle.ncq_engine.specs.declared.telling.News.{News}
-use Rattle.ncq_engine.specs.Engines.{CanFire, FiresIf, HasTopics, Pairwise, Told, changed_text, is_told_change, moved_instant, moved_told}
-use Rattle.ncq_engine.specs.Tellings.{IsNews, firing_text, is_news_at, noted_by, started_at}
+use Rattle.ncq_engine.specs.Engines.{HasTopics, Told, fired_if, moved_instant}
+use Rattle.ncq_engine.specs.Tellings.{firing_text, has_started, is_news_at, noted_by, started_at}
 use Rattle.ncq_engine.proofs.ByInstall.{fires_each, fires_found, firings_of, found_each}
-use Rattle.ncq_engine.proofs.ChangeLaws.{changed_instant, changed_texts, changed_times, some_if}
-use Rattle.ncq_engine.proofs.FiringLaws.{change_firings, change_texts, change_times, move_firings, move_texts, move_times}
+use Rattle.ncq_engine.proofs.ChangeLaws.{changed_instant}
+use Rattle.ncq_engine.proofs.CreateLaws.{created_firings, created_instant}
+use Rattle.ncq_engine.proofs.FiringLaws.{change_firings, move_firings, move_texts, move_times, told_texts, told_times}
 use Rattle.ncq_engine.proofs.Lists.{each_more}
-use Rattle.ncq_engine.proofs.NotedLaws.{told_can, told_fire}
+use Rattle.ncq_engine.proofs.NotedLaws.{fired_members}
+use Rattle.ncq_engine.proofs.ToldLaws.{told_of}
 use Rattle.ncq_engine.proofs.TopicLaws.{watch_all}
 
+-- each firing of one that has started is that of a member
+pub started_there : (now : ℕ) (members : List Member) (installs : List ℕ) → AllByRecursion (λ f. IsSome (member_of f.install members)) (flat_map (started_at now members) installs)
+started_there now members [] = tt
+started_there now members (n ∷ more) = by (started_there now members more) (member_of n members) refl
+  where
+    by : AllByRecursion (λ f. IsSome (member_of f.install members)) (flat_map (started_at now members) more) → (o : Option Member) → member_of n members ≡ o
+        → AllByRecursion (λ f. IsSome (member_of f.install members)) ((if has_started now o then record { instant = now; install = n } ∷ [] else []) ++ flat_map (started_at now members) more)
+    by rest None e = rest
+    by rest (Some m) e =
+        elim (nat_le m.timing.start now) as (λ t. AllByRecursion (λ f. IsSome (member_of f.install members)) ((if t then record { instant = now; install = n } ∷ [] else []) ++ flat_map (started_at now members) more)) [
+          | true ↦ (subst IsSome (sym e) tt, rest)
+          | false ↦ rest
+        ]
+
 -- a change of the source at a place
-module _ (store : StoreState) (topic now : ℕ) (name : List ℕ) (members : List Member) (here : found store name ≡ Some topic) (rise : InstallsRise members) (watch : AllByRecursion (HasTopics store) members)
-    (watchers : List ℕ) (firings slice : List Firing) (w : watchers ≡ watchers_of topic members) (f : firings ≡ flat_map (started_at now members) watchers) (s : slice ≡ firings) where
-  change_is : slice ≡ firings_of (changed_instant name now) members
-  change_is = s ∙ change_firings topic now name members rise (watch_all store name topic here now members members watch) watchers firings w f
+module _ (store : StoreState) (topic now : ℕ) (name : List ℕ) (members : List Member) (here : found store name ≡ Some topic) (rise : InstallsRise members) (watch : AllByRecursion (HasTopics store) members) where
+  abbrev started : List Firing
+  started = flat_map (started_at now members) (watchers_of topic members)
 
-  pub change_there : AllByRecursion (λ f. IsSome (member_of f.install members)) slice
-  change_there = subst (AllByRecursion (λ f. IsSome (member_of f.install members))) (sym change_is) (fires_found (changed_instant name now) members members (found_each members rise))
+  change_is : started ≡ firings_of (changed_instant name now) members
+  change_is = change_firings topic now name members rise (watch_all store name topic here now members members watch) (watchers_of topic members) started refl refl
 
-  pub change_text : (labels : List Label) → flat_map (firing_text labels store members) slice ≡ flat_map (changed_text labels store name now) members
-  change_text labels = change_texts labels store members name now rise slice change_is ∙ sym (changed_texts labels store name now members)
+  pub change_text : (labels : List Label) (files : Files) → flat_map (firing_text labels store files members) started ≡ flat_map (λ (t : Told). t.text) (told_of labels store files (changed_instant name now) members)
+  change_text labels files = told_texts labels store files members (changed_instant name now) rise started change_is
 
-  pub change_time : (labels : List Label) → times (λ f. nat_lt 0 (length (firing_text labels store members f))) slice ≡ times (λ m. nat_lt 0 (length (changed_text labels store name now m))) members
-  change_time labels = change_times labels store members name now rise slice change_is ∙ sym (changed_times labels store name now members)
-
-  pub change_fired : (news : List News) → AllByRecursion (IsNews store members) news → map (λ n. n.install) news ≡ map (λ f. f.install) slice
-      → Pairwise (λ old new. FiresIf (is_told_change name now old) store old new) members (noted_by store.changes news members)
-  change_fired news are same = told_fire store (is_told_change name now) members news slice rise are same
-      (subst (λ (fs : List Firing). AllByRecursion (λ m. list_any (λ f. f.install == m.install) fs ≡ is_told_change name now m) members) (sym change_is)
-      (each_more (λ m. list_any (λ f. f.install == m.install) (firings_of (changed_instant name now) members) ≡ is_some (changed_instant name now m))
-      (λ m. list_any (λ f. f.install == m.install) (firings_of (changed_instant name now) members) ≡ is_told_change name now m)
-      (λ m e. e ∙ some_if (is_told_change name now m) now) members (fires_each (changed_instant name now) members rise)))
+  pub change_time : (labels : List Label) (files : Files) → times (λ f. nat_lt 0 (length (firing_text labels store files members f))) started
+      ≡ times (λ (t : Told). nat_lt 0 (length t.text)) (told_of labels store files (changed_instant name now) members)
+  change_time labels files = told_times labels store files members (changed_instant name now) rise started change_is
 
 any_placed : (test : Firing → Bool) (x : Firing) (xs : List Firing) → list_any test (placed_by (λ f. f) x xs) ≡ (test x || list_any test xs)
 any_placed test x [] = refl
@@ -78,16 +86,46 @@ module _ (store : StoreState) (now to : ℕ) (members : List Member) (rise : Ins
   move_there = subst (AllByRecursion (λ f. IsSome (member_of f.install members))) (sym move_is)
       (each_ordered (λ f. IsSome (member_of f.install members)) (firings_of (moved_instant store now to) members) (fires_found (moved_instant store now to) members members (found_each members rise)))
 
-  pub move_text : (labels : List Label) → flat_map (firing_text labels store members) slice ≡ flat_map (λ (t : Told). t.text) (ordered_by (λ (t : Told). t.firing) (flat_map (moved_told labels store now to) members))
-  move_text labels = move_texts labels store members now to rise slice move_is
+  pub move_text : (labels : List Label) (files : Files) → flat_map (firing_text labels store files members) slice
+      ≡ flat_map (λ (t : Told). t.text) (ordered_by (λ (t : Told). t.firing) (told_of labels store files (moved_instant store now to) members))
+  move_text labels files = move_texts labels store files members now to rise slice move_is
 
-  pub move_time : (labels : List Label) → times (λ f. nat_lt 0 (length (firing_text labels store members f))) slice ≡ times (λ (t : Told). nat_lt 0 (length t.text)) (flat_map (moved_told labels store now to) members)
-  move_time labels = move_times labels store members now to rise slice move_is
+  pub move_time : (labels : List Label) (files : Files) → times (λ f. nat_lt 0 (length (firing_text labels store files members f))) slice
+      ≡ times (λ (t : Told). nat_lt 0 (length t.text)) (told_of labels store files (moved_instant store now to) members)
+  move_time labels files = move_times labels store files members now to rise slice move_is
 
-  pub move_fired : (news : List News) → AllByRecursion (IsNews store members) news → map (λ n. n.install) news ≡ map (λ f. f.install) slice
-      → Pairwise (λ old new. FiresIf (is_some (moved_instant store now to old)) store old new) members (noted_by store.changes news members)
-  move_fired news are same = told_fire store (λ m. is_some (moved_instant store now to m)) members news slice rise are same
+  -- those that are told are noted
+  pub move_fired : noted_by store.changes slice members ≡ map (λ m. fired_if (is_some (moved_instant store now to m)) store m) members
+  move_fired = fired_members store (λ m. is_some (moved_instant store now to m)) slice members
       (subst (λ (fs : List Firing). AllByRecursion (λ m. list_any (λ f. f.install == m.install) fs ≡ is_some (moved_instant store now to m)) members) (sym move_is)
       (each_more (λ m. list_any (λ f. f.install == m.install) (firings_of (moved_instant store now to) members) ≡ is_some (moved_instant store now to m))
       (λ m. list_any (λ f. f.install == m.install) (ordered (firings_of (moved_instant store now to) members)) ≡ is_some (moved_instant store now to m))
       (λ m e. any_ordered (λ f. f.install == m.install) (firings_of (moved_instant store now to) members) ∙ e) members (fires_each (moved_instant store now to) members rise)))
+
+-- a create of the last member
+module _ (store : StoreState) (now : ℕ) (olds : List Member) (made : Member) (rise : InstallsRise (olds ++ made ∷ [])) (below : AllByRecursion (λ n. n.install < made.install) olds)
+    (installs : List ℕ) (firings slice : List Firing) (n : installs ≡ made.install ∷ []) (f : firings ≡ flat_map (started_at now (olds ++ made ∷ [])) installs) (s : slice ≡ firings) where
+  abbrev all : List Member
+  all = olds ++ made ∷ []
+
+  abbrev instant : Member → Option ℕ
+  instant = created_instant now made.install
+
+  create_is : slice ≡ firings_of instant all
+  create_is = s ∙ f ∙ ap (flat_map (started_at now all)) n ∙ created_firings now olds made below
+
+  pub create_there : AllByRecursion (λ f. IsSome (member_of f.install (olds ++ made ∷ []))) slice
+  create_there = subst (AllByRecursion (λ f. IsSome (member_of f.install all))) (sym create_is) (fires_found instant all all (found_each all rise))
+
+  pub create_text : (labels : List Label) (files : Files) → flat_map (firing_text labels store files (olds ++ made ∷ [])) slice
+      ≡ flat_map (λ (t : Told). t.text) (told_of labels store files (created_instant now made.install) (olds ++ made ∷ []))
+  create_text labels files = told_texts labels store files all instant rise slice create_is
+
+  pub create_time : (labels : List Label) (files : Files) → times (λ f. nat_lt 0 (length (firing_text labels store files (olds ++ made ∷ []) f))) slice
+      ≡ times (λ (t : Told). nat_lt 0 (length t.text)) (told_of labels store files (created_instant now made.install) (olds ++ made ∷ []))
+  create_time labels files = told_times labels store files all instant rise slice create_is
+
+  -- it is noted where it is told
+  pub create_fired : noted_by store.changes slice (olds ++ made ∷ []) ≡ map (λ m. fired_if (is_some (created_instant now made.install m)) store m) (olds ++ made ∷ [])
+  create_fired = fired_members store (λ m. is_some (instant m)) slice all
+      (subst (λ (fs : List Firing). AllByRecursion (λ m. list_any (λ f. f.install == m.install) fs ≡ is_some (instant m)) all) (sym create_is) (fires_each instant all rise))

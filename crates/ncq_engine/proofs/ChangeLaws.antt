@@ -25,14 +25,16 @@ use Rattle.ncq_source.specs.Stores.{Source as Declared, without_room}
 use Rattle.ncq_source.specs.StoreStates.{StoreState, IsCommitted, TellsChange, found, names}
 use Rattle.ncq_source.proofs.Folds.{fold_of_entries}
 use Rattle.ncq_book.specs.declared.member.Member.{Member}
-use Rattle.ncq_engine.specs.Engines.{Told}
-use Rattle.ncq_engine.specs.Engines.{CanFire, FiresIf, Pairwise, changed_text, is_told_change, last_in, rows_over, told_at, told_text}
+use Rattle.ncq_feed.specs.Feeds.{AreFed}
+use Rattle.ncq_group.specs.Tables.{TableState}
+use Rattle.ncq_shelf.specs.Contents.{AreUpTo, Fits}
+use Rattle.ncq_engine.specs.Engines.{CanTell, Pairwise, Told, is_told_change, last_in}
 use Rattle.ncq_engine.specs.Firing.{fires, is_installed, is_told_of, sources_of}
 use Rattle.ncq_engine.specs.History.{History, Subscription, changes, creates, creates as creates_of, last_change, live, now, source_in, sources, with_items, world}
 use Rattle.ncq_engine.specs.Languages.{language_of}
 use Rattle.ncq_engine.specs.Notices.{firings, notice_at, told}
 use Rattle.ncq_engine.specs.Output.{delta_refusal, notices, trial_refusal}
-use Rattle.ncq_engine.specs.Stands.{EngineState, Keeps, Stands, content_of}
+use Rattle.ncq_engine.specs.Stands.{AreContents, EngineState, Follows, Keeps, content_of}
 use Rattle.ncq_source.specs.Changes.{Trial}
 use Rattle.ncq_source.specs.declared.change.Entry.{Entry}
 use Rattle.ncq_engine.specs.declared.engine.Applied.{Applied}
@@ -40,16 +42,17 @@ use Rattle.ncq_engine.specs.declared.engine.ApplyError.{ApplyError}
 use Rattle.ncq_engine.specs.declared.engine.ApplyError.TheVariants.{Refused}
 use Rattle.ncq_engine.specs.Applies.{Applies, change_refusal, ok_text, refused_change}
 use Rattle.ncq_engine.proofs.CommandLaws.{engine, place}
-use Rattle.ncq_engine.proofs.EngineLaws.{accepts, gives_up, refuses}
-use Rattle.ncq_engine.proofs.RollLaws.{pairwise_both}
+use Rattle.ncq_engine.proofs.ContentLaws.{contents_fed}
+use Rattle.ncq_engine.proofs.EngineLaws.{accepts, gives_up, refuses, rises_quietly}
 use Rattle.std.proofs.Common.{append_assoc}
 use Rattle.std.proofs.lemmas.List.{append-nil}
 use Rattle.std.specs.Prelude.{IfSome}
 use Rattle.ncq_engine.proofs.HistoryLaws.{Installed, installed}
-use Rattle.ncq_engine.proofs.Keeping.{Agrees, keep_all}
+use Rattle.ncq_engine.proofs.Keeping.{keeps_noted}
+use Rattle.ncq_engine.proofs.StartedLaws.{FiresFirst, all_fired, delta_notes}
 use Rattle.ncq_engine.proofs.Places.{is_found, moved_by, not_found, same_names}
 use Rattle.ncq_engine.proofs.StoreLaws.{last_alike, last_changed, last_unchanged}
-use Rattle.ncq_engine.proofs.ToldLaws.{live_rises, noticed, one_instant, order_stays, texts_of, times_of, told_list}
+use Rattle.ncq_engine.proofs.ToldLaws.{live_rises, noticed, one_instant, order_stays, tells_each, texts_of, times_of, told_list, told_of}
 use Rattle.ncq_engine.proofs.Worlds.{named, source_named_is, world_is}
 
 and_swap : (a b c : Bool) → (a && b && c) ≡ (a && c && b)
@@ -82,38 +85,18 @@ pub some_if : (b : Bool) (n : ℕ) → is_some (if b then Some n else None) ≡ 
 some_if true n = refl
 some_if false n = refl
 
--- so the test that the code makes agrees
-pub agree_each : (labels : List Label) (h : History) (command : Command) (name : List ℕ) (clock : ℕ) (subs : List Subscription) (ms : List Member)
-    → Pairwise (λ s m. Keeps labels h s m × (changed_instant name clock m ≡ fires s h command)) subs ms
-    → Pairwise (λ s m. Keeps labels h s m × Agrees (is_told_change name clock m) (fires s h command)) subs ms
-agree_each labels h command name clock [] [] p = tt
-agree_each labels h command name clock [] (m ∷ ms) p = absurd p
-agree_each labels h command name clock (s ∷ subs) [] p = absurd p
-agree_each labels h command name clock (s ∷ subs) (m ∷ ms) p =
-    ((p.0.0, sym (some_if (is_told_change name clock m) clock) ∙ ap is_some p.0.1), agree_each labels h command name clock subs ms p.1)
+-- the instant says whether
+pub some_if : (b : Bool) (n : ℕ) → is_some (if b then Some n else None) ≡ b
+some_if true n = refl
+some_if false n = refl
 
--- the texts that the code appends are those of what is told
-module _ (labels : List Label) (store : StoreState) (name : List ℕ) (clock : ℕ) where
-  abbrev pub changed_told : List Member → List Told
-  changed_told ms = flat_map (λ m. told_at labels store m (changed_instant name clock m)) ms
-
-  pub changed_texts : (ms : List Member) → flat_map (changed_text labels store name clock) ms ≡ flat_map (λ (t : Told). t.text) (changed_told ms)
-  changed_texts [] = refl
-  changed_texts (m ∷ ms) =
-      elim (is_told_change name clock m) as (λ t. (if t then told_text labels m clock (rows_over store m) else []) ++ flat_map (changed_text labels store name clock) ms
-      ≡ flat_map (λ (t : Told). t.text) (told_at labels store m (if t then Some clock else None) ++ changed_told ms)) [
-        | true ↦ ap (λ more. told_text labels m clock (rows_over store m) ++ more) (changed_texts ms)
-        | false ↦ changed_texts ms
-      ]
-
-  pub changed_times : (ms : List Member) → times (λ m. nat_lt 0 (length (changed_text labels store name clock m))) ms ≡ times (λ (t : Told). nat_lt 0 (length t.text)) (changed_told ms)
-  changed_times [] = refl
-  changed_times (m ∷ ms) =
-      elim (is_told_change name clock m) as (λ t. cond (nat_lt 0 (length (if t then told_text labels m clock (rows_over store m) else []))) 1 0 + times (λ m. nat_lt 0 (length (changed_text labels store name clock m))) ms
-      ≡ times (λ (t : Told). nat_lt 0 (length t.text)) (told_at labels store m (if t then Some clock else None) ++ changed_told ms)) [
-        | true ↦ ap (λ n. cond (nat_lt 0 (length (told_text labels m clock (rows_over store m)))) 1 0 + n) (changed_times ms)
-        | false ↦ zero-add (times (λ m. nat_lt 0 (length (changed_text labels store name clock m))) ms) ∙ changed_times ms
-      ]
+-- a change writes nothing down
+keep_noted : (labels : List Label) (h : History) (name : List ℕ) (items : List Item) (subs : List Subscription) (ms : List Member) → Pairwise (Keeps labels h) subs ms → AllByRecursion (FiresFirst h) subs
+    → Pairwise (Keeps labels (Delta name items ∷ h)) subs ms
+keep_noted labels h name items [] [] p f = tt
+keep_noted labels h name items [] (m ∷ ms) p f = absurd p
+keep_noted labels h name items (s ∷ subs) [] p f = absurd p
+keep_noted labels h name items (s ∷ subs) (m ∷ ms) p f = (keeps_noted labels h (Delta name items) s m p.0 (delta_notes s h name items f.0), keep_noted labels h name items subs ms p.1 f.1)
 
 fires_now : (h : History) (name : List ℕ) (items : List Item) (s : Subscription) (d : ℕ) → fires s h (Delta name items) ≡ Some d → d ≡ now h
 fires_now h name items s d e = by (is_installed s h && is_told_of name s h) e
@@ -151,12 +134,12 @@ found_at store name at here =
       is = sym (source_named_is store name) ∙ ap (option_and_then (slice_get store.sources)) here ∙ f.1;
     }
 
-module _ (store ready after_store : StoreState) (clock count creates : ℕ) (labels : List Label) (members : List Member) (name : List ℕ) (items : List Item) (change : ChangeState)
+module _ (store ready after_store : StoreState) (clock count creates : ℕ) (labels : List Label) (members : List Member) (table fed : TableState) (name : List ℕ) (items : List Item) (change : ChangeState)
     (here : found store name ≡ Some change.source.0) (alike : map without_room ready.sources ≡ map without_room store.sources) (as_many : ready.changes ≡ store.changes)
     (good : (d : Declared) → slice_get store.sources change.source.0 ≡ Some d → prepared d.key 1 d.elements items ≡ Good change.entries)
     (committed : IsCommitted ready change after_store) where
   abbrev old_engine : EngineState
-  old_engine = engine store clock count creates labels members
+  old_engine = engine store clock count creates labels members table
 
   at : ℕ
   at = change.source.0
@@ -171,7 +154,7 @@ module _ (store ready after_store : StoreState) (clock count creates : ℕ) (lab
   roomy : Found ready name change.source.0
   roomy = found_at ready name change.source.0 here_ready
 
-  module _ (h : History) (s : Stands old_engine h) where
+  module _ (h : History) (s : Follows old_engine h) where
     pub delta_allowed : delta_refusal items (source_in name (sources h)) ≡ None
     delta_allowed =
         ap (delta_refusal items) (ap (source_in name) (sym s.sources) ∙ is_found name store.sources change.source.0 before.source here before.there)
@@ -203,53 +186,63 @@ module _ (store ready after_store : StoreState) (clock count creates : ℕ) (lab
     firing : Pairwise (λ s m. Keeps labels h s m × (changed_instant name clock m ≡ fires s h (Delta name items))) (live h) members
     firing = fires_each labels h name items clock s.clock (live h) members s.members (installed h)
 
-    -- the engine with its members after the change
-    pub delta_stands : (news : List Member) → Pairwise (λ old new. FiresIf (is_told_change name clock old) after_store old new × CanFire labels new) members news
-        → Stands (engine after_store clock (count + 1) creates labels news) (Delta name items ∷ h)
-    delta_stands news fired = record {
+    -- the last changes as the store with room tells them
+    last_ready : (asked : List ℕ) → last_in ready asked ≡ last_change asked h
+    last_ready asked = last_alike store ready asked alike ∙ s.last asked
+
+    contents_are : AreFed ready change table.files fed.files → Fits (store.changes + 1) (world_in after_store) fed.files → AreContents fed.files (Delta name items ∷ h)
+    contents_are done fits =
+        contents_fed ready change table.files fed.files h (Delta name items) done (as_many ∙ s.changes) (let e : changes (Delta name items ∷ h) ≡ changes h + 1 = omega arith in e)
+        (subst (λ n. Fits n (world (sources (Delta name items ∷ h))) fed.files) (ap (λ n. n + 1) s.changes) (subst (λ w. Fits (store.changes + 1) w fed.files) (sym same_world) fits))
+        s.contents
+
+    -- the engine with its files after the change
+    pub delta_follows : AreContents fed.files (Delta name items ∷ h) → Follows (engine after_store clock (count + 1) creates labels members fed) (Delta name items ∷ h)
+    delta_follows contents = record {
       sources = sources_are;
       last = last_is;
       changes = changes_are;
       clock = s.clock;
       creates = s.creates ∙ sym (zero-add (creates_of h));
-      members = keep_all labels h (Delta name items) after_store same_world changes_are (is_told_change name clock) (live h) members news
-          (agree_each labels h (Delta name items) name clock (live h) members firing) fired;
+      members = keep_noted labels h name items (live h) members s.members (all_fired h);
+      contents = contents;
+      rising = rises_quietly h (Delta name items) refl s.rising;
     }
 
-    list_is : changed_told labels after_store name clock members ≡ map (noticed labels h (Delta name items) after_store same_world) (firings h (Delta name items))
-    list_is = told_list labels h (Delta name items) after_store same_world (changed_instant name clock) (live h) members firing
+    list_is : AreContents fed.files (Delta name items ∷ h) → AreUpTo (changes (Delta name items ∷ h)) fed.files → AllByRecursion (CanTell labels ready fed) members
+        → told_of labels ready fed.files (changed_instant name clock) members ≡ map (noticed labels h (Delta name items) ready fed.files) (firings h (Delta name items))
+    list_is contents upto can = told_list labels h (Delta name items) ready fed.files (changed_instant name clock) (live h) members
+        (tells_each labels h (Delta name items) ready fed last_ready s.rising contents upto (changed_instant name clock) (live h) members firing can)
 
     -- what is told, and how often
-    pub delta_texts : flat_map (changed_text labels after_store name clock) members ≡ notices (language_of labels) h (Delta name items)
-    delta_texts =
-        changed_texts labels after_store name clock members
-        ∙ ap (flat_map (λ (t : Told). t.text)) list_is
-        ∙ texts_of labels h (Delta name items) after_store same_world (firings h (Delta name items))
+    pub delta_texts : AreContents fed.files (Delta name items ∷ h) → AreUpTo (changes (Delta name items ∷ h)) fed.files → AllByRecursion (CanTell labels ready fed) members
+        → flat_map (λ (t : Told). t.text) (told_of labels ready fed.files (changed_instant name clock) members) ≡ notices (language_of labels) h (Delta name items)
+    delta_texts contents upto can =
+        ap (flat_map (λ (t : Told). t.text)) (list_is contents upto can)
+        ∙ texts_of labels h (Delta name items) ready fed.files (firings h (Delta name items))
         ∙ ap (flat_map (notice_at (language_of labels) h (Delta name items))) (sym (told_in_order h name items))
 
-    pub delta_times : times (λ m. nat_lt 0 (length (changed_text labels after_store name clock m))) members
+    pub delta_times : AreContents fed.files (Delta name items ∷ h) → AreUpTo (changes (Delta name items ∷ h)) fed.files → AllByRecursion (CanTell labels ready fed) members
+        → times (λ (t : Told). nat_lt 0 (length t.text)) (told_of labels ready fed.files (changed_instant name clock) members)
         ≡ times (λ f. nat_lt 0 (length (notice_at (language_of labels) h (Delta name items) f))) (told h (Delta name items))
-    delta_times =
-        changed_times labels after_store name clock members
-        ∙ ap (times (λ (t : Told). nat_lt 0 (length t.text))) list_is
-        ∙ times_of labels h (Delta name items) after_store same_world (firings h (Delta name items))
+    delta_times contents upto can =
+        ap (times (λ (t : Told). nat_lt 0 (length t.text))) (list_is contents upto can)
+        ∙ times_of labels h (Delta name items) ready fed.files (firings h (Delta name items))
         ∙ ap (times (λ f. nat_lt 0 (length (notice_at (language_of labels) h (Delta name items) f)))) (sym (told_in_order h name items))
 
   -- an accepted change, from what the calls give
-  pub change_accepted : (out out1 out' : List ℕ) (news olds : List Member) (known : List Label) (asked : List ℕ) (instant n : ℕ) (applied first : Applied)
-      → olds ≡ members → known ≡ labels → asked ≡ name → instant ≡ clock
-      → Pairwise (λ old new. FiresIf (is_told_change asked instant old) after_store old new) olds news → AllByRecursion (CanFire known) news
-      → out1 ≡ out ++ ok_text (count + 1) → out' ≡ out1 ++ flat_map (changed_text known after_store asked instant) olds
-      → n ≡ times (λ m. nat_lt 0 (length (changed_text known after_store asked instant m))) olds
+  pub change_accepted : AreFed ready change table.files fed.files → Fits (store.changes + 1) (world_in after_store) fed.files → AreUpTo (store.changes + 1) fed.files → AllByRecursion (CanTell labels ready fed) members
+      → (out out1 out' : List ℕ) (n : ℕ) (applied first : Applied)
+      → out1 ≡ out ++ ok_text (count + 1) → out' ≡ out1 ++ flat_map (λ (t : Told). t.text) (told_of labels ready fed.files (changed_instant name clock) members)
+      → n ≡ times (λ (t : Told). nat_lt 0 (length t.text)) (told_of labels ready fed.files (changed_instant name clock) members)
       → first ≡ record { from = length out1; to = length out1; notices = 0 } → applied ≡ record { from = first.from; to = length out'; notices = n }
-      → Applies old_engine (Delta name items) out (Ok applied) (engine after_store clock (count + 1) creates labels news) out'
-  change_accepted out out1 out' news olds known asked instant n applied first eo ek ea ec fired can line text counted first_is applied_is =
-      accepts old_engine (Delta name items) out applied (engine after_store clock (count + 1) creates labels news) out' texts []
+      → Applies old_engine (Delta name items) out (Ok applied) (engine after_store clock (count + 1) creates labels members fed) out'
+  change_accepted done fits upto can out out1 out' n applied first line text counted first_is applied_is =
+      accepts old_engine (Delta name items) out applied (engine after_store clock (count + 1) creates labels members fed) out' texts []
       (record {
-        accepted = λ h s. (delta_allowed h s, delta_stands h s news (pairwise_both (λ old new. FiresIf (is_told_change name clock old) after_store old new) (CanFire labels) members news fires_are can_are));
-        tells = λ h s. delta_texts h s;
-        counts = λ h s. ap (λ (a : Applied). a.notices) applied_is ∙ counted
-            ∙ (λ i. times (λ m. nat_lt 0 (length (changed_text (ek i) after_store (ea i) (ec i) m))) (eo i)) ∙ delta_times h s;
+        accepted = λ h s. (delta_allowed h s, delta_follows h s (contents_are h s done fits));
+        tells = λ h s. delta_texts h s (contents_are h s done fits) (upto_now h s) can;
+        counts = λ h s. ap (λ (a : Applied). a.notices) applied_is ∙ counted ∙ delta_times h s (contents_are h s done fits) (upto_now h s) can;
         ends = λ h s. refl;
         counted = refl;
         named = refl;
@@ -259,36 +252,32 @@ module _ (store ready after_store : StoreState) (clock count creates : ℕ) (lab
       (ap (λ (a : Applied). a.to) applied_is ∙ ap length whole)
     where
       texts : List ℕ
-      texts = flat_map (changed_text labels after_store name clock) members
+      texts = flat_map (λ (t : Told). t.text) (told_of labels ready fed.files (changed_instant name clock) members)
+
+      upto_now : (h : History) → Follows old_engine h → AreUpTo (changes (Delta name items ∷ h)) fed.files
+      upto_now h s = subst (λ n. AreUpTo n fed.files) (let e = s.changes in (let q : store.changes + 1 ≡ changes (Delta name items ∷ h) = omega (arith, e) in q)) upto
 
       whole : out' ≡ (out ++ ok_text (count + 1)) ++ texts
-      whole = text ∙ (λ i. line i ++ flat_map (changed_text (ek i) after_store (ea i) (ec i)) (eo i))
-
-      can_are : AllByRecursion (CanFire labels) news
-      can_are = subst (λ (k : List Label). AllByRecursion (CanFire k) news) ek can
-
-      fires_are : Pairwise (λ old new. FiresIf (is_told_change name clock old) after_store old new) members news
-      fires_are = subst (λ (p : List ℕ × (ℕ × List Member)). Pairwise (λ old new. FiresIf (is_told_change p.0 p.1.0 old) after_store old new) p.1.1 news)
-          (λ i. (ea i, (ec i, eo i))) fired
+      whole = text ∙ (λ i. line i ++ texts)
 
 -- a delta that is refused
-module _ (store : StoreState) (clock count creates : ℕ) (labels : List Label) (members : List Member) (name asked : List ℕ) (items : List Item) (called : asked ≡ name) (result : Result ChangeState ChangeError)
+module _ (store : StoreState) (clock count creates : ℕ) (labels : List Label) (members : List Member) (table : TableState) (name asked : List ℕ) (items : List Item) (called : asked ≡ name) (result : Result ChangeState ChangeError)
     (none : result ≡ Err NoSource → found store asked ≡ None) (only : found store asked ≡ None → result ≡ Err NoSource)
     (some : (at : ℕ) (d : Declared) → found store asked ≡ Some at → slice_get store.sources at ≡ Some d → TellsChange result at (prepared d.key 1 d.elements items))
     (out : List ℕ) (answer : Result Applied ApplyError) (new : EngineState) (out' : List ℕ) (untouched : out' ≡ out) where
   abbrev was : EngineState
-  was = engine store clock count creates labels members
+  was = engine store clock count creates labels members table
 
-  refused_for : (why : Refusal) → answer ≡ Err (Refused why) → new ≡ engine store clock (count + 1) creates labels members
-      → ((h : History) → Stands was h → delta_refusal items (source_in name (sources h)) ≡ Some why) → Applies was (Delta name items) out answer new out'
+  refused_for : (why : Refusal) → answer ≡ Err (Refused why) → new ≡ engine store clock (count + 1) creates labels members table
+      → ((h : History) → Follows was h → delta_refusal items (source_in name (sources h)) ≡ Some why) → Applies was (Delta name items) out answer new out'
   refused_for why is same because = refuses was (Delta name items) why out answer new out' is same untouched because
 
-  missing : (h : History) → Stands was h → result ≡ Err NoSource → delta_refusal items (source_in name (sources h)) ≡ Some refusal.NoSource
+  missing : (h : History) → Follows was h → result ≡ Err NoSource → delta_refusal items (source_in name (sources h)) ≡ Some refusal.NoSource
   missing h s is = ap (delta_refusal items) (ap (source_in name) (sym s.sources) ∙ not_found name store.sources (ap (found store) (sym called) ∙ none is))
 
   item_fails : (error : ChangeError) (why : Refusal) → result ≡ Err error → (error ≡ NoSource → ⊥)
       → ((at : ℕ) (t : Trial (List Entry)) → TellsChange (Err error) at t → trial_refusal t ≡ Some why)
-      → (h : History) → Stands was h → delta_refusal items (source_in name (sources h)) ≡ Some why
+      → (h : History) → Follows was h → delta_refusal items (source_in name (sources h)) ≡ Some why
   item_fails error why is other tells h s = elim (place store name) [
     | inl gone ↦ absurd (other (let e : ◌≡◌ {A = Result ChangeState ChangeError} (Err error) (Err NoSource) = sym is ∙ only (ap (found store) called ∙ gone) in cc))
     | inr p ↦
@@ -297,7 +286,7 @@ module _ (store : StoreState) (clock count creates : ℕ) (labels : List Label) 
   ]
 
   pub change_refused : (error : ChangeError) → result ≡ Err error → answer ≡ Err (refused_change error)
-      → IfSome (change_refusal error) (λ _. new ≡ engine store clock (count + 1) creates labels members) → Applies was (Delta name items) out answer new out'
+      → IfSome (change_refusal error) (λ _. new ≡ engine store clock (count + 1) creates labels members table) → Applies was (Delta name items) out answer new out'
   change_refused NoSource is a e = refused_for refusal.NoSource a e (λ h s. missing h s is)
   change_refused (BadKey position) is a e = refused_for (refusal.Key position) a e (item_fails (BadKey position) (refusal.Key position) is (λ q. cc) (λ at t g. ap trial_refusal g))
   change_refused (NoSuchKey position) is a e = refused_for (refusal.NoKey position) a e (item_fails (NoSuchKey position) (refusal.NoKey position) is (λ q. cc) (λ at t g. ap trial_refusal g))

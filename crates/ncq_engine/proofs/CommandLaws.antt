@@ -1,5 +1,5 @@
 -- What the engine stands for behind a declaration and behind a delete.
-use Rattle.std.proofs.Common.{◌≡◌, ℕ, ◌+◌, ◌<◌, ◌≤◌, Bool, true, false, not, cond, List, [], ◌∷◌, ◌++◌, length, slice_get, refl, sym, ◌∙◌, ap, subst, arith, inl, inr, zero-add}
+use Rattle.std.proofs.Common.{◌≡◌, ℕ, ◌+◌, ◌<◌, ◌≤◌, Bool, true, false, not, ◌||◌, cond, List, [], ◌∷◌, ◌++◌, length, slice_get, refl, sym, ◌∙◌, ap, subst, arith, inl, inr, zero-add}
 use Rattle.std.specs.Prelude.{Option, Some, None, Result, Ok, Err, IfOk, OnOk, OnErr, IsSome, is_some, ◌⊎◌}
 use Rattle.std.specs.List.{filter, flat_map, list_any, AllByRecursion}
 use Rattle.std.specs.FinMap.{empty}
@@ -22,13 +22,15 @@ use Rattle.ncq_engine.specs.declared.engine.ApplyError.{ApplyError}
 use Rattle.ncq_engine.specs.declared.engine.ApplyError.TheVariants.{Refused, OutOfMemory}
 use Rattle.ncq_book.specs.declared.member.Member.{Member}
 use Rattle.ncq_engine.specs.Applies.{Applies, ok_text}
-use Rattle.ncq_book.specs.Books.{InstallsRise}
-use Rattle.ncq_engine.specs.Engines.{CanFire, InstallsAreUpTo, Pairwise}
-use Rattle.ncq_engine.proofs.Lists.{each_filter}
+use Rattle.ncq_group.specs.Tables.{TableState}
+use Rattle.ncq_engine.specs.Engines.{Pairwise}
+use Rattle.ncq_engine.specs.Tellings.{AreOf, without}
+use Rattle.ncq_book.specs.Books.{is_of}
 use Rattle.ncq_engine.specs.History.{History, Source, Subscription, changes, creates as creates_of, is_named, live, source_in}
 use Rattle.ncq_engine.specs.Output.{is_taken, refused_if}
 use Rattle.ncq_engine.specs.Stands.{EngineState, Keeps}
-use Rattle.ncq_engine.proofs.EngineLaws.{accepts_quietly, keep_quiet, pairwise_any, pairwise_filter, refuses, told_nobody}
+use Rattle.ncq_engine.proofs.ContentLaws.{contents_left, contents_stay}
+use Rattle.ncq_engine.proofs.EngineLaws.{accepts_quietly, keep_quiet, pairwise_any, pairwise_filter, refuses, rises_quietly, told_nobody}
 use Rattle.ncq_engine.proofs.Places.{found_within, is_found, not_found, one_declared}
 use Rattle.ncq_engine.proofs.StoreLaws.{last_declared}
 
@@ -54,15 +56,15 @@ told_as old old' command out result new new' out' o n a =
     subst (λ (e : EngineState). Applies e command out result new out') o (subst (λ (e : EngineState). Applies old' command out result e out') (sym n) a)
 
 -- an engine of these parts
-abbrev pub engine : StoreState → ℕ → ℕ → ℕ → List Label → List Member → EngineState
-engine store clock count creates labels members = record { store = store; clock = clock; count = count; creates = creates; labels = labels; members = members }
+abbrev pub engine : StoreState → ℕ → ℕ → ℕ → List Label → List Member → TableState → EngineState
+engine store clock count creates labels members table = record { store = store; clock = clock; count = count; creates = creates; labels = labels; members = members; table = table }
 
-module _ (store : StoreState) (clock count creates : ℕ) (labels : List Label) (members : List Member) (out : List ℕ) (result : Result Applied ApplyError) (out' : List ℕ)
+module _ (store : StoreState) (clock count creates : ℕ) (labels : List Label) (members : List Member) (table : TableState) (out : List ℕ) (result : Result Applied ApplyError) (out' : List ℕ)
     (text : OnOk result (out' ≡ out ++ ok_text (count + 1))) (places : IfOk result (λ a. a ≡ record { from = length out'; to = length out'; notices = 0 })) (only : OnErr result (result ≡ Err OutOfMemory)) where
   pub declare_accepted : (name root : List ℕ) (key : Key) (store' : StoreState) → (IsSome (found store name) → ⊥) → Declares store store' name root key
-      → Applies (engine store clock count creates labels members) (Declare name root key) out result (engine store' clock (count + 1) creates labels members) out'
+      → Applies (engine store clock count creates labels members table) (Declare name root key) out result (engine store' clock (count + 1) creates labels members table) out'
   declare_accepted name root key store' new declares =
-      accepts_quietly (engine store clock count creates labels members) (Declare name root key) out result (engine store' clock (count + 1) creates labels members) out'
+      accepts_quietly (engine store clock count creates labels members table) (Declare name root key) out result (engine store' clock (count + 1) creates labels members table) out'
       (record {
         accepted = λ h s. (
           elim (place store name) [
@@ -77,6 +79,8 @@ module _ (store : StoreState) (clock count creates : ℕ) (labels : List Label) 
             clock = s.clock;
             creates = s.creates ∙ sym (zero-add (creates_of h));
             members = keep_quiet labels h (Declare name root key) (λ _. refl) (live h) members s.members;
+            contents = contents_stay table.files h (Declare name root key) (zero-add (changes h)) s.contents;
+            rising = rises_quietly h (Declare name root key) refl s.rising;
           },
         );
         tells = λ h s. ap (flat_map _) (sym (told_nobody h (Declare name root key) (λ _. refl)));
@@ -92,10 +96,11 @@ module _ (store : StoreState) (clock count creates : ℕ) (labels : List Label) 
   pub taken_is : (name : List ℕ) (h : History) → Pairwise (Keeps labels h) (live h) members → is_taken name h ≡ list_any (λ m. bytes_eq name m.name) members
   taken_is name h p = pairwise_any (Keeps labels h) (is_named name) (λ m. bytes_eq name m.name) (named_alike name h) (live h) members p
 
-  pub delete_accepted : (name : List ℕ) → list_any (λ m. bytes_eq name m.name) members ≡ true
-      → Applies (engine store clock count creates labels members) (Delete name) out result (engine store clock (count + 1) creates labels (filter (λ m. not (bytes_eq name m.name)) members)) out'
-  delete_accepted name has =
-      accepts_quietly (engine store clock count creates labels members) (Delete name) out result (engine store clock (count + 1) creates labels (filter (λ m. not (bytes_eq name m.name)) members)) out'
+  -- the member of the name is gone, and its files with it
+  pub delete_accepted : (name : List ℕ) (left : List Member) (table' : TableState) → list_any (λ m. bytes_eq name m.name) members ≡ true → left ≡ filter (λ m. not (bytes_eq name m.name)) members → AreOf table.files table'.files
+      → Applies (engine store clock count creates labels members table) (Delete name) out result (engine store clock (count + 1) creates labels left table') out'
+  delete_accepted name left table' has gone fewer =
+      accepts_quietly (engine store clock count creates labels members table) (Delete name) out result (engine store clock (count + 1) creates labels left table') out'
       (record {
         accepted = λ h s. (
           ap (λ t. refused_if (not t) refusal.NoName) (taken_is name h s.members ∙ has),
@@ -105,8 +110,11 @@ module _ (store : StoreState) (clock count creates : ℕ) (labels : List Label) 
             changes = s.changes ∙ sym (zero-add (changes h));
             clock = s.clock;
             creates = s.creates ∙ sym (zero-add (creates_of h));
-            members = pairwise_filter (Keeps labels (Delete name ∷ h)) (λ s. not (is_named name s)) (λ m. not (bytes_eq name m.name)) (λ s m k. ap (λ t. not (bytes_eq name t)) (sym k.name)) (live h) members
-                (keep_quiet labels h (Delete name) (λ _. refl) (live h) members s.members);
+            members = subst (λ (ms : List Member). Pairwise (Keeps labels (Delete name ∷ h)) (live (Delete name ∷ h)) ms) (sym gone)
+                (pairwise_filter (Keeps labels (Delete name ∷ h)) (λ s. not (is_named name s)) (λ m. not (bytes_eq name m.name)) (λ s m k. ap (λ t. not (bytes_eq name t)) (sym k.name)) (live h) members
+                (keep_quiet labels h (Delete name) (λ _. refl) (live h) members s.members));
+            contents = contents_left table.files table'.files (Delete name ∷ h) fewer (contents_stay table.files h (Delete name) (zero-add (changes h)) s.contents);
+            rising = rises_quietly h (Delete name) refl s.rising;
           },
         );
         tells = λ h s. ap (flat_map _) (sym (told_nobody h (Delete name) (λ _. refl)));
@@ -116,10 +124,10 @@ module _ (store : StoreState) (clock count creates : ℕ) (labels : List Label) 
         named = refl;
       }) text places only
 
-module _ (store : StoreState) (clock count creates : ℕ) (labels : List Label) (members : List Member) (out : List ℕ) (result : Result Applied ApplyError) (new : EngineState) (out' : List ℕ)
-    (same : new ≡ engine store clock (count + 1) creates labels members) (untouched : out' ≡ out) where
+module _ (store : StoreState) (clock count creates : ℕ) (labels : List Label) (members : List Member) (table : TableState) (out : List ℕ) (result : Result Applied ApplyError) (new : EngineState) (out' : List ℕ)
+    (same : new ≡ engine store clock (count + 1) creates labels members table) (untouched : out' ≡ out) where
   abbrev old : EngineState
-  old = engine store clock count creates labels members
+  old = engine store clock count creates labels members table
 
   -- a source of the name is declared already
   pub declare_refused : (name root : List ℕ) (key : Key) → result ≡ Err (Refused refusal.SourceExists) → IsSome (found store name) → Applies old (Declare name root key) out result new out'
@@ -144,21 +152,15 @@ module _ (store : StoreState) (clock count creates : ℕ) (labels : List Label) 
 pub not_exists : (result : Result SourceId DeclareError) (id : SourceId) → result ≡ Ok id → result ≡ Err Exists → ⊥
 not_exists result id is e = let bad : ◌≡◌ {A = Result SourceId DeclareError} (Ok id) (Err Exists) = sym is ∙ e in cc
 
--- members that are taken off leave the others in order
-rise_filter : (keep : Member → Bool) (ms : List Member) → InstallsRise ms → InstallsRise (filter keep ms)
-rise_filter keep [] r = tt
-rise_filter keep (m ∷ ms) r =
-    elim (keep m) as (λ t. InstallsRise (cond t (m ∷ filter keep ms) (filter keep ms))) [
-      | true ↦ (each_filter (λ (n : Member). m.install < n.install) keep ms r.0, rise_filter keep ms r.1)
-      | false ↦ rise_filter keep ms r.1
-    ]
-
-abbrev pub AreOnRoll : List Label → ℕ → List Member → Type 0
-AreOnRoll labels creates members = AllByRecursion (CanFire labels) members × InstallsRise members × InstallsAreUpTo creates members
-
-pub roll_filter : (labels : List Label) (creates : ℕ) (keep : Member → Bool) (members kept : List Member) → kept ≡ filter keep members → AreOnRoll labels creates members → AreOnRoll labels creates kept
-roll_filter labels creates keep members kept e r =
-    subst (AreOnRoll labels creates) (sym e) (each_filter (CanFire labels) keep members r.0, rise_filter keep members r.1, each_filter (λ (m : Member). m.install ≤ creates) keep members r.2)
+-- those without one number are those without one name, where these are of one member
+pub without_named : (name : List ℕ) (install : ℕ) (ms : List Member) → AllByRecursion (λ m. is_of install m ≡ bytes_eq name m.name) ms → without (install ∷ []) ms ≡ filter (λ m. not (bytes_eq name m.name)) ms
+without_named name install [] h = refl
+without_named name install (m ∷ ms) h =
+    λ i. cond (not ((or_false (is_of install m) ∙ h.0) i)) (m ∷ without_named name install ms h.1 i) (without_named name install ms h.1 i)
+  where
+    or_false : (b : Bool) → (b || false) ≡ b
+    or_false true = refl
+    or_false false = refl
 
 -- an engine with other members
 pub other_members : (a b : EngineState) (f : List Member → List Member) (members : List Member) → a ≡ b → members ≡ f a.members → record a { members = members } ≡ record b { members = f b.members }

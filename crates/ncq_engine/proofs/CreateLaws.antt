@@ -1,12 +1,12 @@
 -- What the engine stands for behind a create.
-use Rattle.std.proofs.Common.{◌≡◌, ℕ, ◌+◌, ◌<◌, ◌≤◌, Bool, true, false, ◌&&◌, ◌==◌, cond, List, [], ◌∷◌, ◌++◌, length, refl, sym, ◌∙◌, ap, subst, arith, zero-add}
-use Rattle.std.specs.Prelude.{Option, Some, None, Result, Ok, Err, if◌then◌else◌, IfSome, nat_lt, is_some}
+use Rattle.std.proofs.Common.{◌≡◌, ℕ, ◌+◌, ◌<◌, ◌≤◌, max, Bool, true, false, ◌&&◌, ◌==◌, cond, List, [], ◌∷◌, ◌++◌, map, length, refl, sym, ◌∙◌, ap, subst, arith, zero-add}
+use Rattle.std.specs.Prelude.{Option, Some, None, Result, Ok, Err, if◌then◌else◌, IfSome, nat_le, nat_lt, is_some}
 use Rattle.std.specs.Option.{unwrap_or}
 use Rattle.std.proofs.lemmas.Bool.Decides.{nat_tests}
 use Rattle.std.proofs.lemmas.List.{append-nil}
-use Rattle.std.specs.List.{filter, flat_map, list_any, AllByRecursion}
+use Rattle.std.specs.List.{flat_map, list_any, AllByRecursion}
 use Rattle.std.specs.Str.{bytes_eq}
-use Rattle.ncq_base.specs.Counts.{SameCounts}
+use Rattle.ncq_base.specs.declared.atom.FileId.{FileId}
 use Rattle.ncq_base.specs.Keys.{times}
 use Rattle.ncq_bind.specs.Bindings.{Binds, Roots, have_roots, roots_in}
 use Rattle.ncq_bind.specs.Bound.{query_is_bound}
@@ -14,19 +14,22 @@ use Rattle.ncq_bind.specs.declared.binding.BindError.{BindError}
 use Rattle.ncq_bind.specs.declared.binding.BindError.TheVariants as binding
 use Rattle.ncq_callback.specs.Labels.{Label}
 use Rattle.ncq_change.specs.Stores.{world_in}
+use Rattle.ncq_event.specs.Calendars.{firing_at}
 use Rattle.ncq_event.specs.declared.firing.Firing.{Firing}
 use Rattle.ncq_event.specs.declared.timing.Timing.{Timing}
 use Rattle.ncq_event.specs.Instants.{is_expired}
 use Rattle.ncq_event.specs.Orders.{ordered_by}
+use Rattle.ncq_group.specs.Installs.{IsInstalled}
+use Rattle.ncq_group.specs.Tables.{TableState}
 use Rattle.ncq_plan.specs.declared.query.NormalQuery.{NormalQuery}
 use Rattle.ncq_plan.specs.Plans.{plan_of}
-use Rattle.ncq_plan.specs.WellFormed.{IsWellFormed}
+use Rattle.ncq_shelf.specs.Contents.{AreUpTo, Fits}
+use Rattle.ncq_shelf.specs.KeptFiles.{Files}
 use Rattle.ncq_script.specs.declared.command.Command.{Command}
 use Rattle.ncq_script.specs.declared.command.Command.TheVariants.{Create}
 use Rattle.ncq_script.specs.declared.refusal.Refusal.{Refusal}
 use Rattle.ncq_script.specs.declared.refusal.Refusal.TheVariants as refusal
-use Rattle.ncq_source.specs.StoreStates.{StoreState, Declares, names}
-use Rattle.ncq_source.specs.declared.key.Key.{Key}
+use Rattle.ncq_source.specs.StoreStates.{StoreState}
 use Rattle.ncq_xmlql.specs.declared.model.Query.{Query}
 use Rattle.ncq_xmlql.specs.declared.model.Statement.{Statement}
 use Rattle.ncq_xmlql.specs.WellFormed.{IsWellFormed as IsWhole}
@@ -34,25 +37,28 @@ use Rattle.ncq_engine.specs.declared.engine.Applied.{Applied}
 use Rattle.ncq_engine.specs.declared.engine.ApplyError.{ApplyError}
 use Rattle.ncq_engine.specs.declared.engine.ApplyError.TheVariants.{Refused}
 use Rattle.ncq_book.specs.declared.member.Member.{Member}
+use Rattle.ncq_book.specs.Books.{InstallsRise, is_of, member_of}
 use Rattle.ncq_engine.specs.Applies.{Applies, error_of, kind_at, ok_text, query_refusal, refused_query}
-use Rattle.ncq_book.specs.Books.{InstallsRise}
-use Rattle.ncq_engine.specs.Engines.{CanFire, FiresIf, HasTopics, InstallsAreUpTo, IsEngine, Pairwise, new_member, rows_over, started_text, told_text}
+use Rattle.ncq_engine.specs.Engines.{CanTell, InstallsAreUpTo, Pairwise, Told, fired_if, new_member, told_at}
 use Rattle.ncq_engine.specs.Firing.{fires, is_new, mark, sources_of}
-use Rattle.ncq_engine.specs.History.{History, Subscription, changes, created, creates as creates_of, is_named, live, now, sources, start_of, world}
+use Rattle.ncq_engine.specs.History.{History, Subscription, changes, created, creates as creates_of, is_named, last_change, live, now, sources, start_of, world}
 use Rattle.ncq_engine.specs.Languages.{binding_refusal, language_of}
-use Rattle.ncq_engine.specs.Notices.{fired_at, kind_in, notice_at, told}
+use Rattle.ncq_engine.specs.Marks.{first_mark, noted}
+use Rattle.ncq_engine.specs.Notices.{fired_at, firings, kind_in, notice_at, told}
 use Rattle.ncq_engine.specs.Output.{first_refusal, is_at_odds, notices, or_else, refused_if}
-use Rattle.ncq_engine.specs.Stands.{EngineState, Keeps, Stands, rows_at}
+use Rattle.ncq_engine.specs.Stands.{AreContents, EngineState, Follows, Keeps}
+use Rattle.ncq_engine.specs.Tellings.{firing_text, has_started, noted_by, started_at}
+use Rattle.ncq_engine.proofs.ByInstall.{firings_of, found_first, found_behind}
 use Rattle.ncq_engine.proofs.ChangeLaws.{some_if}
-use Rattle.ncq_engine.proofs.CommandLaws.{AreOnRoll, engine, roll_filter}
-use Rattle.ncq_engine.proofs.EngineLaws.{accepts, gives_up, pairwise_any, refuses}
+use Rattle.ncq_engine.proofs.CommandLaws.{engine}
+use Rattle.ncq_engine.proofs.ContentLaws.{contents_installed}
+use Rattle.ncq_engine.proofs.EngineLaws.{accepts, gives_up, pairwise_any, refuses, rises_quietly}
 use Rattle.ncq_engine.proofs.HistoryLaws.{Installed, installed, never}
-use Rattle.ncq_engine.proofs.Keeping.{keeps_one, keeps_quiet}
-use Rattle.ncq_engine.proofs.Lists.{each_filter, each_more, each_push, flat_map_append}
-use Rattle.ncq_engine.proofs.RollLaws.{few_new, rise_new, watch_new}
-use Rattle.ncq_engine.proofs.TopicLaws.{names_declared, topics_behind, topics_stay}
-use Rattle.ncq_engine.proofs.NoticeLaws.{text_is}
+use Rattle.ncq_engine.proofs.Keeping.{Agrees, IsFirst, keep_all}
+use Rattle.ncq_engine.proofs.Lists.{each_more, flat_map_append}
+use Rattle.ncq_engine.proofs.MarkLaws.{never_first}
 use Rattle.ncq_engine.proofs.TellingLoops.{pairwise_push}
+use Rattle.ncq_engine.proofs.ToldLaws.{noticed, tells_each, told_list, told_of, told_text_is, told_times_is}
 use Rattle.ncq_engine.proofs.Worlds.{roots_are, world_is}
 
 -- a query that binds is not refused, and another for the fault that is found
@@ -74,9 +80,9 @@ abbrev pub timed : Statement → ℕ → Timing
 timed statement clock = record { start = start_of statement.start clock; every = statement.every; expire = statement.expire }
 
 -- the member that a create makes
-module _ (store : StoreState) (clock count creates : ℕ) (labels : List Label) (members : List Member) (statement : Statement) where
+module _ (store : StoreState) (clock count creates : ℕ) (labels : List Label) (members : List Member) (table : TableState) (statement : Statement) where
   abbrev old_engine : EngineState
-  old_engine = engine store clock count creates labels members
+  old_engine = engine store clock count creates labels members table
 
   abbrev this : Command
   this = Create statement
@@ -84,7 +90,7 @@ module _ (store : StoreState) (clock count creates : ℕ) (labels : List Label) 
   -- the first refusal, by the tests of the code
   create_refusal : (taken odd late : Bool) (unbound : Option Refusal) → list_any (λ m. bytes_eq statement.name m.name) members ≡ taken → binding_refusal statement.query (roots_in store) ≡ unbound
       → is_at_odds (kind_in statement.action labels) statement.argument ≡ odd → is_expired (timed statement clock) (start_of statement.start clock) ≡ late
-      → (h : History) → Stands old_engine h
+      → (h : History) → Follows old_engine h
       → first_refusal (language_of labels) h this
       ≡ or_else (refused_if taken refusal.NameTaken) (or_else unbound (or_else (refused_if odd refusal.Action) (refused_if late refusal.Times)))
   create_refusal taken odd late unbound t u o l h s =
@@ -93,7 +99,7 @@ module _ (store : StoreState) (clock count creates : ℕ) (labels : List Label) 
       (or_else (refused_if (o i) refusal.Action)
       (refused_if ((ap (λ n. is_expired (timed statement n) (start_of statement.start n)) (sym s.clock) ∙ l) i) refusal.Times)))
 
-  module _ (out : List ℕ) (result : Result Applied ApplyError) (new : EngineState) (same : new ≡ engine store clock (count + 1) creates labels members) where
+  module _ (out : List ℕ) (result : Result Applied ApplyError) (new : EngineState) (same : new ≡ engine store clock (count + 1) creates labels members table) where
     pub create_taken : result ≡ Err (Refused refusal.NameTaken) → list_any (λ m. bytes_eq statement.name m.name) members ≡ true → Applies old_engine this out result new out
     create_taken is taken = refuses old_engine this refusal.NameTaken out result new out is same refl (create_refusal true _ _ _ taken refl refl refl)
 
@@ -106,11 +112,11 @@ module _ (store : StoreState) (clock count creates : ℕ) (labels : List Label) 
     create_late is free query binds fits late =
         refuses old_engine this refusal.Times out result new out is same refl (create_refusal false false true None free (binds_freely statement.query (roots_in store) query binds) fits late)
 
-  pub create_unbound : (out : List ℕ) (result : Result Applied ApplyError) (new : EngineState) (error : BindError) → IfSome (query_refusal error) (λ _. new ≡ engine store clock (count + 1) creates labels members)
+  pub create_unbound : (out : List ℕ) (result : Result Applied ApplyError) (new : EngineState) (error : BindError) → IfSome (query_refusal error) (λ _. new ≡ engine store clock (count + 1) creates labels members table)
       → result ≡ Err (refused_query error) → list_any (λ m. bytes_eq statement.name m.name) members ≡ false → Binds statement.query (roots_in store) (Err error) → Applies old_engine this out result new out
   create_unbound out result new error same is free binds = by (query_refusal error) refl same is
     where
-      by : (o : Option Refusal) → query_refusal error ≡ o → IfSome o (λ _. new ≡ engine store clock (count + 1) creates labels members) → result ≡ Err (error_of o) → Applies old_engine this out result new out
+      by : (o : Option Refusal) → query_refusal error ≡ o → IfSome o (λ _. new ≡ engine store clock (count + 1) creates labels members table) → result ≡ Err (error_of o) → Applies old_engine this out result new out
       by None e same is = gives_up old_engine this out result new out is
       by (Some why) e same is = refuses old_engine this why out result new out is same refl (create_refusal false _ _ (Some why) free (binds_not statement.query (roots_in store) error why e binds) refl refl)
 
@@ -120,307 +126,220 @@ old_quiet statement h s before =
     let off : is_new s h ≡ false = grind (arith, nat_tests, before) in
     λ i. if off i && s.start == now h then Some (now h) else None
 
-olds_quiet : (statement : Statement) (h : History) (subs : List Subscription) → Installed h subs → flat_map (λ s. fired_at s (fires s h (Create statement))) subs ≡ []
-olds_quiet statement h [] i = refl
-olds_quiet statement h (s ∷ subs) i = λ j. fired_at s (old_quiet statement h s i.0 j) ++ olds_quiet statement h subs i.1 j
-
-keep_olds : (labels : List Label) (statement : Statement) (h : History) (subs : List Subscription) (ms : List Member) → Installed h subs
-    → Pairwise (Keeps labels h) subs ms → Pairwise (Keeps labels (Create statement ∷ h)) subs ms
-keep_olds labels statement h [] [] i p = tt
-keep_olds labels statement h [] (m ∷ ms) i p = absurd p
-keep_olds labels statement h (s ∷ subs) [] i p = absurd p
-keep_olds labels statement h (s ∷ subs) (m ∷ ms) i p = (keeps_quiet labels h (Create statement) s m p.0 (old_quiet statement h s i.0), keep_olds labels statement h subs ms i.1 p.1)
-
 -- the new one fires where it starts now
 new_fires : (statement : Statement) (h : History) → fires (created statement h) h (Create statement) ≡ (if start_of statement.start (now h) == now h then Some (now h) else None)
 new_fires statement h =
     let on : is_new (created statement h) h ≡ true = grind (arith, nat_tests) in
     λ i. if on i && start_of statement.start (now h) == now h then Some (now h) else None
 
-ordered_one : (s : Subscription) (o : Option ℕ) → ordered_by (λ (f : Firing × Subscription). f.0) (fired_at s o) ≡ fired_at s o
-ordered_one s None = refl
-ordered_one s (Some instant) = refl
+-- the instant at which a create fires a member: the new one where it has started
+abbrev pub created_instant : ℕ → ℕ → Member → Option ℕ
+created_instant clock install m = if m.install == install && nat_le m.timing.start clock then Some clock else None
 
--- it alone is told
-told_new : (statement : Statement) (h : History) → told h (Create statement) ≡ fired_at (created statement h) (fires (created statement h) h (Create statement))
-told_new statement h =
-    let f = λ (s : Subscription). fired_at s (fires s h (Create statement)) in
-    ap (ordered_by (λ (fired : Firing × Subscription). fired.0))
-    (flat_map_append f (live h) (created statement h ∷ [])
-    ∙ ap (λ (xs : List (Firing × Subscription)). xs ++ (f (created statement h) ++ [])) (olds_quiet statement h (live h) (installed h))
-    ∙ append-nil (f (created statement h)))
-    ∙ ordered_one (created statement h) (fires (created statement h) h (Create statement))
+-- the new member is found behind the others
+found_last : (ms : List Member) (m : Member) → AllByRecursion (λ n. n.install < m.install) ms → member_of m.install (ms ++ m ∷ []) ≡ Some m
+found_last [] m h = found_first m []
+found_last (x ∷ ms) m h = found_behind x (ms ++ m ∷ []) m.install h.0 ∙ found_last ms m h.1
 
--- a member more on the roll
-rise_push : (creates : ℕ) (ms : List Member) (m : Member) → InstallsRise ms → InstallsAreUpTo creates ms → creates < m.install → InstallsRise (ms ++ m ∷ [])
-rise_push creates [] m r u less = (tt, tt)
-rise_push creates (x ∷ ms) m r u less =
-    let first = u.0 in
-    (each_push (λ (n : Member). x.install < n.install) ms m r.0 (omega (arith, first, less)), rise_push creates ms m r.1 u.1 less)
+quiet_one : (clock install : ℕ) (m : Member) → m.install < install → created_instant clock install m ≡ None
+quiet_one clock install m less =
+    let other : (m.install == install) ≡ false = grind (arith, nat_tests, less) in
+    λ i. if other i && nat_le m.timing.start clock then Some clock else None
 
-pub roll_push : (labels : List Label) (creates : ℕ) (ms : List Member) (m : Member) → AreOnRoll labels creates ms → CanFire labels m → m.install ≡ creates + 1 → AreOnRoll labels (creates + 1) (ms ++ m ∷ [])
-roll_push labels creates ms m r can is = (
-  each_push (CanFire labels) ms m r.0 can,
-  rise_push creates ms m r.1 r.2 (omega (arith, is)),
-  each_push (λ (n : Member). n.install ≤ creates + 1) ms m
-      (each_more (λ (n : Member). n.install ≤ creates) (λ (n : Member). n.install ≤ creates + 1) (λ n few. let l : n.install ≤ creates + 1 = omega (arith, few) in l) ms r.2)
-      (omega (arith, is)),
-)
+quiet_all : (clock install : ℕ) (ms : List Member) → AllByRecursion (λ n. n.install < install) ms → firings_of (created_instant clock install) ms ≡ []
+quiet_all clock install [] h = refl
+quiet_all clock install (m ∷ ms) h = λ i. firing_at m.install (quiet_one clock install m h.0 i) ++ quiet_all clock install ms h.1 i
 
-pub roll_more : (labels : List Label) (creates : ℕ) (ms : List Member) → AreOnRoll labels creates ms → AreOnRoll labels (creates + 1) ms
-roll_more labels creates ms r =
-    (r.0, r.1, each_more (λ (n : Member). n.install ≤ creates) (λ (n : Member). n.install ≤ creates + 1) (λ n few. let l : n.install ≤ creates + 1 = omega (arith, few) in l) ms r.2)
+own_instant : (clock : ℕ) (m : Member) → created_instant clock m.install m ≡ (if nat_le m.timing.start clock then Some clock else None)
+own_instant clock m =
+    let same : (m.install == m.install) ≡ true = grind (arith, nat_tests) in
+    λ i. if same i && nat_le m.timing.start clock then Some clock else None
 
-pub new_can : (labels : List Label) (statement : Statement) (query : NormalQuery) (timing : Timing) (action creates : ℕ) (topics : List ℕ) → IsWellFormed query → action < length labels → CanFire labels (new_member statement query timing action creates topics)
-new_can labels statement query timing action creates topics formed within = record { formed = formed; plan = refl; action = within; wide = tt }
+-- so the firings that the code makes are those of the members
+pub created_firings : (clock : ℕ) (ms : List Member) (m : Member) → AllByRecursion (λ n. n.install < m.install) ms → flat_map (started_at clock (ms ++ m ∷ [])) (m.install ∷ []) ≡ firings_of (created_instant clock m.install) (ms ++ m ∷ [])
+created_firings clock ms m less =
+    append-nil (started_at clock (ms ++ m ∷ []) m.install)
+    ∙ (λ i. if has_started clock (found_last ms m less i) then record { instant = clock; install = m.install } ∷ [] else [])
+    ∙ by (nat_le m.timing.start clock)
+    ∙ ap (firing_at m.install) (sym (own_instant clock m))
+    ∙ sym (flat_map_append (λ (n : Member). firing_at n.install (created_instant clock m.install n)) ms (m ∷ [])
+    ∙ (λ i. quiet_all clock m.install ms less i ++ (firing_at m.install (created_instant clock m.install m) ++ []))
+    ∙ append-nil (firing_at m.install (created_instant clock m.install m)))
+  where
+    by : (b : Bool) → (if b then record { instant = clock; install = m.install } ∷ [] else []) ≡ firing_at m.install (if b then Some clock else None)
+    by true = refl
+    by false = refl
 
-module _ (store : StoreState) (clock count creates : ℕ) (labels : List Label) (members : List Member) (statement : Statement) (query : NormalQuery) (action : ℕ) (topics : List ℕ)
-    (whole : IsWhole statement) (binds : Binds statement.query (roots_in store) (Ok query)) (formed : IsWellFormed query) (within : action < length labels)
-    (kind : kind_at labels action ≡ kind_in statement.action labels) (h : History) (s : Stands (engine store clock count creates labels members) h) where
+-- the new subscription is kept, as it has not fired
+keeps_new : (store : StoreState) (clock count creates : ℕ) (labels : List Label) (members : List Member) (table : TableState) (statement : Statement) (query : NormalQuery) (action : ℕ) (topics : List ℕ) (file : FileId)
+    → IsWhole statement → Binds statement.query (roots_in store) (Ok query) → kind_at labels action ≡ kind_in statement.action labels
+    → (h : History) → Follows (engine store clock count creates labels members table) h → Keeps labels h (created statement h) (new_member statement query (timed statement clock) action creates topics file)
+keeps_new store clock count creates labels members table statement query action topics file whole binds kind h s = record {
+  name = refl;
+  sources = refl;
+  whole = whole;
+  roots = roots_in store;
+  binds = binds;
+  timing = λ i. timed statement (s.clock i);
+  kind = kind;
+  argument = refl;
+  install = λ i. s.creates i + 1;
+  marked = unmarked;
+}
+  where
+    later : creates_of h < creates_of h + 1
+    later = omega arith
+
+    unmarked : None ≡ noted (created statement h) h
+    unmarked = both (statement.every == 0) ∙ (λ i. if statement.every == 0 then sym (never_first (created statement h) h later) i else sym (never (created statement h) h later) i)
+      where
+        both : (b : Bool) → ◌≡◌ {A = Option ℕ} None (if b then None else None)
+        both true = refl
+        both false = refl
+
+module _ (store : StoreState) (clock count creates : ℕ) (labels : List Label) (members : List Member) (old table : TableState) (statement : Statement) (query : NormalQuery) (action : ℕ) (topics : List ℕ) (file : FileId)
+    (whole : IsWhole statement) (binds : Binds statement.query (roots_in store) (Ok query)) (kind : kind_at labels action ≡ kind_in statement.action labels)
+    (done : IsInstalled (plan_of query) old table file.0) (number : old.number ≡ store.changes) (fits : Fits old.number (world_in store) table.files) (upto : AreUpTo store.changes table.files) where
   abbrev made : Member
-  made = new_member statement query (timed statement clock) action creates topics
+  made = new_member statement query (timed statement clock) action creates topics file
 
-  abbrev own : Subscription
-  own = created statement h
+  abbrev all : List Member
+  all = members ++ made ∷ []
 
-  keeps_new : Keeps labels h own made
-  keeps_new =
-      let none : None ≡ mark own h = sym (never own h (let l : creates_of h < creates_of h + 1 = omega arith in l)) in
-      record {
-        name = refl;
-        sources = refl;
-        whole = whole;
-        roots = roots_in store;
-        binds = binds;
-        timing = λ i. timed statement (s.clock i);
-        kind = kind;
-        argument = refl;
-        install = λ i. s.creates i + 1;
-        marked = none;
-        told = subst (λ (o : Option ℕ). SameCounts [] (rows_at made.plan h o)) none (λ f. refl);
-        fires = new_can labels statement query (timed statement clock) action creates topics formed within;
-      }
+  abbrev instant : Member → Option ℕ
+  instant = created_instant clock made.install
 
-  same_world : world (sources (Create statement ∷ h)) ≡ world_in store
-  same_world = world_is store (sources h) s.sources
+  -- the members behind the create
+  abbrev pub created_members : List Member
+  created_members = map (λ m. fired_if (is_some (created_instant clock (creates + 1) m)) store m) (members ++ new_member statement query (timed statement clock) action creates topics file ∷ [])
 
-  same_changes : store.changes ≡ changes (Create statement ∷ h)
-  same_changes = s.changes ∙ sym (zero-add (changes h))
+  abbrev pub created_list : List Told
+  created_list = told_of labels store table.files (created_instant clock (creates + 1)) (members ++ new_member statement query (timed statement clock) action creates topics file ∷ [])
 
-  starts : fires own h (Create statement) ≡ (if made.timing.start == clock then Some clock else None)
-  starts = new_fires statement h ∙ (λ i. if start_of statement.start (sym s.clock i) == sym s.clock i then Some (sym s.clock i) else None)
+  module _ (can : AllByRecursion (CanTell labels store table) all) (few : InstallsAreUpTo creates members) (h : History) (s : Follows (engine store clock count creates labels members old) h) where
+    abbrev own : Subscription
+    own = created statement h
 
-  -- the engine with the new member behind the others
-  pub create_stands : (new : Member) → FiresIf (made.timing.start == clock) store made new → CanFire labels new
-      → Stands (engine store clock (count + 1) (creates + 1) labels (members ++ new ∷ [])) (Create statement ∷ h)
-  create_stands new fired can = record {
-    sources = s.sources;
-    last = s.last;
-    changes = same_changes;
-    clock = s.clock;
-    creates = let c = s.creates in omega (arith, c);
-    members = pairwise_push (Keeps labels (Create statement ∷ h)) (live h) members own new
-        (keep_olds labels statement h (live h) members (installed h) s.members)
-        (keeps_one labels h (Create statement) store same_world same_changes own made new (made.timing.start == clock) (sym (some_if (made.timing.start == clock) clock) ∙ ap is_some (sym starts)) keeps_new fired can);
-  }
+    same_changes : store.changes ≡ changes (Create statement ∷ h)
+    same_changes = s.changes ∙ sym (zero-add (changes h))
 
-  abbrev notice : Firing × Subscription → List ℕ
-  notice = notice_at (language_of labels) h (Create statement)
+    below : AllByRecursion (λ n. n.install < made.install) members
+    below = each_more (λ (n : Member). n.install ≤ creates) (λ (n : Member). n.install < made.install) (λ n le. let l : n.install < creates + 1 = omega (arith, le) in l) members few
 
-  told_is : told h (Create statement) ≡ fired_at own (if made.timing.start == clock then Some clock else None)
-  told_is = told_new statement h ∙ ap (fired_at own) starts
+    start_is : (o : Option ℕ) → nat_le (start_of o clock) clock ≡ (start_of o clock == clock)
+    start_is None = let a : nat_le clock clock ≡ true = grind (arith, nat_tests) in let b : (clock == clock) ≡ true = grind (arith, nat_tests) in a ∙ sym b
+    start_is (Some written) = grind (arith, nat_tests)
 
-  first_text : told_text labels made clock (rows_over store made) ≡ notice (record { instant = clock; install = own.install }, own)
-  first_text = text_is labels h own made keeps_new (Create statement) store clock same_world
+    own_fires : instant made ≡ fires own h (Create statement)
+    own_fires =
+        own_instant clock made ∙ (λ i. if start_is statement.start i then Some clock else None)
+        ∙ (λ i. if start_of statement.start (s.clock i) == s.clock i then Some (s.clock i) else None)
+        ∙ sym (new_fires statement h)
 
-  text_if : (b : Bool) → (if b then told_text labels made clock (rows_over store made) else []) ≡ flat_map notice (fired_at own (if b then Some clock else None))
-  text_if true = first_text ∙ sym (append-nil (notice (record { instant = clock; install = own.install }, own)))
-  text_if false = refl
+    own_first : IsFirst own h (Create statement)
+    own_first at fired based = never_first own h (let l : creates_of h < creates_of h + 1 = omega arith in l)
 
-  pub create_text : started_text labels store clock made ≡ notices (language_of labels) h (Create statement)
-  create_text = text_if (made.timing.start == clock) ∙ ap (flat_map notice) (sym told_is)
+    old_first : (sub : Subscription) → sub.install ≤ creates_of h → IsFirst sub h (Create statement)
+    old_first sub before at fired based = absurd (let bad : Some at ≡ None = sym fired ∙ old_quiet statement h sub before in cc)
 
-  times_if : (b : Bool) → (if nat_lt 0 (length (if b then told_text labels made clock (rows_over store made) else [])) then 1 else 0)
-      ≡ times (λ f. nat_lt 0 (length (notice f))) (fired_at own (if b then Some clock else None))
-  times_if true = ap (λ (t : List ℕ). if nat_lt 0 (length t) then 1 else 0) first_text ∙ (let e : cond {A = ℕ} (nat_lt 0 (length (notice (record { instant = clock; install = own.install }, own)))) 1 0
-      ≡ cond {A = ℕ} (nat_lt 0 (length (notice (record { instant = clock; install = own.install }, own)))) 1 0 + 0 = omega arith in e)
-  times_if false = refl
+    -- each member fires where its subscription does
+    olds_fire : (subs : List Subscription) (ms : List Member) → Pairwise (Keeps labels h) subs ms → Installed h subs → AllByRecursion (λ n. n.install < made.install) ms
+        → Pairwise (λ s m. Keeps labels h s m × (instant m ≡ fires s h (Create statement))) subs ms
+    olds_fire [] [] p i b = tt
+    olds_fire [] (m ∷ ms) p i b = absurd p
+    olds_fire (x ∷ subs) [] p i b = absurd p
+    olds_fire (x ∷ subs) (m ∷ ms) p i b = ((p.0, quiet_one clock made.install m b.0 ∙ sym (old_quiet statement h x i.0)), olds_fire subs ms p.1 i.1 b.1)
 
-  pub create_times : (if nat_lt 0 (length (started_text labels store clock made)) then 1 else 0) ≡ times (λ f. nat_lt 0 (length (notice f))) (told h (Create statement))
-  create_times = times_if (made.timing.start == clock) ∙ ap (times (λ f. nat_lt 0 (length (notice f)))) (sym told_is)
+    own_keeps : Keeps labels h own made
+    own_keeps = keeps_new store clock count creates labels members old statement query action topics file whole binds kind h s
 
-module _ (store : StoreState) (clock count creates : ℕ) (labels : List Label) (members : List Member) (statement : Statement) (query : NormalQuery) (action : ℕ) (topics : List ℕ)
-    (whole : IsWhole statement) (binds : Binds statement.query (roots_in store) (Ok query)) (formed : IsWellFormed query) (within : action < length labels)
-    (kind : kind_at labels action ≡ kind_in statement.action labels)
-    (free : list_any (λ m. bytes_eq statement.name m.name) members ≡ false) (fits : is_at_odds (kind_in statement.action labels) statement.argument ≡ false)
-    (timely : is_expired (timed statement clock) (start_of statement.start clock) ≡ false) where
+    firing : Pairwise (λ s m. Keeps labels h s m × (instant m ≡ fires s h (Create statement))) (live h ++ own ∷ []) all
+    firing = pairwise_push (λ s m. Keeps labels h s m × (instant m ≡ fires s h (Create statement))) (live h) members own made (olds_fire (live h) members s.members (installed h) below) (own_keeps, own_fires)
+
+    olds_agree : (subs : List Subscription) (ms : List Member) → Pairwise (Keeps labels h) subs ms → Installed h subs → AllByRecursion (λ n. n.install < made.install) ms
+        → Pairwise (λ s m. Keeps labels h s m × (Agrees (is_some (instant m)) (fires s h (Create statement)) × IsFirst s h (Create statement))) subs ms
+    olds_agree [] [] p i b = tt
+    olds_agree [] (m ∷ ms) p i b = absurd p
+    olds_agree (x ∷ subs) [] p i b = absurd p
+    olds_agree (x ∷ subs) (m ∷ ms) p i b = ((p.0, (ap is_some (quiet_one clock made.install m b.0 ∙ sym (old_quiet statement h x i.0)), old_first x i.0)), olds_agree subs ms p.1 i.1 b.1)
+
+    kept : Pairwise (Keeps labels (Create statement ∷ h)) (live h ++ own ∷ []) created_members
+    kept = keep_all labels h (Create statement) store same_changes (λ m. is_some (instant m)) (live h ++ own ∷ []) all
+        (pairwise_push (λ s m. Keeps labels h s m × (Agrees (is_some (instant m)) (fires s h (Create statement)) × IsFirst s h (Create statement))) (live h) members own made
+        (olds_agree (live h) members s.members (installed h) below) (own_keeps, (ap is_some own_fires, own_first)))
+
+    contents_are : AreContents table.files (Create statement ∷ h)
+    contents_are = contents_installed (plan_of query) old table file.0 h (Create statement) done (number ∙ s.changes) (zero-add (changes h))
+        (subst (λ n. Fits n (world (sources (Create statement ∷ h))) table.files) (number ∙ s.changes) (subst (λ w. Fits old.number w table.files) (sym (world_is store (sources h) s.sources)) fits)) s.contents
+
+    -- the engine with the new member behind the others
+    pub create_follows : Follows (engine store clock (count + 1) (creates + 1) labels created_members table) (Create statement ∷ h)
+    create_follows = record {
+      sources = s.sources;
+      last = s.last;
+      changes = same_changes;
+      clock = s.clock;
+      creates = let c = s.creates in omega (arith, c);
+      members = kept;
+      contents = contents_are;
+      rising = rises_quietly h (Create statement) refl s.rising;
+    }
+
+    list_is : created_list ≡ map (noticed labels h (Create statement) store table.files) (firings h (Create statement))
+    list_is = told_list labels h (Create statement) store table.files instant (live h ++ own ∷ []) all
+        (tells_each labels h (Create statement) store table s.last s.rising contents_are (subst (λ n. AreUpTo n table.files) same_changes upto) instant (live h ++ own ∷ []) all firing can)
+
+    olds_quiet : (ms : List Member) → AllByRecursion (λ n. n.install < made.install) ms → told_of labels store table.files instant ms ≡ []
+    olds_quiet [] b = refl
+    olds_quiet (m ∷ ms) b = λ i. told_at labels store table.files m (quiet_one clock made.install m b.0 i) ++ olds_quiet ms b.1 i
+
+    -- it alone is told
+    one_told : created_list ≡ told_at labels store table.files made (instant made)
+    one_told =
+        flat_map_append (λ (m : Member). told_at labels store table.files m (instant m)) members (made ∷ [])
+        ∙ (λ i. olds_quiet members below i ++ (told_at labels store table.files made (instant made) ++ []))
+        ∙ append-nil (told_at labels store table.files made (instant made))
+
+    in_order : ordered_by (λ (t : Told). t.firing) created_list ≡ created_list
+    in_order = ap (ordered_by (λ (t : Told). t.firing)) one_told ∙ by (instant made) ∙ sym one_told
+      where
+        by : (o : Option ℕ) → ordered_by (λ (t : Told). t.firing) (told_at labels store table.files made o) ≡ told_at labels store table.files made o
+        by None = refl
+        by (Some at) = refl
+
+    pub create_text : flat_map (λ (t : Told). t.text) created_list ≡ notices (language_of labels) h (Create statement)
+    create_text = ap (flat_map (λ (t : Told). t.text)) (sym in_order) ∙ told_text_is labels h (Create statement) store table.files created_list list_is
+
+    pub create_times : times (λ (t : Told). nat_lt 0 (length t.text)) created_list ≡ times (λ f. nat_lt 0 (length (notice_at (language_of labels) h (Create statement) f))) (told h (Create statement))
+    create_times = told_times_is labels h (Create statement) store table.files created_list list_is
+
   -- a create that is accepted
-  pub create_accepted : (out line out' : List ℕ) (applied : Applied) (new : Member)
-      → FiresIf (start_of statement.start clock == clock) store (new_member statement query (timed statement clock) action creates topics) new → CanFire labels new
-      → line ≡ out ++ ok_text (count + 1)
-      → out' ≡ line ++ started_text labels store clock (new_member statement query (timed statement clock) action creates topics)
-      → applied.from ≡ length line → applied.to ≡ length out'
-      → applied.notices ≡ (if nat_lt 0 (length (started_text labels store clock (new_member statement query (timed statement clock) action creates topics))) then 1 else 0)
-      → Applies (engine store clock count creates labels members) (Create statement) out (Ok applied) (engine store clock (count + 1) (creates + 1) labels (members ++ new ∷ [])) out'
-  create_accepted out line out' applied new fired can first rest from to many =
-      let text = started_text labels store clock (new_member statement query (timed statement clock) action creates topics) in
+  pub create_accepted : is_at_odds (kind_in statement.action labels) statement.argument ≡ false → list_any (λ m. bytes_eq statement.name m.name) members ≡ false → is_expired (timed statement clock) (start_of statement.start clock) ≡ false
+      → AllByRecursion (CanTell labels store table) all → InstallsAreUpTo creates members
+      → (out line out' : List ℕ) (applied : Applied) (left : List Member) → line ≡ out ++ ok_text (count + 1)
+      → out' ≡ line ++ flat_map (λ (t : Told). t.text) created_list
+      → applied.from ≡ length line → applied.to ≡ length out' → applied.notices ≡ times (λ (t : Told). nat_lt 0 (length t.text)) created_list → left ≡ created_members
+      → Applies (engine store clock count creates labels members old) (Create statement) out (Ok applied) (engine store clock (count + 1) (creates + 1) labels left table) out'
+  create_accepted fitting free timely can few out line out' applied left first rest from to many is =
+      let text = flat_map (λ (t : Told). t.text) created_list in
       let whole_text : out' ≡ (out ++ ok_text (count + 1)) ++ text = rest ∙ ap (λ (l : List ℕ). l ++ text) first in
-      accepts (engine store clock count creates labels members) (Create statement) out applied (engine store clock (count + 1) (creates + 1) labels (members ++ new ∷ [])) out' text []
+      subst (λ (ms : List Member). Applies (engine store clock count creates labels members old) (Create statement) out (Ok applied) (engine store clock (count + 1) (creates + 1) labels ms table) out') (sym is)
+      (accepts (engine store clock count creates labels members old) (Create statement) out applied (engine store clock (count + 1) (creates + 1) labels created_members table) out' text []
       (record {
         accepted = λ h s. (
-          create_refusal store clock count creates labels members statement false false false None free (binds_freely statement.query (roots_in store) query binds) fits timely h s,
-          create_stands store clock count creates labels members statement query action topics whole binds formed within kind h s new fired can,
+          create_refusal store clock count creates labels members old statement false false false None free (binds_freely statement.query (roots_in store) query binds) fitting timely h s,
+          create_follows can few h s,
         );
-        tells = λ h s. create_text store clock count creates labels members statement query action topics whole binds formed within kind h s;
-        counts = λ h s. many ∙ create_times store clock count creates labels members statement query action topics whole binds formed within kind h s;
+        tells = λ h s. create_text can few h s;
+        counts = λ h s. many ∙ create_times can few h s;
         ends = λ h s. refl;
         counted = refl;
         named = refl;
       })
       (whole_text ∙ ap (λ (l : List ℕ). (out ++ ok_text (count + 1)) ++ l) (sym (append-nil text)))
       (from ∙ ap length first)
-      (to ∙ ap length whole_text)
-
--- what a first firing, or none, makes of a member and of the output
-pub record Started (labels : List Label) (store : StoreState) (clock : ℕ) (first new : Member) (line out' : List ℕ) (many : ℕ) : Type 0 where
-  pub fired : FiresIf (first.timing.start == clock) store first new
-  pub can : CanFire labels new
-  pub text : out' ≡ line ++ started_text labels store clock first
-  pub times : many ≡ (if nat_lt 0 (length (started_text labels store clock first)) then 1 else 0)
-
--- the engine with the member pushed, by the names of the code
-module _ (e inside : EngineState) (known : List Label) (handled : e.labels ≡ known) (counted : inside ≡ record e { count = e.count + 1 }) where
-  pub create_answers : (statement : Statement) (query : NormalQuery) (timing : Timing) (action : ℕ) (topics : List ℕ) → timing ≡ timed statement e.clock
-      → IsWhole statement → Binds statement.query (roots_in e.store) (Ok query) → IsWellFormed query → action < length known
-      → kind_at known action ≡ kind_in statement.action known → is_at_odds (kind_at known action) statement.argument ≡ false
-      → list_any (λ m. bytes_eq statement.name m.name) e.members ≡ false → is_expired timing timing.start ≡ false
-      → (out line out' : List ℕ) (applied : Applied) (first new : Member) (many : ℕ) (members : List Member)
-      → first ≡ new_member statement query timing action e.creates topics
-      → Started known inside.store inside.clock first new line out' many → line ≡ out ++ ok_text (e.count + 1)
-      → applied.from ≡ length line → applied.to ≡ length out' → applied.notices ≡ many → members ≡ inside.members ++ new ∷ []
-      → Applies e (Create statement) out (Ok applied) (engine inside.store inside.clock inside.count (inside.creates + 1) inside.labels members) out'
-  create_answers statement query timing action topics timed_is whole binds formed within kind fits free timely out line out' applied first new many members is started line_is from to notices push =
-      let here : Started e.labels e.store e.clock (new_member statement query (timed statement e.clock) action e.creates topics) new line out' many =
-      subst (λ (f : Member). Started e.labels e.store e.clock f new line out' many) (is ∙ ap (λ (t : Timing). new_member statement query t action e.creates topics) timed_is)
-      (subst (λ (x : EngineState). Started e.labels x.store x.clock first new line out' many) counted
-      (subst (λ (l : List Label). Started l inside.store inside.clock first new line out' many) (sym handled) started)) in
-      let kind_here : kind_at e.labels action ≡ kind_in statement.action e.labels = subst (λ (l : List Label). kind_at l action ≡ kind_in statement.action l) (sym handled) kind in
-      let fits_here : is_at_odds (kind_in statement.action e.labels) statement.argument ≡ false =
-      ap (λ k. is_at_odds k statement.argument) (sym kind_here) ∙ subst (λ (l : List Label). is_at_odds (kind_at l action) statement.argument ≡ false) (sym handled) fits in
-      subst (λ (n : EngineState). Applies e (Create statement) out (Ok applied) n out')
-      (sym ((λ i. engine inside.store inside.clock inside.count (inside.creates + 1) inside.labels (push i))
-      ∙ ap (λ (x : EngineState). engine x.store x.clock x.count (x.creates + 1) x.labels (x.members ++ new ∷ [])) counted))
-      (create_accepted e.store e.clock e.count e.creates e.labels e.members statement query action topics whole binds formed
-      (subst (λ (l : List Label). action < length l) (sym handled) within) kind_here free fits_here
-      (subst (λ (t : Timing). is_expired t t.start ≡ false) timed_is timely)
-      out line out' applied new here.fired here.can line_is here.text from to (notices ∙ here.times))
-
--- what holds of an engine whatever was answered
-abbrev pub Invariant : EngineState → Type 0
-Invariant e = IsEngine e.store e.count e.creates e.labels e.members
-
-module _ (e inside : EngineState) (counted : inside ≡ record e { count = e.count + 1 }) (holds : Invariant e) where
-  -- with the command counted
-  pub invariant_counted : Invariant inside
-  invariant_counted =
-      let a = holds.changes in let b = holds.creates_too in
-      subst Invariant (sym counted)
-      (record {
-        changes = (let l : e.store.changes ≤ e.count + 1 = omega (arith, a) in l);
-        creates_too = (let l : e.creates ≤ e.count + 1 = omega (arith, b) in l);
-        can = holds.can;
-        watch = holds.watch;
-        rise = holds.rise;
-        installed = holds.installed;
-      })
-
-  more_creates : inside.creates + 1 ≤ inside.count
-  more_creates = let b = holds.creates_too in subst (λ (x : EngineState). x.creates + 1 ≤ x.count) (sym counted) (let l : e.creates + 1 ≤ e.count + 1 = omega (arith, b) in l)
-
-  on_roll : AreOnRoll inside.labels inside.creates inside.members
-  on_roll = let i = invariant_counted in (i.can, i.rise, i.installed)
-
-  -- where the member did not get there
-  pub invariant_kept : (members : List Member) → members ≡ inside.members → Invariant (engine inside.store inside.clock inside.count (inside.creates + 1) inside.labels members)
-  invariant_kept members same =
-      let i = invariant_counted in
-      let r = subst (AreOnRoll inside.labels (inside.creates + 1)) (sym same) (roll_more inside.labels inside.creates inside.members on_roll) in
-      record {
-        changes = i.changes;
-        creates_too = more_creates;
-        can = r.0;
-        watch = subst (λ (ms : List Member). AllByRecursion (HasTopics inside.store) ms) (sym same) i.watch;
-        rise = r.1;
-        installed = r.2;
-      }
-
-  pub invariant_pushed : (members : List Member) (new : Member) (known : List Label) → e.labels ≡ known → CanFire known new → HasTopics inside.store new → new.install ≡ e.creates + 1 → members ≡ inside.members ++ new ∷ []
-      → Invariant (engine inside.store inside.clock inside.count (inside.creates + 1) inside.labels members)
-  invariant_pushed members new known handled can has installs same =
-      let i = invariant_counted in
-      let can_here : CanFire inside.labels new =
-      subst (λ (x : EngineState). CanFire x.labels new) (sym counted) (subst (λ (l : List Label). CanFire l new) (sym handled) can) in
-      let install_here : new.install ≡ inside.creates + 1 = installs ∙ ap (λ (x : EngineState). x.creates + 1) (sym counted) in
-      let r = subst (AreOnRoll inside.labels (inside.creates + 1)) (sym same) (roll_push inside.labels inside.creates inside.members new on_roll can_here install_here) in
-      record {
-        changes = i.changes;
-        creates_too = more_creates;
-        can = r.0;
-        watch = subst (λ (ms : List Member). AllByRecursion (HasTopics inside.store) ms) (sym same) (each_push (HasTopics inside.store) inside.members new i.watch has);
-        rise = r.1;
-        installed = r.2;
-      }
-
--- where some are taken away
-pub invariant_left : (e : EngineState) (keep : Member → Bool) → Invariant e → (members : List Member) → members ≡ filter keep e.members → Invariant (record e { members = members })
-invariant_left e keep i members left =
-    let r = roll_filter e.labels e.creates keep e.members members left (i.can, i.rise, i.installed) in
-    record {
-      changes = i.changes;
-      creates_too = i.creates_too;
-      can = r.0;
-      watch = subst (λ (ms : List Member). AllByRecursion (HasTopics e.store) ms) (sym left) (each_filter (HasTopics e.store) keep e.members i.watch);
-      rise = r.1;
-      installed = r.2;
-    }
-
--- where members fire, and the store has the same names
-pub invariant_fired : (e : EngineState) (store : StoreState) (test : Member → Bool) (fired_over : StoreState) → Invariant e → store.changes ≤ e.count → names store ≡ names e.store
-    → (news : List Member) → Pairwise (λ old new. FiresIf (test old) fired_over old new) e.members news → AllByRecursion (CanFire e.labels) news → Invariant (record e { store = store; members = news })
-invariant_fired e store test fired_over i few same news fired can = record {
-  changes = few;
-  creates_too = i.creates_too;
-  can = can;
-  watch = topics_stay e.store store same news (watch_new test fired_over e.store e.members news fired i.watch);
-  rise = rise_new test fired_over e.members news fired i.rise;
-  installed = few_new test fired_over e.creates e.members news fired i.installed;
-}
-
--- where the store alone is another, of the same names
-pub invariant_store : (e : EngineState) (store : StoreState) → Invariant e → store.changes ≤ e.count → names store ≡ names e.store → Invariant (record e { store = store })
-invariant_store e store i few same = record {
-  changes = few;
-  creates_too = i.creates_too;
-  can = i.can;
-  watch = topics_stay e.store store same e.members i.watch;
-  rise = i.rise;
-  installed = i.installed;
-}
+      (to ∙ ap length whole_text))
 
 -- the new install number is above all others
-pub above_all : (most : ℕ) (members : List Member) (new : Member) → InstallsAreUpTo most members → new.install ≡ most + 1 → AllByRecursion (λ m. m.install < new.install) members
-above_all most members new h e = each_more (λ (m : Member). m.install ≤ most) (λ (m : Member). m.install < new.install) (λ m le. (let l : m.install < new.install = omega (arith, le, e) in l)) members h
-
--- where one more source is declared
-pub invariant_declared : (e : EngineState) (store : StoreState) (name root : List ℕ) (key : Key) → Declares e.store store name root key → Invariant e → Invariant (record e { store = store })
-invariant_declared e store name root key d i =
-    let few = i.changes in
-    let same = d.changes in
-    record {
-      changes = (let l : store.changes ≤ e.count = omega (arith, few, same) in l);
-      creates_too = i.creates_too;
-      can = i.can;
-      watch = topics_behind e.store store name (names_declared e.store store name root key d) e.members i.watch;
-      rise = i.rise;
-      installed = i.installed;
-    }
+pub above_all : (most : ℕ) (members : List Member) (install : ℕ) → InstallsAreUpTo most members → install ≡ most + 1 → AllByRecursion (λ m. m.install < install) members
+above_all most members install h e = each_more (λ (m : Member). m.install ≤ most) (λ (m : Member). m.install < install) (λ m le. (let l : m.install < install = omega (arith, le, e) in l)) members h

@@ -1,5 +1,5 @@
 -- What the engine stands for behind each kind of command: what all kinds share.
-use Rattle.std.proofs.Common.{◌≡◌, ℕ, ◌+◌, Bool, true, false, ◌||◌, cond, List, [], ◌∷◌, ◌++◌, length, refl, sym, ◌∙◌, ap, subst, true≢false, append_assoc, length-append}
+use Rattle.std.proofs.Common.{◌≡◌, ℕ, ◌+◌, ◌≤◌, Bool, true, false, ◌||◌, cond, List, [], ◌∷◌, ◌++◌, length, refl, sym, ◌∙◌, ap, subst, true≢false, arith, append_assoc, length-append}
 use Rattle.std.specs.Prelude.{Some, None, Result, Ok, Err, IfOk, OnOk, OnErr, nat_lt}
 use Rattle.std.specs.List.{filter, flat_map, list_any}
 use Rattle.std.proofs.lemmas.List.{append-nil}
@@ -15,28 +15,33 @@ use Rattle.ncq_book.specs.declared.member.Member.{Member}
 use Rattle.ncq_engine.specs.Applies.{Applies, ok_text}
 use Rattle.ncq_engine.specs.Engines.{Pairwise}
 use Rattle.ncq_engine.specs.Firing.{fires}
-use Rattle.ncq_engine.specs.History.{History, Subscription}
+use Rattle.ncq_engine.specs.History.{History, Subscription, moved, now}
+use Rattle.ncq_engine.specs.Marks.{IsRising}
 use Rattle.ncq_engine.specs.Languages.{language_of}
 use Rattle.ncq_engine.specs.Notices.{fired_at, notice_at, told}
 use Rattle.ncq_engine.specs.Output.{expired_text, first_refusal, notices}
-use Rattle.ncq_engine.specs.Stands.{EngineState, Keeps, Stands}
+use Rattle.ncq_engine.specs.Stands.{EngineState, Follows, Keeps}
 use Rattle.ncq_engine.proofs.Keeping.{keeps_quiet}
+
+-- a command that leaves the clock leaves it rising
+pub rises_quietly : (h : History) (command : Command) → moved command (now h) ≡ now h → IsRising h → IsRising (command ∷ h)
+rises_quietly h command same rising = ((let l : now h ≤ moved command (now h) = omega (arith, same) in l), rising)
 
 -- a command that is refused leaves all as it was, but for the number of commands
 pub refuses : (old : EngineState) (command : Command) (why : Refusal) (out : List ℕ) (result : Result Applied ApplyError) (new : EngineState) (out' : List ℕ)
     → result ≡ Err (Refused why) → new ≡ record old { count = old.count + 1 } → out' ≡ out
-    → ((h : History) → Stands old h → first_refusal (language_of old.labels) h command ≡ Some why) → Applies old command out result new out'
+    → ((h : History) → Follows old h → first_refusal (language_of old.labels) h command ≡ Some why) → Applies old command out result new out'
 refuses old command why out result new out' is same untouched because =
     subst (λ (r : Result Applied ApplyError). Applies old command out r new out') (sym is)
     (subst (λ (n : EngineState). Applies old command out (Err (Refused why)) n out') (sym same)
-    ((λ h s. (because h s, record { sources = s.sources; last = s.last; changes = s.changes; clock = s.clock; creates = s.creates; members = s.members })), (refl, (refl, untouched))))
+    ((λ h s. (because h s, record { sources = s.sources; last = s.last; changes = s.changes; clock = s.clock; creates = s.creates; members = s.members; contents = s.contents; rising = s.rising })), (refl, (refl, untouched))))
 
 -- what is appended behind the first line, and what it stands for
 pub record Tells (old : EngineState) (command : Command) (new : EngineState) (text : List ℕ) (count : ℕ) (rest : List ℕ) : Type 0 where
-  pub accepted : (h : History) → Stands old h → (first_refusal (language_of old.labels) h command ≡ None) × Stands new (command ∷ h)
-  pub tells : (h : History) → Stands old h → text ≡ notices (language_of old.labels) h command
-  pub counts : (h : History) → Stands old h → count ≡ times (λ fired. nat_lt 0 (length (notice_at (language_of old.labels) h command fired))) (told h command)
-  pub ends : (h : History) → Stands old h → rest ≡ expired_text command h
+  pub accepted : (h : History) → Follows old h → (first_refusal (language_of old.labels) h command ≡ None) × Follows new (command ∷ h)
+  pub tells : (h : History) → Follows old h → text ≡ notices (language_of old.labels) h command
+  pub counts : (h : History) → Follows old h → count ≡ times (λ fired. nat_lt 0 (length (notice_at (language_of old.labels) h command fired))) (told h command)
+  pub ends : (h : History) → Follows old h → rest ≡ expired_text command h
   pub counted : new.count ≡ old.count + 1
   pub named : new.labels ≡ old.labels
 

@@ -8,11 +8,11 @@ use Rattle.ncq_event.specs.Calendars.{Entry, expired_at}
 use Rattle.ncq_event.specs.Instants.{is_expired}
 use Rattle.ncq_source.specs.StoreStates.{StoreState}
 use Rattle.ncq_engine.specs.Applies.{expired_name}
-use Rattle.ncq_engine.specs.Engines.{FiresIf, Pairwise}
-use Rattle.ncq_engine.specs.Tellings.{expired_of, line_of}
+use Rattle.ncq_engine.specs.Engines.{fired_if}
+use Rattle.ncq_engine.specs.Tellings.{expired_of, line_of, without}
 use Rattle.ncq_engine.proofs.ByInstall.{AreFound, found_each, left_out, numbers}
 use Rattle.ncq_engine.proofs.ClockLaws.{expired_names, unexpired}
-use Rattle.ncq_engine.proofs.EngineLaws.{pairwise_texts}
+use Rattle.ncq_engine.proofs.InvariantLaws.{one_install, rise_noted}
 
 module _ (instant : ℕ) where
   -- whether the member expires
@@ -38,38 +38,40 @@ module _ (instant : ℕ) where
         ]
 
   module _ (test : Member → Bool) (store : StoreState) where
-    one_same : (t : Bool) (old new : Member) → FiresIf t store old new → (old.timing ≡ new.timing) × (old.name ≡ new.name) × (old.install ≡ new.install)
-    one_same true old new f = (ap (λ (m : Member). m.timing) (sym f.rest), ap (λ (m : Member). m.name) (sym f.rest), ap (λ (m : Member). m.install) (sym f.rest))
-    one_same false old new f = (ap (λ (m : Member). m.timing) (sym f), ap (λ (m : Member). m.name) (sym f), ap (λ (m : Member). m.install) (sym f))
+    abbrev noted_one : Member → Member
+    noted_one m = fired_if (test m) store m
+
+    same_timing : (m : Member) → (noted_one m).timing ≡ m.timing
+    same_timing m = elim (test m) as (λ t. (fired_if t store m).timing ≡ m.timing) [ true ↦ refl | false ↦ refl ]
+
+    same_name : (m : Member) → (noted_one m).name ≡ m.name
+    same_name m = elim (test m) as (λ t. (fired_if t store m).name ≡ m.name) [ true ↦ refl | false ↦ refl ]
 
     -- firings change neither who expires nor the names
-    names_stay : (olds news : List Member) → Pairwise (λ old new. FiresIf (test old) store old new) olds news → expired_names instant olds ≡ expired_names instant news
-    names_stay olds news p =
-        pairwise_texts (λ old new. FiresIf (test old) store old new) ends ends (λ old new f. ap (λ t. is_expired t instant) (one_same (test old) old new f).0)
-        (λ m. expired_name m.name) (λ m. expired_name m.name) (λ old new f. ap expired_name (one_same (test old) old new f).1) olds news p
+    names_stay : (ms : List Member) → expired_names instant ms ≡ expired_names instant (map noted_one ms)
+    names_stay [] = refl
+    names_stay (m ∷ ms) =
+        (λ i. flat_map (λ m. expired_name m.name) (cond (is_expired (sym (same_timing m) i) instant) (m ∷ filter ends ms) (filter ends ms)))
+        ∙ (elim (ends (noted_one m)) as (λ t. flat_map (λ m. expired_name m.name) (cond t (m ∷ filter ends ms) (filter ends ms)) ≡ flat_map (λ m. expired_name m.name) (cond t (noted_one m ∷ filter ends (map noted_one ms)) (filter ends (map noted_one ms)))) [
+          | true ↦ λ i. expired_name (sym (same_name m) i) ++ names_stay ms i
+          | false ↦ names_stay ms
+        ])
 
-    numbers_stay : (olds news : List Member) → Pairwise (λ old new. FiresIf (test old) store old new) olds news → numbers ends olds ≡ numbers ends news
-    numbers_stay olds news p = singles ends olds
-        ∙ pairwise_texts (λ old new. FiresIf (test old) store old new) ends ends (λ old new f. ap (λ t. is_expired t instant) (one_same (test old) old new f).0)
-        (λ m. m.install ∷ []) (λ m. m.install ∷ []) (λ old new f. ap (λ n. n ∷ []) (one_same (test old) old new f).2) olds news p
-        ∙ sym (singles ends news)
-      where
-        singles : (keep : Member → Bool) (ms : List Member) → numbers keep ms ≡ flat_map (λ (m : Member). m.install ∷ []) (filter keep ms)
-        singles keep ms = by_list (filter keep ms)
-          where
-            by_list : (xs : List Member) → map (λ (m : Member). m.install) xs ≡ flat_map (λ (m : Member). m.install ∷ []) xs
-            by_list [] = refl
-            by_list (x ∷ xs) = ap (λ more. x.install ∷ more) (by_list xs)
+    numbers_stay : (ms : List Member) → numbers ends ms ≡ numbers ends (map noted_one ms)
+    numbers_stay [] = refl
+    numbers_stay (m ∷ ms) =
+        (λ i. map (λ m. m.install) (cond (is_expired (sym (same_timing m) i) instant) (m ∷ filter ends ms) (filter ends ms)))
+        ∙ (elim (ends (noted_one m)) as (λ t. map (λ m. m.install) (cond t (m ∷ filter ends ms) (filter ends ms)) ≡ map (λ m. m.install) (cond t (noted_one m ∷ filter ends (map noted_one ms)) (filter ends (map noted_one ms)))) [
+          | true ↦ λ i. sym (one_install store test m) i ∷ numbers_stay ms i
+          | false ↦ numbers_stay ms
+        ])
 
     -- the lines that the book gives are those of the members behind the firings
-    pub lines_are : (olds news : List Member) (installs : List ℕ) → InstallsRise olds → Pairwise (λ old new. FiresIf (test old) store old new) olds news
-        → installs ≡ expired_at instant (map timing_of olds) → flat_map (expired_of olds) installs ≡ expired_names instant news
-    lines_are olds news installs rise p e =
-        ap (flat_map (expired_of olds)) (e ∙ expired_numbers olds) ∙ found_lines olds olds (found_each olds rise) ∙ names_stay olds news p
+    pub lines_are : (ms : List Member) (installs : List ℕ) → InstallsRise ms → installs ≡ expired_at instant (map timing_of ms) → flat_map (expired_of ms) installs ≡ expired_names instant (map noted_one ms)
+    lines_are ms installs rise e = ap (flat_map (expired_of ms)) (e ∙ expired_numbers ms) ∙ found_lines ms ms (found_each ms rise) ∙ names_stay ms
 
     -- and those that are taken out are those that expire
-    pub out_are : (olds news : List Member) (installs : List ℕ) → InstallsRise news → Pairwise (λ old new. FiresIf (test old) store old new) olds news
-        → installs ≡ expired_at instant (map timing_of olds) → filter (λ m. not (list_any (nat_eq m.install) installs)) news ≡ unexpired instant news
-    out_are olds news installs rise p e =
-        ap (λ (xs : List ℕ). filter (λ (m : Member). not (list_any (nat_eq m.install) xs)) news) (e ∙ expired_numbers olds ∙ numbers_stay olds news p)
-        ∙ left_out ends news rise
+    pub out_are : (ms : List Member) (installs : List ℕ) → InstallsRise ms → installs ≡ expired_at instant (map timing_of ms) → without installs (map noted_one ms) ≡ unexpired instant (map noted_one ms)
+    out_are ms installs rise e =
+        ap (λ (xs : List ℕ). without xs (map noted_one ms)) (e ∙ expired_numbers ms ∙ numbers_stay ms)
+        ∙ left_out ends (map noted_one ms) (rise_noted store test ms rise)

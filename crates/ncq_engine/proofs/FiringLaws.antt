@@ -15,79 +15,77 @@ use Rattle.ncq_event.specs.Orders.{is_firing, ordered, ordered_by}
 use Rattle.ncq_event.proofs.OrderLaws.{order_unique, ordered_rising, ordered_times}
 use Rattle.ncq_event.proofs.CalendarLaws.{filter_rising, times_kept}
 use Rattle.ncq_source.specs.StoreStates.{StoreState}
-use Rattle.ncq_engine.specs.Engines.{Told, has_news_in, is_told_change, moved_instant, moved_told, rows_over, told_at, told_text}
+use Rattle.ncq_engine.specs.Engines.{Told, has_news_in, mark_in, moved_instant, told_at, told_text}
 use Rattle.ncq_engine.specs.Tellings.{firing_text, has_started, has_its_news, is_news_at, started_at, text_of}
 use Rattle.ncq_engine.proofs.ByInstall.{AreFound, firings_of, found_each}
-use Rattle.ncq_engine.proofs.ChangeLaws.{changed_instant, changed_texts, changed_times, changed_told}
+use Rattle.ncq_engine.proofs.ChangeLaws.{changed_instant}
 use Rattle.ncq_engine.proofs.Lists.{filter_append}
-use Rattle.ncq_engine.proofs.ToldLaws.{order_made, times_ordered}
+use Rattle.ncq_engine.proofs.ToldLaws.{order_made, times_ordered, told_of}
+use Rattle.ncq_shelf.specs.KeptFiles.{Files}
 
 -- a firing with its text
-module _ (labels : List Label) (store : StoreState) (all : List Member) where
+module _ (labels : List Label) (store : StoreState) (files : Files) (all : List Member) where
   abbrev with_text : Firing → Told
-  with_text firing = record { firing = firing; text = firing_text labels store all firing }
+  with_text firing = record { firing = firing; text = firing_text labels store files all firing }
 
-  text_found : (instant : ℕ) (o : Option Member) (m : Member) → o ≡ Some m → text_of labels store instant o ≡ told_text labels m instant (rows_over store m)
-  text_found instant o m e = ap (text_of labels store instant) e
+  text_found : (instant : ℕ) (o : Option Member) (m : Member) → o ≡ Some m → text_of labels store files instant o ≡ told_text labels store files m instant
+  text_found instant o m e = ap (text_of labels store files instant) e
 
   map_push : (xs ys : List Firing) → map with_text (xs ++ ys) ≡ map with_text xs ++ map with_text ys
   map_push [] ys = refl
   map_push (x ∷ xs) ys = ap (λ more. with_text x ∷ more) (map_push xs ys)
 
   module _ (instant : Member → Option ℕ) where
-    abbrev notices_of : List Member → List Told
-    notices_of ms = flat_map (λ m. told_at labels store m (instant m)) ms
-
-    one_told : (m : Member) (o : Option ℕ) → member_of m.install all ≡ Some m → map with_text (firing_at m.install o) ≡ told_at labels store m o
+    one_told : (m : Member) (o : Option ℕ) → member_of m.install all ≡ Some m → map with_text (firing_at m.install o) ≡ told_at labels store files m o
     one_told m None e = refl
     one_told m (Some d) e = λ i. record { firing = record { instant = d; install = m.install }; text = text_found d (member_of m.install all) m e i } ∷ []
 
     -- the firings of members, with their texts, are their notices
-    told_is : (ms : List Member) → AreFound all ms → map with_text (firings_of instant ms) ≡ notices_of ms
+    told_is : (ms : List Member) → AreFound all ms → map with_text (firings_of instant ms) ≡ told_of labels store files instant ms
     told_is [] h = refl
     told_is (m ∷ ms) h = map_push (firing_at m.install (instant m)) (firings_of instant ms) ∙ (λ i. one_told m (instant m) h.0 i ++ told_is ms h.1 i)
 
-  texts_are : (xs : List Firing) → flat_map (firing_text labels store all) xs ≡ flat_map (λ (t : Told). t.text) (map with_text xs)
+  texts_are : (xs : List Firing) → flat_map (firing_text labels store files all) xs ≡ flat_map (λ (t : Told). t.text) (map with_text xs)
   texts_are [] = refl
-  texts_are (x ∷ xs) = ap (λ more. firing_text labels store all x ++ more) (texts_are xs)
+  texts_are (x ∷ xs) = ap (λ more. firing_text labels store files all x ++ more) (texts_are xs)
 
-  times_are : (xs : List Firing) → times (λ f. nat_lt 0 (length (firing_text labels store all f))) xs ≡ times (λ (t : Told). nat_lt 0 (length t.text)) (map with_text xs)
+  times_are : (xs : List Firing) → times (λ f. nat_lt 0 (length (firing_text labels store files all f))) xs ≡ times (λ (t : Told). nat_lt 0 (length t.text)) (map with_text xs)
   times_are [] = refl
-  times_are (x ∷ xs) = ap (λ n. cond (nat_lt 0 (length (firing_text labels store all x))) 1 0 + n) (times_are xs)
+  times_are (x ∷ xs) = ap (λ n. cond (nat_lt 0 (length (firing_text labels store files all x))) 1 0 + n) (times_are xs)
 
-  -- the texts of firings of a change are those of the members that it fires
-  module _ (name : List ℕ) (now : ℕ) (rise : InstallsRise all) where
-    pub change_texts : (firings : List Firing) → firings ≡ firings_of (changed_instant name now) all → flat_map (firing_text labels store all) firings ≡ flat_map (λ (t : Told). t.text) (changed_told labels store name now all)
-    change_texts firings e =
-        ap (flat_map (firing_text labels store all)) e ∙ texts_are (firings_of (changed_instant name now) all)
-        ∙ ap (flat_map (λ (t : Told). t.text)) (told_is (changed_instant name now) all (found_each all rise))
+  -- the texts of firings are those of the members that fire
+  module _ (instant : Member → Option ℕ) (rise : InstallsRise all) where
+    pub told_texts : (firings : List Firing) → firings ≡ firings_of instant all → flat_map (firing_text labels store files all) firings ≡ flat_map (λ (t : Told). t.text) (told_of labels store files instant all)
+    told_texts firings e =
+        ap (flat_map (firing_text labels store files all)) e ∙ texts_are (firings_of instant all)
+        ∙ ap (flat_map (λ (t : Told). t.text)) (told_is instant all (found_each all rise))
 
-    pub change_times : (firings : List Firing) → firings ≡ firings_of (changed_instant name now) all
-        → times (λ f. nat_lt 0 (length (firing_text labels store all f))) firings ≡ times (λ (t : Told). nat_lt 0 (length t.text)) (changed_told labels store name now all)
-    change_times firings e =
-        ap (times (λ f. nat_lt 0 (length (firing_text labels store all f)))) e ∙ times_are (firings_of (changed_instant name now) all)
-        ∙ ap (times (λ (t : Told). nat_lt 0 (length t.text))) (told_is (changed_instant name now) all (found_each all rise))
+    pub told_times : (firings : List Firing) → firings ≡ firings_of instant all
+        → times (λ f. nat_lt 0 (length (firing_text labels store files all f))) firings ≡ times (λ (t : Told). nat_lt 0 (length t.text)) (told_of labels store files instant all)
+    told_times firings e =
+        ap (times (λ f. nat_lt 0 (length (firing_text labels store files all f)))) e ∙ times_are (firings_of instant all)
+        ∙ ap (times (λ (t : Told). nat_lt 0 (length t.text))) (told_is instant all (found_each all rise))
 
   -- and so are those of a move of the clock, in the order of the firings
   module _ (now to : ℕ) (rise : InstallsRise all) where
     abbrev moved : List Told
-    moved = flat_map (moved_told labels store now to) all
+    moved = told_of labels store files (moved_instant store now to) all
 
     moved_is : map with_text (firings_of (moved_instant store now to) all) ≡ moved
     moved_is = told_is (moved_instant store now to) all (found_each all rise)
 
     pub move_texts : (firings : List Firing) → firings ≡ ordered (firings_of (moved_instant store now to) all)
-        → flat_map (firing_text labels store all) firings ≡ flat_map (λ (t : Told). t.text) (ordered_by (λ (t : Told). t.firing) moved)
+        → flat_map (firing_text labels store files all) firings ≡ flat_map (λ (t : Told). t.text) (ordered_by (λ (t : Told). t.firing) moved)
     move_texts firings e =
         let own = firings_of (moved_instant store now to) all in
-        ap (flat_map (firing_text labels store all)) e ∙ texts_are (ordered own)
+        ap (flat_map (firing_text labels store files all)) e ∙ texts_are (ordered own)
         ∙ ap (flat_map (λ (t : Told). t.text)) (sym (order_made with_text (λ (f : Firing). f) (λ (t : Told). t.firing) (λ x. refl) own) ∙ ap (ordered_by (λ (t : Told). t.firing)) moved_is)
 
     pub move_times : (firings : List Firing) → firings ≡ ordered (firings_of (moved_instant store now to) all)
-        → times (λ f. nat_lt 0 (length (firing_text labels store all f))) firings ≡ times (λ (t : Told). nat_lt 0 (length t.text)) moved
+        → times (λ f. nat_lt 0 (length (firing_text labels store files all f))) firings ≡ times (λ (t : Told). nat_lt 0 (length t.text)) moved
     move_times firings e =
         let own = firings_of (moved_instant store now to) all in
-        let test : Firing → Bool = λ f. nat_lt 0 (length (firing_text labels store all f)) in
+        let test : Firing → Bool = λ f. nat_lt 0 (length (firing_text labels store files all f)) in
         ap (times test) e ∙ times_ordered (λ (f : Firing). f) test own ∙ times_are own ∙ ap (times (λ (t : Told). nat_lt 0 (length t.text))) moved_is
 
 -- an order of those that are kept
@@ -97,16 +95,16 @@ kept_in_order test xs = order_unique (filter test xs) (filter test (ordered xs))
 
 -- the due firings with news are those of the members that a move fires
 module _ (store : StoreState) (now to : ℕ) (all : List Member) where
-  news_found : (m : Member) → member_of m.install all ≡ Some m → has_its_news store (member_of m.install all) ≡ has_news_in store m.mark m.sources
+  news_found : (m : Member) → member_of m.install all ≡ Some m → has_its_news store (member_of m.install all) ≡ has_news_in store (mark_in store m) m.sources
   news_found m e = ap (has_its_news store) e
 
   one_due : (m : Member) (o : Option ℕ) → member_of m.install all ≡ Some m
-      → filter (is_news_at store all) (firing_at m.install o) ≡ firing_at m.install (if has_news_in store m.mark m.sources then o else None)
-  one_due m None e = elim (has_news_in store m.mark m.sources) as (λ t. [] ≡ firing_at m.install (if t then None else None)) [ true ↦ refl | false ↦ refl ]
+      → filter (is_news_at store all) (firing_at m.install o) ≡ firing_at m.install (if has_news_in store (mark_in store m) m.sources then o else None)
+  one_due m None e = elim (has_news_in store (mark_in store m) m.sources) as (λ t. [] ≡ firing_at m.install (if t then None else None)) [ true ↦ refl | false ↦ refl ]
   one_due m (Some d) e =
       let f : Firing = record { instant = d; install = m.install } in
       (λ i. cond (news_found m e i) (f ∷ []) [])
-      ∙ (elim (has_news_in store m.mark m.sources) as (λ t. cond t (f ∷ []) [] ≡ firing_at m.install (if t then Some d else None)) [ true ↦ refl | false ↦ refl ])
+      ∙ (elim (has_news_in store (mark_in store m) m.sources) as (λ t. cond t (f ∷ []) [] ≡ firing_at m.install (if t then Some d else None)) [ true ↦ refl | false ↦ refl ])
 
   due_kept : (ms : List Member) → AreFound all ms → filter (is_news_at store all) (flat_map (due_of now to) (map timing_of ms)) ≡ firings_of (moved_instant store now to) ms
   due_kept [] h = refl

@@ -1,21 +1,18 @@
--- What is kept of a subscription stays its own behind a command: where it does not fire as it is, and where it fires with the rows and the number of now.
-use Rattle.std.proofs.Common.{◌≡◌, ℕ, ◌≤◌, Bool, true, false, List, [], ◌∷◌, refl, sym, ◌∙◌, ap, subst, arith, true≢false}
-use Rattle.std.specs.Prelude.{Option, Some, None, nat_le, is_some}
+-- What is kept of a subscription stays its own behind a command, with what is written down of its firing.
+use Rattle.std.proofs.Common.{◌≡◌, ℕ, ◌≤◌, max, Bool, true, false, ◌==◌, List, [], ◌∷◌, map, refl, sym, ◌∙◌, ap, subst, arith, true≢false}
+use Rattle.std.specs.Prelude.{Option, Some, None, nat_le, is_some, if◌then◌else◌}
+use Rattle.std.specs.Option.{option_map}
 use Rattle.std.proofs.lemmas.Bool.Decides.{nat_tests}
-use Rattle.ncq_base.specs.Counts.{SameCounts}
 use Rattle.ncq_callback.specs.Labels.{Label}
-use Rattle.ncq_change.specs.Stores.{world_in}
-use Rattle.ncq_plan.specs.declared.expr.Expr.{Expr}
-use Rattle.ncq_plan.specs.Exprs.{rows_in}
 use Rattle.ncq_script.specs.declared.command.Command.{Command}
 use Rattle.ncq_source.specs.StoreStates.{StoreState}
 use Rattle.ncq_book.specs.declared.member.Member.{Member}
-use Rattle.ncq_engine.specs.Engines.{CanFire, FiresIf, HasFired, Pairwise, rows_over, with_told}
-use Rattle.ncq_engine.specs.Firing.{fires, mark, marked}
-use Rattle.ncq_engine.specs.History.{History, Subscription, changes, sources, up_to, world}
-use Rattle.ncq_engine.specs.Stands.{Keeps, rows_at}
-use Rattle.ncq_engine.proofs.HistoryLaws.{up_to_whole}
-use Rattle.ncq_engine.proofs.Worlds.{world_at_mark}
+use Rattle.ncq_engine.specs.Engines.{Pairwise, fired_if, last_in, latest_in, mark_in, with_note}
+use Rattle.ncq_engine.specs.Firing.{fires, mark, marked, sources_of}
+use Rattle.ncq_engine.specs.History.{History, Subscription, changes, last_change}
+use Rattle.ncq_engine.specs.Marks.{IsRising, first_mark, first_marked, latest_change, mark_from, noted}
+use Rattle.ncq_engine.specs.Stands.{Keeps}
+use Rattle.ncq_engine.proofs.MarkLaws.{marks_follow}
 
 changes_grow : (command : Command) (before : History) → changes before ≤ changes (command ∷ before)
 changes_grow command before = omega arith
@@ -29,86 +26,87 @@ mark_few s (command ∷ before) number e = by_firing (λ n q. mark_few s before 
     by_firing few_before None e = let few = few_before number e in let more = changes_grow command before in omega (arith, few, more)
     by_firing few_before (Some instant) e = let same : changes (command ∷ before) ≡ number = cc in omega (arith, same)
 
--- the rows at a mark stay as they are
-pub rows_stay : (plan : Expr) (command : Command) (h : History) (o : Option ℕ) → ((number : ℕ) → o ≡ Some number → number ≤ changes h)
-    → rows_at plan (command ∷ h) o ≡ rows_at plan h o
-rows_stay plan command h None few = refl
-rows_stay plan command h (Some number) few = ap (rows_in plan) (world_at_mark number command h (few number refl))
+-- the greatest of the last changes
+pub latest_is : (store : StoreState) (h : History) → ((name : List ℕ) → last_in store name ≡ last_change name h) → (names : List (List ℕ)) → latest_in store names ≡ latest_change names h
+latest_is store h last [] = refl
+latest_is store h last (name ∷ more) = λ i. max (last name i) (latest_is store h last more i)
 
-module _ (labels : List Label) (h : History) (command : Command) (s : Subscription) (m : Member) (k : Keeps labels h s m) where
-  -- it does not fire
-  pub keeps_quiet : fires s h command ≡ None → Keeps labels (command ∷ h) s m
-  keeps_quiet quiet =
-      let same : mark s (command ∷ h) ≡ mark s h = λ i. marked (quiet i) (changes (command ∷ h)) (mark s h) in
-      record {
-        name = k.name;
-        sources = k.sources;
-        whole = k.whole;
-        roots = k.roots;
-        binds = k.binds;
-        timing = k.timing;
-        kind = k.kind;
-        argument = k.argument;
-        install = k.install;
-        marked = k.marked ∙ sym same;
-        told = subst (SameCounts m.told) (sym (rows_stay m.plan command h (mark s h) (mark_few s h)) ∙ ap (rows_at m.plan (command ∷ h)) (sym same)) k.told;
-        fires = k.fires;
-      }
+-- the mark that follows from what is written down is the subscription's
+pub mark_is : (labels : List Label) (h : History) (s : Subscription) (m : Member) → Keeps labels h s m → IsRising h → (store : StoreState) → ((name : List ℕ) → last_in store name ≡ last_change name h) → mark_in store m ≡ mark s h
+mark_is labels h s m k rising store last =
+    (λ i. if (k.timing i).every == 0 then option_map (λ first. max first (latest_in store (k.sources i))) (k.marked i) else k.marked i)
+    ∙ (λ i. if s.statement.every == 0 then option_map (λ first. max first (latest_is store h last (sources_of s.statement) i)) (noted s h) else noted s h)
+    ∙ sym (marks_follow s h rising)
 
-  -- it fires
-  pub keeps_fired : (store : StoreState) (new : Member) (instant : ℕ) → fires s h command ≡ Some instant → world (sources (command ∷ h)) ≡ world_in store
-      → store.changes ≡ changes (command ∷ h) → HasFired store m new → CanFire labels new → Keeps labels (command ∷ h) s new
-  keeps_fired store new instant fired same count has can =
-      subst (λ n. CanFire labels n → Keeps labels (command ∷ h) s n) (sym has.rest) told can
-    where
-      now : mark s (command ∷ h) ≡ Some (changes (command ∷ h))
-      now = λ i. marked (fired i) (changes (command ∷ h)) (mark s h)
+-- a member whose mark is written down as it is behind the command is kept
+pub keeps_as : (labels : List Label) (h : History) (command : Command) (s : Subscription) (m : Member) → Keeps labels h s m → (note : Option ℕ) → note ≡ noted s (command ∷ h) → Keeps labels (command ∷ h) s (record m { noted = note })
+keeps_as labels h command s m k note e = record {
+  name = k.name;
+  sources = k.sources;
+  whole = k.whole;
+  roots = k.roots;
+  binds = k.binds;
+  timing = k.timing;
+  kind = k.kind;
+  argument = k.argument;
+  install = k.install;
+  marked = e;
+}
 
-      whole : up_to (changes (command ∷ h)) (command ∷ h) ≡ command ∷ h
-      whole = up_to_whole (changes (command ∷ h)) (command ∷ h) (let w : nat_le (changes (command ∷ h)) (changes (command ∷ h)) ≡ true = grind (arith, nat_tests) in w)
+-- a command that writes nothing down keeps it as it is
+pub keeps_noted : (labels : List Label) (h : History) (command : Command) (s : Subscription) (m : Member) → Keeps labels h s m → noted s (command ∷ h) ≡ noted s h → Keeps labels (command ∷ h) s m
+keeps_noted labels h command s m k e = keeps_as labels h command s m k m.noted (k.marked ∙ sym e)
 
-      rows : rows_over store m ≡ rows_at m.plan (command ∷ h) (mark s (command ∷ h))
-      rows = ap (rows_in m.plan) (sym same ∙ ap (λ (g : History). world (sources g)) (sym whole)) ∙ ap (rows_at m.plan (command ∷ h)) (sym now)
+-- nothing is written down of what does not fire
+pub quiet_note : (s : Subscription) (h : History) (command : Command) → fires s h command ≡ None → noted s (command ∷ h) ≡ noted s h
+quiet_note s h command quiet =
+    λ i. if s.statement.every == 0 then (first ∙ unmarked (first_mark s h)) i else marked (quiet i) (changes (command ∷ h)) (mark s h)
+  where
+    first : first_mark s (command ∷ h) ≡ first_marked None (changes (command ∷ h)) (first_mark s h)
+    first = λ i. first_marked (quiet i) (changes (command ∷ h)) (first_mark s h)
 
-      told : CanFire labels (with_told (Some store.changes) new.told m) → Keeps labels (command ∷ h) s (with_told (Some store.changes) new.told m)
-      told can = record {
-        name = k.name;
-        sources = k.sources;
-        whole = k.whole;
-        roots = k.roots;
-        binds = k.binds;
-        timing = k.timing;
-        kind = k.kind;
-        argument = k.argument;
-        install = k.install;
-        marked = ap Some count ∙ sym now;
-        told = subst (SameCounts new.told) rows has.told;
-        fires = can;
-      }
+    unmarked : (o : Option ℕ) → first_marked None (changes (command ∷ h)) o ≡ o
+    unmarked None = refl
+    unmarked (Some number) = refl
+
+pub keeps_quiet : (labels : List Label) (h : History) (command : Command) (s : Subscription) (m : Member) → Keeps labels h s m → fires s h command ≡ None → Keeps labels (command ∷ h) s m
+keeps_quiet labels h command s m k quiet = keeps_noted labels h command s m k (quiet_note s h command quiet)
+
+-- what is written down of what fires: of a timer the number of now, and of one that fires at changes that too where it is its first firing
+pub fired_note : (s : Subscription) (h : History) (command : Command) (instant : ℕ) → fires s h command ≡ Some instant → (s.statement.every == 0 ≡ true → first_mark s h ≡ None) → Some (changes (command ∷ h)) ≡ noted s (command ∷ h)
+fired_note s h command instant fired first = by_kind (s.statement.every == 0) refl
+  where
+    by_kind : (b : Bool) → s.statement.every == 0 ≡ b → Some (changes (command ∷ h)) ≡ noted s (command ∷ h)
+    by_kind true based =
+        (λ i. first_marked (sym fired i) (changes (command ∷ h)) (sym (first based) i))
+        ∙ (λ i. if sym based i then first_mark s (command ∷ h) else mark s (command ∷ h))
+    by_kind false timer =
+        (λ i. marked (sym fired i) (changes (command ∷ h)) (mark s h))
+        ∙ (λ i. if sym timer i then first_mark s (command ∷ h) else mark s (command ∷ h))
 
 -- the test that the code makes agrees with the definition
 abbrev pub Agrees : Bool → Option ℕ → Type 0
 Agrees test fired = test ≡ is_some fired
 
-module _ (labels : List Label) (h : History) (command : Command) (store : StoreState) (same : world (sources (command ∷ h)) ≡ world_in store) (count : store.changes ≡ changes (command ∷ h)) where
-  pub keeps_one : (s : Subscription) (old new : Member) (test : Bool) → Agrees test (fires s h command) → Keeps labels h s old → FiresIf test store old new → CanFire labels new → Keeps labels (command ∷ h) s new
-  keeps_one s old new test agrees k fired can =
-      by_firing (fires s h command) refl test agrees fired
+-- a firing that is first where it fires at changes
+abbrev pub IsFirst : Subscription → History → Command → Type 0
+IsFirst s h command = (instant : ℕ) → fires s h command ≡ Some instant → s.statement.every == 0 ≡ true → first_mark s h ≡ None
+
+module _ (labels : List Label) (h : History) (command : Command) (store : StoreState) (count : store.changes ≡ changes (command ∷ h)) where
+  pub keeps_one : (s : Subscription) (m : Member) (test : Bool) → Agrees test (fires s h command) → Keeps labels h s m → IsFirst s h command → Keeps labels (command ∷ h) s (fired_if test store m)
+  keeps_one s m test agrees k first = by_firing (fires s h command) refl test agrees
     where
-      by_firing : (o : Option ℕ) → fires s h command ≡ o → (test : Bool) → Agrees test o → FiresIf test store old new → Keeps labels (command ∷ h) s new
-      by_firing None e true a f = absurd (true≢false a)
-      by_firing None e false a f = subst (Keeps labels (command ∷ h) s) (sym f) (keeps_quiet labels h command s old k e)
-      by_firing (Some instant) e true a f = keeps_fired labels h command s old k store new instant e same count f can
-      by_firing (Some instant) e false a f = absurd (true≢false (sym a))
+      by_firing : (o : Option ℕ) → fires s h command ≡ o → (test : Bool) → Agrees test o → Keeps labels (command ∷ h) s (fired_if test store m)
+      by_firing None e true a = absurd (true≢false a)
+      by_firing None e false a = keeps_quiet labels h command s m k e
+      by_firing (Some instant) e true a = keeps_as labels h command s m k (Some store.changes) (ap Some count ∙ fired_note s h command instant e (first instant e))
+      by_firing (Some instant) e false a = absurd (true≢false (sym a))
 
   -- so it is of all that are live
-  pub keep_all : (test : Member → Bool) (subs : List Subscription) (olds news : List Member)
-      → Pairwise (λ s m. Keeps labels h s m × Agrees (test m) (fires s h command)) subs olds
-      → Pairwise (λ old new. FiresIf (test old) store old new × CanFire labels new) olds news → Pairwise (Keeps labels (command ∷ h)) subs news
-  keep_all test [] [] [] p q = tt
-  keep_all test [] [] (n ∷ news) p q = absurd q
-  keep_all test [] (m ∷ olds) news p q = absurd p
-  keep_all test (s ∷ subs) [] news p q = absurd p
-  keep_all test (s ∷ subs) (m ∷ olds) [] p q = absurd q
-  keep_all test (s ∷ subs) (m ∷ olds) (n ∷ news) p q =
-      (keeps_one s m n (test m) p.0.1 p.0.0 q.0.0 q.0.1, keep_all test subs olds news p.1 q.1)
+  pub keep_all : (test : Member → Bool) (subs : List Subscription) (ms : List Member)
+      → Pairwise (λ s m. Keeps labels h s m × (Agrees (test m) (fires s h command) × IsFirst s h command)) subs ms
+      → Pairwise (Keeps labels (command ∷ h)) subs (map (λ m. fired_if (test m) store m) ms)
+  keep_all test [] [] p = tt
+  keep_all test [] (m ∷ ms) p = absurd p
+  keep_all test (s ∷ subs) [] p = absurd p
+  keep_all test (s ∷ subs) (m ∷ ms) p = (keeps_one s m (test m) p.0.1.0 p.0.0 p.0.1.1, keep_all test subs ms p.1)

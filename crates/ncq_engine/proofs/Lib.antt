@@ -7,7 +7,6 @@ pub mod Worlds
 pub mod NoticeLaws
 pub mod Keeping
 pub mod ToldLaws
-pub mod WalkLaws
 pub mod Places
 pub mod StoreLaws
 pub mod EngineLaws
@@ -15,7 +14,10 @@ pub mod CommandLaws
 pub mod ChangeLaws
 pub mod MemberLaws
 pub mod TellingLoops
-pub mod RollLaws
+pub mod StartedLaws
+pub mod TableLaws
+pub mod ContentLaws
+pub mod InvariantLaws
 pub mod CreateLaws
 pub mod Actions
 pub mod ClockLaws

@@ -110,7 +110,7 @@ module _ (s : Subscription) (command : Command) (before : History) where
       ∙ sym (λ i. greatest (first_marked (f i) (changes (command ∷ before)) (first_mark s before)) (command ∷ before))
 
 -- a subscription that is not there yet has not fired
-never_first : (s : Subscription) (history : History) → creates history < s.install → first_mark s history ≡ None
+pub never_first : (s : Subscription) (history : History) → creates history < s.install → first_mark s history ≡ None
 never_first s [] later = refl
 never_first s (command ∷ before) later =
     let sooner : creates before < s.install = let grow = creates_grow command before in omega arith in
@@ -255,3 +255,11 @@ marks_follow s history rising =
       | true ↦ λ p. based_mark s p history rising
       | false ↦ λ p. refl
     ] refl
+
+-- a clock does not fire one that fires at changes and has fired
+pub clock_quiet : (s : Subscription) (h : History) (instant : ℕ) → s.statement.every == 0 ≡ true → IsRising h → (first : ℕ) → first_mark s h ≡ Some first → fires s h (Clock instant) ≡ None
+clock_quiet s h instant based rising first p =
+    let m : mark s h ≡ Some (max first (latest_change (sources_of s.statement) h)) = based_mark s based h rising ∙ ap (λ o. option_map (λ first. max first (latest_change (sources_of s.statement) h)) o) p in
+    let quiet : has_news (mark s h) s.statement h ≡ false =
+    ap (λ o. has_news o s.statement h) m ∙ no_news (sources_of s.statement) (max first (latest_change (sources_of s.statement) h)) h (omega arith) in
+    λ i. if there s based h first p i && quiet i then due (timing_of s) (now h) instant else None

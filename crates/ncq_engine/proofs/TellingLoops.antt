@@ -6,17 +6,15 @@ use Rattle.std.specs.Option.{option_copied}
 use Rattle.std.proofs.lemmas.Bool.Decides.{nat_tests}
 use Rattle.std.proofs.lemmas.List.{append-nil, length-take-le}
 use Rattle.std.specs.List.{find, flat_map, AllByRecursion}
-use Rattle.ncq_base.specs.Counts.{SameCounts}
 use Rattle.ncq_base.specs.Keys.{times}
 use Rattle.ncq_book.specs.declared.member.Member.{Member}
 use Rattle.ncq_book.specs.Books.{is_of, member_of}
 use Rattle.ncq_callback.specs.Labels.{Label}
 use Rattle.ncq_event.specs.declared.firing.Firing.{Firing}
-use Rattle.ncq_plan.specs.Exprs.{expr_width}
 use Rattle.ncq_source.specs.StoreStates.{StoreState}
-use Rattle.ncq_engine.specs.declared.telling.News.{News}
-use Rattle.ncq_engine.specs.Engines.{Pairwise, rows_over, told_text}
-use Rattle.ncq_engine.specs.Tellings.{IsNews, firing_text, text_of}
+use Rattle.ncq_engine.specs.Engines.{Pairwise, told_text}
+use Rattle.ncq_shelf.specs.KeptFiles.{Files}
+use Rattle.ncq_engine.specs.Tellings.{firing_text, text_of}
 use Rattle.ncq_engine.proofs.Lists.{each_push, flat_map_append, times_push}
 
 pub pairwise_push : {A B : Type 0} (R : A → B → Type 0) (xs : List A) (ys : List B) (x : A) (y : B) → Pairwise R xs ys → R x y → Pairwise R (xs ++ x ∷ []) (ys ++ y ∷ [])
@@ -66,14 +64,9 @@ found_has P install (x ∷ ms) m h e =
     ] e
 
 -- the text of a firing whose member is found
-pub text_found : (labels : List Label) (store : StoreState) (members : List Member) (firing : Firing) (m : Member) → Some m ≡ member_of firing.install members
-    → told_text labels m firing.instant (rows_over store m) ≡ firing_text labels store members firing
-text_found labels store members firing m e = ap (text_of labels store firing.instant) e
-
--- and what it is told of
-pub news_found : (store : StoreState) (members : List Member) (n : News) (m : Member) → Some m ≡ member_of n.install members
-    → SameCounts n.rows (rows_over store m) → AllByRecursion (λ row. length row ≡ expr_width m.plan) n.rows → IsNews store members n
-news_found store members n m e counts wide = subst (λ o. IfSome o (λ m. SameCounts n.rows (rows_over store m) × AllByRecursion (λ row. length row ≡ expr_width m.plan) n.rows)) e (counts, wide)
+pub text_found : (labels : List Label) (store : StoreState) (files : Files) (members : List Member) (firing : Firing) (m : Member) → Some m ≡ member_of firing.install members
+    → told_text labels store files m firing.instant ≡ firing_text labels store files members firing
+text_found labels store files members firing m e = ap (text_of labels store files firing.instant) e
 
 -- what holds of each holds at each place
 pub each_here : {A : Type 0} (P : A → Type 0) (xs : List A) (at : ℕ) (d : A) → at < length xs → AllByRecursion P xs → P (get_or xs at d)

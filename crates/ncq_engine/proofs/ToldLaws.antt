@@ -5,7 +5,6 @@ use Rattle.std.proofs.lemmas.Bool.Decides.{nat_tests}
 use Rattle.std.specs.List.{filter, flat_map, AllByRecursion}
 use Rattle.ncq_base.specs.Keys.{times}
 use Rattle.ncq_callback.specs.Labels.{Label}
-use Rattle.ncq_change.specs.Stores.{world_in}
 use Rattle.ncq_event.specs.declared.firing.Firing.{Firing}
 use Rattle.ncq_event.specs.Orders.{is_before, placed_by, ordered_by}
 use Rattle.ncq_script.specs.declared.command.Command.{Command}
@@ -13,13 +12,17 @@ use Rattle.ncq_script.specs.declared.command.Command.TheVariants.{Declare, Delta
 use Rattle.ncq_source.specs.StoreStates.{StoreState}
 use Rattle.ncq_book.specs.declared.member.Member.{Member}
 use Rattle.ncq_engine.specs.Engines.{Told}
-use Rattle.ncq_engine.specs.Engines.{Pairwise, told_at}
+use Rattle.ncq_engine.specs.Engines.{CanTell, Pairwise, last_in, told_at, told_text}
 use Rattle.ncq_engine.specs.Firing.{fires}
 use Rattle.ncq_event.specs.Instants.{is_expired}
-use Rattle.ncq_engine.specs.History.{History, Subscription, created, creates, is_named, live, sources, timing_of, world}
+use Rattle.ncq_engine.specs.History.{History, Subscription, changes, created, creates, is_named, last_change, live, timing_of}
 use Rattle.ncq_engine.specs.Languages.{language_of}
 use Rattle.ncq_engine.specs.Notices.{fired_at, firings, notice_at, told}
-use Rattle.ncq_engine.specs.Stands.{Keeps}
+use Rattle.ncq_engine.specs.Marks.{IsRising}
+use Rattle.ncq_engine.specs.Stands.{AreContents, Keeps}
+use Rattle.ncq_group.specs.Tables.{TableState}
+use Rattle.ncq_shelf.specs.Contents.{AreUpTo}
+use Rattle.ncq_shelf.specs.KeptFiles.{Files}
 use Rattle.ncq_engine.proofs.Lists.{each_filter, each_push}
 use Rattle.ncq_engine.proofs.HistoryLaws.{installed}
 use Rattle.ncq_engine.proofs.NoticeLaws.{text_is}
@@ -123,15 +126,23 @@ module _ (instant : ℕ) (fired : Subscription → Option ℕ) (one : (s : Subsc
       by_firing rest None e = rest
       by_firing rest (Some c) e = (behind_all s.install c (one s c e) xs r.0, rest)
 
-module _ (labels : List Label) (h : History) (command : Command) (store : StoreState) (same : world (sources (command ∷ h)) ≡ world_in store) where
+-- what members are told, each with its firing
+abbrev pub told_of : List Label → StoreState → Files → (Member → Option ℕ) → List Member → List Told
+told_of labels store files instant ms = flat_map (λ m. told_at labels store files m (instant m)) ms
+
+module _ (labels : List Label) (h : History) (command : Command) (store : StoreState) (files : Files) where
   -- the notice of a firing, with the firing
   abbrev pub noticed : Fired → Told
   noticed f = record { firing = f.0; text = notice_at (language_of labels) h command f }
 
-  told_one : (s : Subscription) (m : Member) (o : Option ℕ) → Keeps labels h s m → told_at labels store m o ≡ map noticed (fired_at s o)
+  -- the member is told what the notice of its subscription says
+  abbrev pub Tells : Subscription → Member → Type 0
+  Tells s m = (m.install ≡ s.install)
+      × ((instant : ℕ) → told_text labels store files m instant ≡ notice_at (language_of labels) h command (record { instant = instant; install = s.install }, s))
+
+  told_one : (s : Subscription) (m : Member) (o : Option ℕ) → Tells s m → told_at labels store files m o ≡ map noticed (fired_at s o)
   told_one s m None k = refl
-  told_one s m (Some d) k =
-      λ i. record { firing = record { instant = d; install = k.install i }; text = text_is labels h s m k command store d same i } ∷ []
+  told_one s m (Some d) k = λ i. record { firing = record { instant = d; install = k.0 i }; text = k.1 d i } ∷ []
 
   map_push : (xs ys : List Fired) → map noticed (xs ++ ys) ≡ map noticed xs ++ map noticed ys
   map_push [] ys = refl
@@ -139,13 +150,13 @@ module _ (labels : List Label) (h : History) (command : Command) (store : StoreS
 
   -- what the members are told is what is told of their subscriptions
   pub told_list : (instant : Member → Option ℕ) (subs : List Subscription) (ms : List Member)
-      → Pairwise (λ s m. Keeps labels h s m × (instant m ≡ fires s h command)) subs ms
-      → flat_map (λ m. told_at labels store m (instant m)) ms ≡ map noticed (flat_map (λ s. fired_at s (fires s h command)) subs)
+      → Pairwise (λ s m. Tells s m × (instant m ≡ fires s h command)) subs ms
+      → told_of labels store files instant ms ≡ map noticed (flat_map (λ s. fired_at s (fires s h command)) subs)
   told_list instant [] [] p = refl
   told_list instant [] (m ∷ ms) p = absurd p
   told_list instant (s ∷ subs) [] p = absurd p
   told_list instant (s ∷ subs) (m ∷ ms) p =
-      (λ i. told_at labels store m (p.0.1 i) ++ told_list instant subs ms p.1 i)
+      (λ i. told_at labels store files m (p.0.1 i) ++ told_list instant subs ms p.1 i)
       ∙ (λ i. told_one s m (fires s h command) p.0.0 i ++ map noticed (flat_map (λ s. fired_at s (fires s h command)) subs))
       ∙ sym (map_push (fired_at s (fires s h command)) (flat_map (λ s. fired_at s (fires s h command)) subs))
 
@@ -170,3 +181,17 @@ module _ (labels : List Label) (h : History) (command : Command) (store : StoreS
   told_times_is list e =
       ap (times (λ (t : Told). nat_lt 0 (length t.text))) e ∙ times_of (firings h command)
       ∙ sym (times_ordered (λ (f : Fired). f.0) (λ f. nat_lt 0 (length (notice_at (language_of labels) h command f))) (firings h command))
+
+-- the members of an engine that follows the history are told what the notices say: the store is that before the command, and the files are those behind it
+module _ (labels : List Label) (h : History) (command : Command) (store : StoreState) (table : TableState)
+    (last : (name : List ℕ) → last_in store name ≡ last_change name h) (rising : IsRising h) (contents : AreContents table.files (command ∷ h))
+    (upto : AreUpTo (changes (command ∷ h)) table.files) where
+  pub tells_one : (s : Subscription) (m : Member) → Keeps labels h s m → CanTell labels store table m → Tells labels h command store table.files s m
+  tells_one s m k can = (k.install, λ instant. text_is labels h command store table last rising contents upto s m k can instant)
+
+  pub tells_each : (instant : Member → Option ℕ) (subs : List Subscription) (ms : List Member) → Pairwise (λ s m. Keeps labels h s m × (instant m ≡ fires s h command)) subs ms
+      → AllByRecursion (CanTell labels store table) ms → Pairwise (λ s m. Tells labels h command store table.files s m × (instant m ≡ fires s h command)) subs ms
+  tells_each instant [] [] p c = tt
+  tells_each instant [] (m ∷ ms) p c = absurd p
+  tells_each instant (s ∷ subs) [] p c = absurd p
+  tells_each instant (s ∷ subs) (m ∷ ms) p c = ((tells_one s m p.0.0 c.0, p.0.1), tells_each instant subs ms p.1 c.1)

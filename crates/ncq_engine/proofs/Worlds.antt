@@ -94,7 +94,7 @@ pub roots_are : (store : StoreState) (ss : List Source) → map content_of store
 roots_are store ss e = λ i. λ name. (ap (option_map (λ (s : Source). s.root)) (source_is store ss e name) ∙ same_root (source_named store name)) i
 
 -- a new source has no elements
-new_is_empty : (name new root : List ℕ) (key : Key) (ss : List Source)
+pub new_is_empty : (name new root : List ℕ) (key : Key) (ss : List Source)
     → elements_of (source_in name (ss ++ record { name = new; root = root; key = key; elements = empty } ∷ [])) ≡ elements_of (source_in name ss)
 new_is_empty name new root key [] =
     elim (bytes_eq name new) as (λ t. elements_of (if t then Some (record { name = new; root = root; key = key; elements = empty }) else None) ≡ []) [ true ↦ no_entries | false ↦ refl ]

@@ -20,7 +20,7 @@ use Rattle.ncq_engine.specs.History.{History}
 use Rattle.ncq_engine.specs.Languages.{language_of}
 use Rattle.ncq_engine.specs.Notices.{notice_at, told}
 use Rattle.ncq_engine.specs.Output.{accepted_text, first_refusal, notices}
-use Rattle.ncq_engine.specs.Stands.{EngineState, Stands}
+use Rattle.ncq_engine.specs.Stands.{EngineState, Follows, Stands}
 
 -- the line that begins the answer to an accepted command
 abbrev pub ok_text : ℕ → List ℕ
@@ -75,10 +75,9 @@ IfAnswered (Err (Refused why)) holds = holds
 IfAnswered (Err OutOfMemory) holds = Unit {0}
 
 -- where the notices begin and end, and how many there are
-abbrev pub WritesNotices : EngineState → Command → List ℕ → Applied → Type 0
-WritesNotices old command out applied =
-    (history : History) → Stands old history
-    → (applied.from ≡ length out + length (ok_text (old.count + 1)))
+abbrev pub AreNotices : EngineState → History → Command → List ℕ → Applied → Type 0
+AreNotices old history command out applied =
+    (applied.from ≡ length out + length (ok_text (old.count + 1)))
     × ((applied.to
     ≡ applied.from + length (notices (language_of old.labels) history command))
     × (applied.notices
@@ -86,20 +85,28 @@ WritesNotices old command out applied =
     (notice_at (language_of old.labels) history command fired)))
     (told history command)))
 
--- the command is accepted: its answer was appended, and the engine stands for it. Only the crate's
--- private clauses cite this and what is below.
+abbrev pub WritesNotices : EngineState → Command → List ℕ → Applied → Type 0
+WritesNotices old command out applied =
+    OfEach old (λ history. AreNotices old history command out applied)
+
+-- it holds of each history that the engine follows. Only the crate's private clauses cite this and
+-- what is below.
+abbrev pub OfFollowed : EngineState → (History → Type 0) → Type 0
+OfFollowed engine holds = (history : History) → Follows engine history → holds history
+
+-- the command is accepted: its answer was appended, and the engine follows it
 abbrev pub Accepts : EngineState → Command → List ℕ → EngineState → List ℕ → Type 0
 Accepts old command out new out' =
-    (history : History) → Stands old history
+    (history : History) → Follows old history
     → (first_refusal (language_of old.labels) history command ≡ None)
-    × (Stands new (command ∷ history)
+    × (Follows new (command ∷ history)
     × (out' ≡ out ++ accepted_text (language_of old.labels) history (old.count + 1) command))
 
--- the command is refused for this, and the engine stands for what it stood for
+-- the command is refused for this, and the engine follows what it followed
 abbrev pub Refuses : EngineState → Command → Refusal → EngineState → Type 0
 Refuses old command why new =
-    (history : History) → Stands old history
-    → (first_refusal (language_of old.labels) history command ≡ Some why) × Stands new history
+    (history : History) → Follows old history
+    → (first_refusal (language_of old.labels) history command ≡ Some why) × Follows new history
 
 -- what each answer says
 abbrev pub Applies
@@ -107,7 +114,8 @@ abbrev pub Applies
 Applies old command out (Ok applied) new out' =
     Accepts old command out new out'
     × ((new.count ≡ old.count + 1)
-    × ((new.labels ≡ old.labels) × WritesNotices old command out applied))
+    × ((new.labels ≡ old.labels)
+    × OfFollowed old (λ history. AreNotices old history command out applied)))
 Applies old command out (Err (Refused why)) new out' =
     Refuses old command why new
     × ((new.count ≡ old.count + 1) × ((new.labels ≡ old.labels) × (out' ≡ out)))

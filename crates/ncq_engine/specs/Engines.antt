@@ -1,47 +1,36 @@
 -- An engine and its subscriptions, as contracts see them, and what a firing makes of a
 -- subscription.
 use Rattle.std.specs.Prelude.{◌≡◌, ◌<◌, ◌≤◌, ◌==◌, ◌&&◌, ℕ, Bool, true, false, if◌then◌else◌}
-use Rattle.std.specs.Prelude.{List, []}
+use Rattle.std.specs.Prelude.{List, [], max, ◌*◌}
 use Rattle.std.specs.Prelude.{◌∷◌, length}
-use Rattle.std.specs.Prelude.{Option, Some, None, nat_lt, nat_le, slice_get, map, ◌+◌}
+use Rattle.std.specs.Prelude.{Option, Some, None, nat_lt, nat_le, slice_get, map, ◌+◌, IfSome}
+use Rattle.std.specs.FinMap.{get}
 use Rattle.std.specs.Option.{option_map, unwrap_or}
 use Rattle.std.specs.List.{list_any, AllByRecursion}
 use Rattle.std.specs.Str.{bytes_eq}
-use Rattle.ncq_base.specs.Counts.{SameCounts}
-use Rattle.ncq_bag.specs.Bags.{difference}
-use Rattle.ncq_callback.specs.Gathered.{answers, answer_of}
+use Rattle.ncq_base.specs.declared.atom.FileId.{FileId}
 use Rattle.ncq_callback.specs.Labels.{Label}
 use Rattle.ncq_change.specs.Stores.{source_named, world_in}
 use Rattle.ncq_event.specs.Instants.{due}
 use Rattle.ncq_event.specs.declared.firing.Firing.{Firing}
 use Rattle.ncq_event.specs.declared.timing.Timing.{Timing}
 use Rattle.ncq_plan.specs.declared.query.NormalQuery.{NormalQuery}
-use Rattle.ncq_plan.specs.Exprs.{rows_in, expr_width}
 use Rattle.ncq_plan.specs.Plans.{plan_of}
-use Rattle.ncq_plan.specs.Residuals.{passes}
 use Rattle.ncq_plan.specs.WellFormed.{IsWellFormed}
-use Rattle.ncq_row.specs.Embeddings.{Row}
+use Rattle.ncq_midfile.specs.Content.{IsSoundAt}
+use Rattle.ncq_midfile.specs.declared.signed.SignedRow.{SignedRow}
+use Rattle.ncq_shelf.specs.KeptFiles.{KeptFile, Files}
+use Rattle.ncq_shelf.specs.Stands.{Stands as HasFile}
+use Rattle.ncq_shelf.specs.Contents.{Fits}
+use Rattle.ncq_group.specs.Tables.{TableState}
 use Rattle.ncq_source.specs.StoreStates.{StoreState, found}
 use Rattle.ncq_source.specs.Stores.{Source}
 use Rattle.ncq_book.specs.declared.member.Member.{Member}
 use Rattle.ncq_book.specs.Books.{InstallsRise}
+use Rattle.ncq_news.specs.News.{since_mark, entries_of}
 use Rattle.ncq_xmlql.specs.declared.model.Statement.{Statement}
 use Rattle.ncq_engine.specs.Firing.{sources_of}
 use Rattle.ncq_engine.specs.Notices.{rendered}
-
--- the rows that a subscription's plan has over the elements of a store
-abbrev pub rows_over : StoreState → Member → List Row
-rows_over store m = rows_in m.plan (world_in store)
-
--- the canonical bytes of its answer, from rows of its plan
-abbrev pub answers_in : NormalQuery → List Row → List (List ℕ)
-answers_in query rows = answers (passes query.residual) (answer_of query.template) rows
-
--- what it is told at an instant, where these are the rows of its plan now
-abbrev pub told_text : List Label → Member → ℕ → List Row → List ℕ
-told_text labels m instant now =
-    rendered (option_map (λ label. label.1) (slice_get labels m.action)) m.argument m.name instant
-    (difference (answers_in m.query now) (answers_in m.query m.told))
 
 -- the number of the last change of the source of this name, 0 where it never changed or is not
 -- declared
@@ -51,6 +40,32 @@ last_of (Some source) = source.last
 
 abbrev pub last_in : StoreState → List ℕ → ℕ
 last_in store name = last_of (source_named store name)
+
+-- the greatest of the last changes of these sources
+abbrev pub latest_in : StoreState → List (List ℕ) → ℕ
+latest_in store [] = 0
+latest_in store (source ∷ more) = max (last_in store source) (latest_in store more)
+
+-- the number of changes at its latest firing: of one that fires at changes it follows from its first
+-- firing and the last changes of its sources
+abbrev pub mark_in : StoreState → Member → Option ℕ
+mark_in store m = if m.timing.every == 0
+    then option_map (λ first. max first (latest_in store m.sources)) m.noted else m.noted
+
+-- the signed rows of a file
+abbrev pub rows_in_file : Option KeptFile → List SignedRow
+rows_in_file None = []
+rows_in_file (Some file) = file.content.rows
+
+-- the signed rows of its file behind its mark
+abbrev pub news_of : StoreState → Files → Member → List SignedRow
+news_of store files m = since_mark (mark_in store m) (rows_in_file (get files m.file.0))
+
+-- what it is told at an instant
+abbrev pub told_text : List Label → StoreState → Files → Member → ℕ → List ℕ
+told_text labels store files m instant =
+    rendered (option_map (λ label. label.1) (slice_get labels m.action)) m.argument m.name instant
+    (entries_of m.query (news_of store files m))
 
 -- whether it fires at a change of this source now
 abbrev pub is_told_change : List ℕ → ℕ → Member → Bool
@@ -66,29 +81,27 @@ has_news_in store (Some number) sources =
 -- the instant at which a move of the clock fires it
 abbrev pub moved_instant : StoreState → ℕ → ℕ → Member → Option ℕ
 moved_instant store now to m =
-    if has_news_in store m.mark m.sources then due m.timing now to else None
+    if has_news_in store (mark_in store m) m.sources then due m.timing now to else None
 
--- a member that can fire: its query is well formed, its plan is the query's, its handler is there,
--- and the rows that it was told of are wide enough
-pub record CanFire (labels : List Label) (m : Member) : Type 0 where
+-- a member that can be told: its query is well formed, its handler is there, it has the file of its
+-- plan, and that file tells its content now and at the member's mark
+pub record CanTell (labels : List Label) (store : StoreState) (table : TableState) (m : Member)
+    : Type 0 where
   pub formed : IsWellFormed m.query
-  pub plan : m.plan ≡ plan_of m.query
   pub action : m.action < length labels
-  pub wide : AllByRecursion (λ row. length row ≡ expr_width m.plan) m.told
+  pub file : KeptFile
+  pub at : get table.files m.file.0 ≡ Some file
+  pub own : file.expr ≡ plan_of m.query
+  pub sound : IsSoundAt table.number file.content.rows
+  pub base : IfSome (mark_in store m) (λ number. file.content.base ≤ number)
 
--- a member with another mark and other rows that it was told of
-abbrev pub with_told : Option ℕ → List Row → Member → Member
-with_told mark rows m = record m { mark = mark; told = rows }
-
--- it fired: it has the rows of now, and the number of changes of now as its mark
-pub record HasFired (store : StoreState) (old new : Member) : Type 0 where
-  pub told : SameCounts new.told (rows_over store old)
-  pub rest : new ≡ with_told (Some store.changes) new.told old
+-- a member that has fired at a number of changes
+abbrev pub with_note : ℕ → Member → Member
+with_note number m = record m { noted = Some number }
 
 -- it fired where the test says so, and else it is as it was
-abbrev pub FiresIf : Bool → StoreState → Member → Member → Type 0
-FiresIf true store old new = HasFired store old new
-FiresIf false store old new = new ≡ old
+abbrev pub fired_if : Bool → StoreState → Member → Member
+fired_if fires store m = if fires then with_note store.changes m else m
 
 -- the two lists are of one length, and the items at each place are so related
 abbrev pub Pairwise : {A B : Type 0} → (A → B → Type 0) → List A → List B → Type 0
@@ -97,32 +110,19 @@ Pairwise R [] (y ∷ ys) = ⊥
 Pairwise R (x ∷ xs) [] = ⊥
 Pairwise R (x ∷ xs) (y ∷ ys) = R x y × Pairwise R xs ys
 
--- the notice of a member at a change of this source
-abbrev pub changed_text : List Label → StoreState → List ℕ → ℕ → Member → List ℕ
-changed_text labels store source now m =
-    if is_told_change source now m then told_text labels m now (rows_over store m) else []
-
--- the notice of a new one, where it starts now
-abbrev pub started_text : List Label → StoreState → ℕ → Member → List ℕ
-started_text labels store now m =
-    if m.timing.start == now then told_text labels m now (rows_over store m) else []
-
 -- a firing with the text of its notice
 pub record Told : Type 0 where
   pub firing : Firing
   pub text : List ℕ
 
--- its notice at a move of the clock, with the firing
-abbrev pub told_at : List Label → StoreState → Member → Option ℕ → List Told
-told_at labels store m None = []
-told_at labels store m (Some instant) =
+-- its notice where it fires, with the firing
+abbrev pub told_at : List Label → StoreState → Files → Member → Option ℕ → List Told
+told_at labels store files m None = []
+told_at labels store files m (Some instant) =
     record {
       firing = record { instant = instant; install = m.install };
-      text = told_text labels m instant (rows_over store m);
+      text = told_text labels store files m instant;
     } ∷ []
-
-abbrev pub moved_told : List Label → StoreState → ℕ → ℕ → Member → List Told
-moved_told labels store now to m = told_at labels store m (moved_instant store now to m)
 
 -- none has an install number above this one
 abbrev pub InstallsAreUpTo : ℕ → List Member → Type 0
@@ -133,29 +133,33 @@ abbrev pub HasTopics : StoreState → Member → Type 0
 HasTopics store m = map (found store) m.sources ≡ map Some m.topics
 
 -- the subscription that a create makes, before its first firing
-abbrev pub new_member : Statement → NormalQuery → Timing → ℕ → ℕ → List ℕ → Member
-new_member statement query timing action creates topics = record {
+abbrev pub new_member : Statement → NormalQuery → Timing → ℕ → ℕ → List ℕ → FileId → Member
+new_member statement query timing action creates topics file = record {
   name = statement.name;
   sources = sources_of statement;
   topics = topics;
   query = query;
-  plan = plan_of query;
+  file = file;
   timing = timing;
   action = action;
   argument = unwrap_or statement.argument [];
   install = creates + 1;
-  mark = None;
-  told = [];
+  noted = None;
 }
 
 -- what holds of an engine whatever was answered: there are no more changes and creates than
--- commands, and its members can fire, watch their sources and rise by install number
-pub record IsEngine
-    (store : StoreState) (count creates : ℕ) (labels : List Label) (members : List Member)
-    : Type 0 where
+-- commands, and no source has changed later; its members can be told, watch their sources and rise by
+-- install number; its files have the rows of the sources as they stand, and no more numbers were
+-- given than creates can take
+pub record IsEngine (store : StoreState) (count creates : ℕ) (labels : List Label)
+    (members : List Member) (table : TableState) : Type 0 where
   pub changes : store.changes ≤ count
   pub creates_too : creates ≤ count
-  pub can : AllByRecursion (CanFire labels) members
+  pub lasts : (name : List ℕ) → last_in store name ≤ store.changes
+  pub can : AllByRecursion (CanTell labels store table) members
   pub watch : AllByRecursion (HasTopics store) members
   pub rise : InstallsRise members
   pub installed : InstallsAreUpTo creates members
+  pub number : table.number ≡ store.changes
+  pub fits : Fits table.number (world_in store) table.files
+  pub next : table.next_file ≤ 256 * creates

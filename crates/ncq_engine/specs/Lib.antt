@@ -7,6 +7,5 @@ pub mod Marks
 pub mod Languages
 pub mod Engines
 pub mod Stands
-pub mod Walks
 pub mod Applies
 pub mod Tellings

@@ -1,29 +1,31 @@
 -- The engine stands for a history.
-use Rattle.std.specs.Prelude.{◌≡◌, ℕ, List, [], Option, Some, None, Ok, slice_get, map}
-use Rattle.std.specs.Prelude.{refl}
+use Rattle.std.specs.Prelude.{◌≡◌, ◌≤◌, ℕ, List, Some, Ok, slice_get, map, refl}
+use Rattle.std.specs.FinMap.{get}
 use Rattle.std.specs.Option.{option_map, unwrap_or}
 use Rattle.std.specs.Coded.{Coded, code_by, coded×, coded_ℕ, coded_list}
-use Rattle.ncq_base.specs.Counts.{SameCounts}
 use Rattle.ncq_bind.specs.Bindings.{Binds, Roots}
 use Rattle.ncq_callback.specs.Labels.{Label}
 use Rattle.ncq_callback.specs.contracts.notice.Kind.{the_row as kind_row}
 use Rattle.ncq_book.specs.contracts.member.Member.{the_row as member_row}
-use Rattle.ncq_plan.specs.declared.expr.Expr.{Expr}
+use Rattle.ncq_book.specs.declared.member.Member.{Member}
+use Rattle.ncq_midfile.specs.Content.{IsContent}
 use Rattle.ncq_plan.specs.Exprs.{rows_in}
-use Rattle.ncq_row.specs.Embeddings.{Row}
+use Rattle.ncq_shelf.specs.KeptFiles.{KeptFile, Files}
+use Rattle.ncq_group.specs.Tables.{TableState, table_code}
+use Rattle.ncq_roll.specs.Shares.{Shares}
 use Rattle.ncq_source.specs.Stores.{Source as Declared}
 use Rattle.ncq_source.specs.StoreStates.{StoreState, store_code}
 use Rattle.ncq_xmlql.specs.WellFormed.{IsWellFormed}
-use Rattle.ncq_book.specs.declared.member.Member.{Member}
-use Rattle.ncq_engine.specs.Engines.{CanFire, Pairwise, last_in}
-use Rattle.ncq_engine.specs.Firing.{sources_of, mark}
+use Rattle.ncq_engine.specs.Engines.{Pairwise, last_in}
+use Rattle.ncq_engine.specs.Firing.{sources_of}
 use Rattle.ncq_engine.specs.History.{History, Source, Subscription, changes, creates, last_change}
 use Rattle.ncq_engine.specs.History.{live, now, sources, timing_of, up_to, world}
+use Rattle.ncq_engine.specs.Marks.{IsRising, noted}
 use Rattle.ncq_engine.specs.Notices.{kind_in}
 
 -- what contracts see of an engine: the store, the clock, how many commands were answered and how
--- many creates accepted, the names and kinds of its handlers, and the live subscriptions in the
--- order of their creates
+-- many creates accepted, the names and kinds of its handlers, the live subscriptions in the order of
+-- their creates, and the table of the files that they share
 pub record EngineState : Type 0 where
   pub store : StoreState
   pub clock : ℕ
@@ -31,21 +33,24 @@ pub record EngineState : Type 0 where
   pub creates : ℕ
   pub labels : List Label
   pub members : List Member
+  pub table : TableState
 
 -- how an engine is written as a value
 abbrev pub engine_code : Coded EngineState
-engine_code = code_by (StoreState × (ℕ × (ℕ × (ℕ × (List Label × List Member)))))
+engine_code =
+    code_by (StoreState × (ℕ × (ℕ × (ℕ × (List Label × (List Member × TableState))))))
     (coded× store_code (coded× coded_ℕ (coded× coded_ℕ (coded× coded_ℕ
     (coded× (coded_list (coded× (coded_list coded_ℕ) kind_row.coded))
-    (coded_list member_row.coded))))))
-    (λ e. (e.store, (e.clock, (e.count, (e.creates, (e.labels, e.members))))))
+    (coded× (coded_list member_row.coded) table_code))))))
+    (λ e. (e.store, (e.clock, (e.count, (e.creates, (e.labels, (e.members, e.table)))))))
     (λ p. record {
       store = p.0;
       clock = p.1.0;
       count = p.1.1.0;
       creates = p.1.1.1.0;
       labels = p.1.1.1.1.0;
-      members = p.1.1.1.1.1;
+      members = p.1.1.1.1.1.0;
+      table = p.1.1.1.1.1.1;
     })
     (λ _. refl)
 
@@ -58,13 +63,8 @@ content_of declared = record {
   elements = declared.elements;
 }
 
--- the rows of a plan at a mark, and none before the first firing
-abbrev pub rows_at : Expr → History → Option ℕ → List Row
-rows_at plan history None = []
-rows_at plan history (Some number) = rows_in plan (world (sources (up_to number history)))
-
 -- what is kept of a subscription is its own: its query is the normal query of its statement, and
--- the rows that it was told of are those of the plan at its mark
+-- what is written down of its mark is what its mark follows from
 pub record Keeps (labels : List Label) (history : History) (s : Subscription) (m : Member)
     : Type 0 where
   pub name : m.name ≡ s.statement.name
@@ -77,15 +77,29 @@ pub record Keeps (labels : List Label) (history : History) (s : Subscription) (m
       ≡ kind_in s.statement.action labels
   pub argument : m.argument ≡ unwrap_or s.statement.argument []
   pub install : m.install ≡ s.install
-  pub marked : m.mark ≡ mark s history
-  pub told : SameCounts m.told (rows_at m.plan history (mark s history))
-  pub fires : CanFire labels m
+  pub marked : m.noted ≡ noted s history
 
--- the store, the clock, the creates and the live subscriptions are those after the history
-pub record Stands (engine : EngineState) (history : History) : Type 0 where
+-- each file has, at each change from its base on, the rows that its expression had then
+abbrev pub AreContents : Files → History → Type 0
+AreContents files history =
+    (number : ℕ) (file : KeptFile) (change : ℕ) → get files number ≡ Some file
+    → file.content.base ≤ change → change ≤ changes history
+    → IsContent change file.content.rows
+    (rows_in file.expr (world (sources (up_to change history))))
+
+-- the store, the clock, the creates and the live subscriptions are those after the history, and the
+-- files tell the sources at each change
+pub record Follows (engine : EngineState) (history : History) : Type 0 where
   pub sources : map content_of engine.store.sources ≡ sources history
   pub last : (name : List ℕ) → last_in engine.store name ≡ last_change name history
   pub changes : engine.store.changes ≡ changes history
   pub clock : engine.clock ≡ now history
   pub creates : engine.creates ≡ creates history
   pub members : Pairwise (Keeps engine.labels history) (live history) engine.members
+  pub contents : AreContents engine.table.files history
+  pub rising : IsRising history
+
+-- the engine stands for the history, and its subscriptions share their files
+pub record Stands (engine : EngineState) (history : History) : Type 0 where
+  pub follows : Follows engine history
+  pub shares : Shares engine.members engine.table

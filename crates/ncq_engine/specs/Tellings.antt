@@ -1,17 +1,17 @@
 -- Who fires and what they are told, by install numbers. Only the crate's private clauses cite it.
-use Rattle.std.specs.Prelude.{◌≡◌, ◌&&◌, ◌==◌, ℕ, Bool, true, false, nat_le, List, [], ◌∷◌, map}
-use Rattle.std.specs.Prelude.{Option, Some, None, if◌then◌else◌, IfSome, length}
-use Rattle.std.specs.List.{AllByRecursion}
-use Rattle.ncq_base.specs.Counts.{SameCounts}
+use Rattle.std.specs.Prelude.{◌≡◌, ◌&&◌, ◌==◌, ℕ, Bool, true, false, nat_le, nat_eq, List, [], ◌∷◌}
+use Rattle.std.specs.Prelude.{Option, Some, None, if◌then◌else◌, map, not}
+use Rattle.std.specs.FinMap.{get}
+use Rattle.std.specs.List.{filter, list_any}
 use Rattle.ncq_book.specs.declared.member.Member.{Member}
-use Rattle.ncq_book.specs.Books.{member_of, noted}
+use Rattle.ncq_book.specs.Books.{member_of, is_of}
 use Rattle.ncq_callback.specs.Labels.{Label}
 use Rattle.ncq_event.specs.declared.firing.Firing.{Firing}
-use Rattle.ncq_plan.specs.Exprs.{expr_width}
+use Rattle.ncq_roll.specs.Rolls.{RollState}
+use Rattle.ncq_shelf.specs.KeptFiles.{KeptFile, Files}
 use Rattle.ncq_source.specs.StoreStates.{StoreState}
-use Rattle.ncq_engine.specs.declared.telling.News.{News}
 use Rattle.ncq_engine.specs.Applies.{expired_name}
-use Rattle.ncq_engine.specs.Engines.{has_news_in, rows_over, told_text}
+use Rattle.ncq_engine.specs.Engines.{has_news_in, mark_in, told_text, with_note}
 
 -- the line of a member that expires
 abbrev pub line_of : Option Member → List ℕ
@@ -35,28 +35,44 @@ started_at now members install =
 -- whether a member has not fired yet, or one of its sources has changed since
 abbrev pub has_its_news : StoreState → Option Member → Bool
 has_its_news store None = false
-has_its_news store (Some m) = has_news_in store m.mark m.sources
+has_its_news store (Some m) = has_news_in store (mark_in store m) m.sources
 
 abbrev pub is_news_at : StoreState → List Member → Firing → Bool
 is_news_at store members firing = has_its_news store (member_of firing.install members)
 
 -- the notice of a firing
-abbrev pub text_of : List Label → StoreState → ℕ → Option Member → List ℕ
-text_of labels store instant None = []
-text_of labels store instant (Some m) = told_text labels m instant (rows_over store m)
+abbrev pub text_of : List Label → StoreState → Files → ℕ → Option Member → List ℕ
+text_of labels store files instant None = []
+text_of labels store files instant (Some m) = told_text labels store files m instant
 
-abbrev pub firing_text : List Label → StoreState → List Member → Firing → List ℕ
-firing_text labels store members firing =
-    text_of labels store firing.instant (member_of firing.install members)
+abbrev pub firing_text : List Label → StoreState → Files → List Member → Firing → List ℕ
+firing_text labels store files members firing =
+    text_of labels store files firing.instant (member_of firing.install members)
 
--- the rows are those of the member's plan
-abbrev pub IsNews : StoreState → List Member → News → Type 0
-IsNews store members n = IfSome (member_of n.install members) (λ m.
-    SameCounts n.rows (rows_over store m)
-    × AllByRecursion (λ row. length row ≡ expr_width m.plan) n.rows)
+-- whether the member is that of one of the firings
+abbrev pub is_fired : List Firing → Member → Bool
+is_fired firings m = list_any (λ firing. is_of firing.install m) firings
 
--- the members behind what they were told
-abbrev pub noted_by : ℕ → List News → List Member → List Member
-noted_by mark [] members = members
-noted_by mark (n ∷ more) members =
-    noted_by mark more (map (noted n.install mark n.rows) members)
+-- the members behind these firings at a number of changes
+abbrev pub noted_by : ℕ → List Firing → List Member → List Member
+noted_by number firings members =
+    map (λ m. if is_fired firings m then with_note number m else m) members
+
+-- the members without those of these install numbers
+abbrev pub without : List ℕ → List Member → List Member
+without installs members = filter (λ m. not (list_any (nat_eq m.install) installs)) members
+
+-- each of the new files has the expression and the rows that it had among the old ones
+abbrev pub AreOf : Files → Files → Type 0
+AreOf old new =
+    (number : ℕ) (file : KeptFile) → get new number ≡ Some file
+    → (was : KeptFile) × (get old number ≡ Some was)
+    × ((file.expr ≡ was.expr) × (file.content ≡ was.content))
+
+-- the members of these install numbers are gone, and with them at most files
+pub record IsLeftBy (installs : List ℕ) (old new : RollState) : Type 0 where
+  pub members : new.members ≡ without installs old.members
+  pub instant : new.instant ≡ old.instant
+  pub number : new.table.number ≡ old.table.number
+  pub next_file : new.table.next_file ≡ old.table.next_file
+  pub files : AreOf old.table.files new.table.files

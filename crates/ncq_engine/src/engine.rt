@@ -9,11 +9,13 @@ ghost use Rattle.ncq_bind.specs.Bindings.{are_declared, roots_in};
 ghost use Rattle.ncq_callback.specs.Labels.{labels};
 ghost use Rattle.ncq_engine.specs.Firing.{source_of};
 ghost use Rattle.ncq_engine.specs.Stands.{EngineState, Stands};
+ghost use Rattle.ncq_roll.specs.Shares.{Shares};
 ghost use Rattle.ncq_engine.specs.Applies.{Applies, WritesNotices, IfAnswered, IfRefused, OfEach};
 ghost use Rattle.ncq_engine.specs.Applies.{ok_text, kind_at};
 ghost use Rattle.ncq_engine.specs.Applies.{refused_change, change_refusal, refused_query};
 ghost use Rattle.ncq_engine.specs.Applies.{query_refusal};
 ghost use Rattle.ncq_engine.specs.Engines.{HasTopics, new_member};
+ghost use Rattle.ncq_base.specs.declared.atom.FileId.{FileId as file_id};
 ghost use Rattle.ncq_engine.specs.History.{start_of};
 ghost use Rattle.ncq_engine.specs.Languages.{language_of};
 ghost use Rattle.ncq_engine.specs.Notices.{kind_in};
@@ -24,18 +26,17 @@ ghost use Rattle.ncq_script.specs.Proper.{IsProperCommand};
 ghost use Rattle.ncq_source.specs.StoreStates.{found, IsDeclared};
 ghost use Rattle.ncq_xmlql.specs.WellFormed.{IsWellFormed as StatementIsWellFormed};
 
-use crate::expiry::write_expired;
-use crate::firing::start;
-use crate::telling::{note_all, tell};
+use crate::expiry::{take_all, write_expired};
+use crate::telling::{note_all, tell, tell_change};
 use crate::who::{started, with_news};
-use ncq_base::{Bytes, Copied, Sequence, Steps, write_decimal};
+use ncq_base::{Bytes, Copied, FileId, Sequence, Steps, write_decimal};
 use ncq_bind::{BindError, bind};
-use ncq_book::{Book, Member, Topics};
+use ncq_book::{Member, Topics};
 use ncq_callback::{Handlers, Kind};
 use ncq_event::{Timing, is_expired};
 use ncq_plan::{NormalQuery, plan};
 use ncq_pyx::Items;
-use ncq_row::Rows;
+use ncq_roll::Roll;
 use ncq_script::{Command, Refusal};
 use ncq_source::{ChangeError, DeclareError, Key, SourceId, Store};
 use ncq_xmlql::{QueryItem, Statement};
@@ -78,11 +79,12 @@ impl From<AllocError> for ApplyError {
     }
 }
 
-/// The sources with their elements, and the book of the live subscriptions with the clock.
+/// The sources with their elements, and the live subscriptions with the clock and the files of
+/// their plans.
 #[derive(Drop)]
 pub struct Engine {
     store: Store,
-    book: Book,
+    roll: Roll,
     count: u64,
     creates: u64,
     labels: Vec<(Bytes, Kind)>,
@@ -98,14 +100,16 @@ impl Model for Engine {
 
     ghost view = { λ e. record {
       store = e.store;
-      clock = e.book.instant;
+      clock = e.roll.instant;
       count = e.count;
       creates = e.creates;
       labels = e.labels.items;
-      members = e.book.members;
+      members = e.roll.members;
+      table = e.roll.table;
     } };
 
-    ghost invariant = { λ e. IsEngine e.store e.count e.creates e.labels.items e.book.members };
+    ghost invariant = { λ e.
+        IsEngine e.store e.count e.creates e.labels.items e.roll.members e.roll.table };
 }
 
 impl Engine {
@@ -119,7 +123,7 @@ impl Engine {
     {
         Ok(Engine {
             store: Store::new(alloc, seed),
-            book: Book::new(alloc, seed),
+            roll: Roll::new(alloc, seed),
             count: 0,
             creates: 0,
             labels: labels_of(alloc, handlers)?,
@@ -130,7 +134,7 @@ impl Engine {
     pub fn now(&self) -> u64
         ensures { result ≡ self.now.clock }
     {
-        self.book.instant()
+        self.roll.book().instant()
     }
 
     /// How many commands were answered: accepted ones and refused ones.
@@ -144,7 +148,7 @@ impl Engine {
     pub fn live(&self) -> usize
         ensures { result ≡ length self.now.members }
     {
-        self.book.len()
+        self.roll.book().len()
     }
 
     /// Answers a command. Ok appends the answer of an accepted one: the line `<k> ok` with its number,
@@ -188,11 +192,21 @@ impl Engine {
         ensures counted { IfAnswered result (self.new.count ≡ self.old.count + 1) }
         ensures labels { IfAnswered result (self.new.labels ≡ self.old.labels) }
     {
-        self.answer(alloc, command, handlers, out, steps)
+        let result = self.answer(alloc, command, handlers, out, steps);
+        self.shares();
+        result
     }
 
-    /// Gives back what serves speed alone. Nothing is kept for that, so nothing changes. It takes no
-    /// memory.
+    /// The files are those of the parts of the plans of the live subscriptions, one each: this call
+    /// does nothing.
+    pub fn shares(&self)
+        ensures { Shares self.now.members self.now.table }
+    {
+        self.roll.shares();
+    }
+
+    /// Gives back what serves speed alone. Nothing is kept for that alone, so nothing changes. It
+    /// takes no memory.
     pub fn shed(&mut self)
         ensures { self.new ≡ self.old }
     {}
@@ -266,23 +280,21 @@ impl Engine {
             Ok(change) => change,
             Err(error) => return self.refuse_change(error),
         };
-        self.store.reserve(&change)?;
         let topic = place_of(&self.store, change.source());
+        self.store.reserve(&change)?;
         let applied = self.accept(out)?;
-        self.store.commit(change);
-        let watchers = self.book.watchers(alloc, topic)?;
-        let firings = started(alloc, &self.book, watchers.as_slice())?;
-        let told = tell(
-            alloc,
-            &self.book,
-            firings.as_slice(),
-            &self.store,
-            handlers,
-            out,
-            steps,
-        )?;
-        note_all(&mut self.book, self.store.changes(), told.news);
-        Ok(applied.with(told.notices, out))
+        let mark = self.roll.mark();
+        self.roll.feed(alloc, &change, &self.store, steps)?;
+        match tell_change(alloc, &self.roll, topic, &self.store, handlers, out) {
+            Ok(notices) => {
+                self.store.commit(change);
+                Ok(applied.with(notices, out))
+            }
+            Err(AllocError) => {
+                self.roll.roll_back(mark);
+                Err(ApplyError::OutOfMemory)
+            }
+        }
     }
 
     /// Leaves a query, and tells its owner the answer where it starts now.
@@ -301,7 +313,7 @@ impl Engine {
         ensures applies { Applies self.old (Command.Create statement)
             out.old.items result self.new out.new.items }
     {
-        if self.book.has(&statement.name) {
+        if self.roll.book().has(&statement.name) {
             return self.refuse(Refusal::NameTaken);
         }
         let query = match bind(alloc, &statement, &self.store) {
@@ -311,16 +323,25 @@ impl Engine {
         let Some(action) = action_of(handlers, &statement) else {
             return self.refuse(Refusal::Action);
         };
-        let timing = timing_of(&statement, self.book.instant());
+        let timing = timing_of(&statement, self.roll.book().instant());
         if is_expired(&timing, timing.start) {
             return self.refuse(Refusal::Times);
         }
-        let mut member = self.member(alloc, statement, query, action, timing)?;
+        let plan = plan(alloc, &query)?;
+        let member = self.member(alloc, statement, query, action, timing)?;
         let applied = self.accept(out)?;
-        let now = self.book.instant();
-        let notices = start(alloc, &mut member, now, &self.store, handlers, out, steps)?;
         self.creates += 1;
-        self.book.add(alloc, member)?;
+        self.roll.add(alloc, member, &plan, &self.store, steps)?;
+        let firings = started(alloc, self.roll.book(), &[self.creates])?;
+        let notices = tell(
+            alloc,
+            &self.roll,
+            firings.as_slice(),
+            &self.store,
+            handlers,
+            out,
+        )?;
+        note_all(&mut self.roll, self.store.changes(), firings.as_slice());
         Ok(applied.with(notices, out))
     }
 
@@ -337,25 +358,24 @@ impl Engine {
         requires declared { are_declared (roots_in self.now.store) statement.query.items ≡ true }
         requires few { self.now.creates < 2 ^ 48 }
         ensures made { IfOk result (λ m. (topics : List ℕ)
-            × (m ≡ new_member statement query timing action self.now.creates topics)) }
+            × (m ≡ new_member statement query timing action self.now.creates topics
+            (file_id 0))) }
         ensures topics { IfOk result (HasTopics self.now.store) }
     {
         let sources = asked_by(alloc, statement.query.items.as_slice())?;
         let topics = places_of(alloc, &self.store, sources.as_slice())?;
-        let plan = plan(alloc, &query)?;
         let argument = statement.argument.unwrap_or(Bytes::new(alloc));
         Ok(Member {
             name: statement.name,
             sources,
             topics,
             query,
-            plan,
+            file: FileId(0),
             timing,
             action,
             argument,
             install: self.creates + 1,
-            mark: None,
-            told: Rows::new(alloc),
+            noted: None,
         })
     }
 
@@ -365,11 +385,11 @@ impl Engine {
         ensures applies { Applies self.old (Command.Delete name.now)
             out.old.items result self.new out.new.items }
     {
-        if !self.book.has(name) {
+        let Some(install) = self.roll.book().find(name) else {
             return self.refuse(Refusal::NoName);
-        }
+        };
         let applied = self.accept(out)?;
-        self.book.remove(name);
+        take_all(&mut self.roll, &[install]);
         Ok(applied)
     }
 
@@ -388,27 +408,26 @@ impl Engine {
         ensures applies { Applies self.old (Command.Clock instant)
             out.old.items result self.new out.new.items }
     {
-        if instant < self.book.instant() {
+        if instant < self.roll.book().instant() {
             return self.refuse(Refusal::Clock);
         }
         let applied = self.accept(out)?;
-        let due = self.book.due(alloc, instant)?;
-        let firings = with_news(alloc, &self.book, &self.store, due.as_slice())?;
-        let told = tell(
+        let due = self.roll.book().due(alloc, instant)?;
+        let firings = with_news(alloc, self.roll.book(), &self.store, due.as_slice())?;
+        let notices = tell(
             alloc,
-            &self.book,
+            &self.roll,
             firings.as_slice(),
             &self.store,
             handlers,
             out,
-            steps,
         )?;
-        let applied = applied.with(told.notices, out);
-        let expired = self.book.expired(alloc, instant)?;
-        write_expired(&self.book, expired.as_slice(), out)?;
-        self.book.move_to(alloc, instant)?;
-        note_all(&mut self.book, self.store.changes(), told.news);
-        self.book.remove_all(expired.as_slice());
+        let applied = applied.with(notices, out);
+        let expired = self.roll.book().expired(alloc, instant)?;
+        write_expired(self.roll.book(), expired.as_slice(), out)?;
+        self.roll.move_to(alloc, instant)?;
+        note_all(&mut self.roll, self.store.changes(), firings.as_slice());
+        take_all(&mut self.roll, expired.as_slice());
         Ok(applied)
     }
 

@@ -1,10 +1,11 @@
-//! The lines of subscriptions that expire.
+//! Subscriptions that end.
 ghost use Rattle.std.specs.Prelude.{◌≡◌, ◌++◌, OnOk};
 ghost use Rattle.std.specs.List.{flat_map};
 ghost use Rattle.ncq_engine.specs.Applies.{expired_name};
-ghost use Rattle.ncq_engine.specs.Tellings.{expired_of};
+ghost use Rattle.ncq_engine.specs.Tellings.{expired_of, IsLeftBy};
 
 use ncq_book::Book;
+use ncq_roll::Roll;
 use std::alloc::AllocError;
 
 /// Appends the lines of the members of these install numbers.
@@ -40,4 +41,14 @@ fn write_expired_line(name: &[u8], out: &mut Vec<u8>) -> Result<(), AllocError>
     out.extend_from_slice(name)?;
     out.push(b'\n')?;
     Ok(())
+}
+
+/// Takes the members of these install numbers away, and gives up their uses of their files. It takes
+/// no memory.
+pub(crate) fn take_all(roll: &mut Roll, installs: &[u64])
+    ensures { IsLeftBy installs.now roll.old roll.new }
+{
+    for install in installs {
+        roll.remove(*install);
+    }
 }

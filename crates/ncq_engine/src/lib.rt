@@ -14,7 +14,6 @@ mod expiry;
 mod firing;
 mod laws;
 mod telling;
-mod walk;
 mod who;
 
 pub use engine::{Applied, ApplyError, Engine};

@@ -2,9 +2,10 @@
 ghost use Rattle.std.specs.Prelude.{◌≡◌, ◌==◌, nat_lt, IfOk};
 ghost use Rattle.std.specs.List.{filter, flat_map, list_any};
 ghost use Rattle.ncq_book.specs.Books.{member_of};
-ghost use Rattle.ncq_engine.specs.Engines.{last_in, has_news_in};
+ghost use Rattle.ncq_engine.specs.Engines.{last_in, has_news_in, mark_in};
 ghost use Rattle.ncq_engine.specs.Tellings.{started_at, has_started, is_news_at};
 
+use crate::firing::mark_of;
 use ncq_base::Bytes;
 use ncq_book::{Book, Member};
 use ncq_event::{Firing, Firings};
@@ -71,9 +72,9 @@ fn is_news(book: &Book, store: &Store, firing: &Firing) -> bool
 
 /// Whether the member has not fired yet, or a source of it has changed since.
 fn has_news(member: &Member, store: &Store) -> bool
-    ensures { result ≡ has_news_in store.now member.now.mark member.now.sources }
+    ensures { result ≡ has_news_in store.now (mark_in store.now member.now) member.now.sources }
 {
-    match member.mark {
+    match mark_of(member, store) {
         Some(mark) => has_changed(member, store, mark),
         None => true,
     }
@@ -92,7 +93,7 @@ fn has_changed(member: &Member, store: &Store, mark: u64) -> bool
 }
 
 /// The number of the last change of the source of this name.
-fn last_change(store: &Store, name: &Bytes) -> u64
+pub(crate) fn last_change(store: &Store, name: &Bytes) -> u64
     ensures { result ≡ last_in store.now name.now }
 {
     match store.find(name.as_slice()) {

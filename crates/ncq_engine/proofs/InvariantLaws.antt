@@ -1,0 +1,302 @@
+-- What holds of an engine whatever was answered, behind each step of the code.
+use Rattle.std.proofs.Common.{◌≡◌, ℕ, suc, ◌+◌, ◌*◌, ◌<◌, ◌≤◌, Bool, true, false, ◌||◌, cond, List, [], ◌∷◌, ◌++◌, map, length, slice_get, get_or, refl, sym, ◌∙◌, ap, subst, arith}
+use Rattle.std.specs.Prelude.{Some, None, if◌then◌else◌}
+use Rattle.std.specs.List.{filter, position, AllByRecursion}
+use Rattle.std.specs.Str.{bytes_eq}
+use Rattle.std.specs.FinMap.{empty}
+use Rattle.ncq_change.specs.Stores.{world_in}
+use Rattle.ncq_change.specs.Entries.{after_in, world_of}
+use Rattle.ncq_change.proofs.CommitLaws.{commits_after, found_name}
+use Rattle.ncq_event.specs.declared.firing.Firing.{Firing}
+use Rattle.ncq_feed.specs.Feeds.{AreFed, IsPreparedFrom, name_at, name_in, world_after}
+use Rattle.ncq_group.specs.Installs.{IsInstalled}
+use Rattle.ncq_group.specs.Tables.{TableState}
+use Rattle.ncq_plan.specs.declared.expr.Expr.{Expr}
+use Rattle.ncq_plan.specs.Exprs.{World, operators, rows_in}
+use Rattle.ncq_midfile.specs.Content.{IsContent}
+use Rattle.ncq_midfile.specs.Files.{FileState}
+use Rattle.ncq_shelf.specs.KeptFiles.{Files}
+use Rattle.ncq_plan.specs.Plans.{plan_of}
+use Rattle.ncq_pyx.specs.declared.item.Item.{Item}
+use Rattle.ncq_roll.specs.Rolls.{IsRoll}
+use Rattle.ncq_shelf.specs.Contents.{AreUpTo, Fits}
+use Rattle.ncq_shelf.specs.Stands.{Stands as HasFile}
+use Rattle.ncq_source.specs.ChangeStates.{ChangeState}
+use Rattle.ncq_source.specs.Changes.{Chains}
+use Rattle.ncq_source.specs.Prepared.{IsPrepared}
+use Rattle.ncq_source.specs.declared.key.Key.{Key}
+use Rattle.ncq_source.specs.Stores.{Source as Declared, without_room}
+use Rattle.ncq_source.specs.StoreStates.{StoreState, At, Declares, IsAlike, IsCommitted, found, names}
+use Rattle.ncq_book.specs.declared.member.Member.{Member}
+use Rattle.ncq_book.specs.Books.{InstallsRise}
+use Rattle.ncq_engine.specs.Engines.{CanTell, HasTopics, InstallsAreUpTo, IsEngine, fired_if, last_in, with_note}
+use Rattle.ncq_engine.specs.History.{Source, world}
+use Rattle.ncq_engine.specs.Stands.{EngineState, content_of}
+use Rattle.ncq_engine.specs.Tellings.{AreOf, is_fired, noted_by, without}
+use Rattle.ncq_engine.proofs.HistoryLaws.{key_is}
+use Rattle.ncq_engine.proofs.Lists.{each_filter, each_more, each_push}
+use Rattle.ncq_engine.proofs.Places.{one_declared, room_is_no_content, same_names}
+use Rattle.ncq_engine.proofs.StoreLaws.{last_alike, last_declared}
+use Rattle.ncq_engine.proofs.TableLaws.{can_left, can_noted, can_store, can_table, fed_still, installed_still}
+use Rattle.ncq_engine.proofs.TopicLaws.{names_declared, topics_behind, topics_stay}
+use Rattle.ncq_engine.proofs.Worlds.{new_is_empty, world_is}
+
+abbrev pub Invariant : EngineState → Type 0
+Invariant e = IsEngine e.store e.count e.creates e.labels e.members e.table
+
+-- sources that differ in room alone have one world
+pub world_alike : (old new : StoreState) → map without_room new.sources ≡ map without_room old.sources → world_in new ≡ world_in old
+world_alike old new alike =
+    sym (world_is new (map content_of new.sources) refl) ∙ ap world (room_is_no_content old.sources new.sources alike) ∙ world_is old (map content_of old.sources) refl
+
+-- so have those with one more, which has no elements
+pub world_declared : (old new : StoreState) (name root : List ℕ) (key : Key) → Declares old new name root key → world_in new ≡ world_in old
+world_declared old new name root key d =
+    sym (world_is new (map content_of new.sources) refl) ∙ ap world (one_declared old.sources new.sources name root key d.sources)
+    ∙ (λ i. λ asked. new_is_empty asked name root key (map content_of old.sources) i)
+    ∙ world_is old (map content_of old.sources) refl
+
+-- a command that is counted
+pub invariant_counted : (e : EngineState) → Invariant e → Invariant (record e { count = e.count + 1 })
+invariant_counted e i =
+    let a = i.changes in let b = i.creates_too in
+    record {
+      changes = (let l : e.store.changes ≤ e.count + 1 = omega (arith, a) in l);
+      creates_too = (let l : e.creates ≤ e.count + 1 = omega (arith, b) in l);
+      lasts = i.lasts;
+      can = i.can;
+      watch = i.watch;
+      rise = i.rise;
+      installed = i.installed;
+      number = i.number;
+      fits = i.fits;
+      next = i.next;
+    }
+
+-- one more source
+pub invariant_declared : (e : EngineState) (store : StoreState) (name root : List ℕ) (key : Key) → Declares e.store store name root key → Invariant e → Invariant (record e { store = store })
+invariant_declared e store name root key d i =
+    let few = i.changes in
+    let same = d.changes in
+    let last = λ asked. last_declared e.store store asked name root key d.sources in
+    record {
+      changes = (let l : store.changes ≤ e.count = omega (arith, few, same) in l);
+      creates_too = i.creates_too;
+      lasts = λ asked. (let a = last asked in let b = i.lasts asked in let l : last_in store asked ≤ store.changes = omega (arith, a, b, same) in l);
+      can = each_more (CanTell e.labels e.store e.table) (CanTell e.labels store e.table)
+          (can_store e.labels e.store store e.table (λ asked. let a = last asked in let l : last_in e.store asked ≤ last_in store asked = omega (arith, a) in l)) e.members i.can;
+      watch = topics_behind e.store store name (names_declared e.store store name root key d) e.members i.watch;
+      rise = i.rise;
+      installed = i.installed;
+      number = i.number ∙ sym same;
+      fits = subst (λ w. Fits e.table.number w e.table.files) (sym (world_declared e.store store name root key d)) i.fits;
+      next = i.next;
+    }
+
+-- room for sources
+pub invariant_alike : (e : EngineState) (store : StoreState) → IsAlike e.store store → Invariant e → Invariant (record e { store = store })
+invariant_alike e store alike i =
+    let few = i.changes in
+    let same = alike.changes in
+    let last = λ asked. last_alike e.store store asked alike.sources in
+    record {
+      changes = (let l : store.changes ≤ e.count = omega (arith, few, same) in l);
+      creates_too = i.creates_too;
+      lasts = λ asked. (let a = last asked in let b = i.lasts asked in let l : last_in store asked ≤ store.changes = omega (arith, a, b, same) in l);
+      can = each_more (CanTell e.labels e.store e.table) (CanTell e.labels store e.table)
+          (can_store e.labels e.store store e.table (λ asked. let a = last asked in let l : last_in e.store asked ≤ last_in store asked = omega (arith, a) in l)) e.members i.can;
+      watch = topics_stay e.store store (same_names e.store.sources store.sources alike.sources) e.members i.watch;
+      rise = i.rise;
+      installed = i.installed;
+      number = i.number ∙ sym same;
+      fits = subst (λ w. Fits e.table.number w e.table.files) (sym (world_alike e.store store alike.sources)) i.fits;
+      next = i.next;
+    }
+
+-- a change that is prepared from a store, seen from that store with room
+module _ (store ready : StoreState) (name : List ℕ) (items : List Item) (change : ChangeState) (here : found store name ≡ Some change.source.0) (alike : IsAlike store ready)
+    (prepared : At store change.source (λ s. IsPrepared s items change.entries)) where
+  here_ready : found ready name ≡ Some change.source.0
+  here_ready = ap (position (bytes_eq name)) (same_names store.sources ready.sources alike.sources) ∙ here
+
+  roomy : (source : Declared) × (slice_get ready.sources change.source.0 ≡ Some source) × (bytes_eq name source.name ≡ true)
+  roomy = found_name ready name change.source.0 here_ready
+
+  own : (source : Declared) × (slice_get store.sources change.source.0 ≡ Some source) × (bytes_eq name source.name ≡ true)
+  own = found_name store name change.source.0 here
+
+  pub name_is : name_at ready change.source ≡ name
+  name_is = ap name_in roomy.1 ∙ sym (key_is name roomy.0.name roomy.2)
+
+  same_plain : without_room roomy.0 ≡ without_room own.0
+  same_plain = same_at without_room ready.sources store.sources change.source.0 roomy.0 own.0 alike.sources roomy.1 own.1
+    where
+      same_at : (f : Declared → Declared) (xs ys : List Declared) (i : ℕ) (x y : Declared) → map f xs ≡ map f ys → slice_get xs i ≡ Some x → slice_get ys i ≡ Some y → f x ≡ f y
+      same_at f [] ys i x y e a b = absurd cc
+      same_at f (p ∷ xs) [] i x y e a b = absurd cc
+      same_at f (p ∷ xs) (q ∷ ys) 0 x y e a b = let fp : f p ≡ f q = cc in let px : p ≡ x = cc in let qy : q ≡ y = cc in ap f (sym px) ∙ fp ∙ ap f qy
+      same_at f (p ∷ xs) (q ∷ ys) (suc i) x y e a b = same_at f xs ys i x y (let rest : map f xs ≡ map f ys = cc in rest) a b
+
+  chains_here : (source : Declared) → slice_get ready.sources change.source.0 ≡ Some source → Chains source.elements change.entries
+  chains_here source there =
+      let one : Some source ≡ Some roomy.0 = sym there ∙ roomy.1 in
+      let is : source ≡ roomy.0 = cc in
+      subst (λ (s : Declared). Chains s.elements change.entries) (sym is)
+      (subst (λ (s : Declared). Chains s.elements change.entries) (sym same_plain) (prepared own.0 own.1).chains)
+
+  pub prepared_from : IsPreparedFrom ready change
+  prepared_from = record { source = subst (λ n. found ready n ≡ Some change.source.0) (sym name_is) here_ready; chains = chains_here }
+
+  -- the world after it is committed
+  pub world_committed : (after : StoreState) → IsCommitted ready change after → world_after ready change ≡ world_in after
+  world_committed after done =
+      (λ i. world_of (after_in (kept ready) (name_is i) change.entries))
+      ∙ ap world_of (sym (λ i. λ source. commits_after ready ready after name change (record { source = here_ready; chains = chains_here; room = record { changes = refl; sources = refl }; committed = done }) source i))
+    where
+      use Rattle.ncq_change.specs.Stores.{kept_in as kept}
+
+-- the files were fed, and the change was committed
+pub invariant_changed : (e : EngineState) (change : ChangeState) (store : StoreState) (table : TableState) → Invariant e → store.changes ≡ e.store.changes + 1 → e.store.changes + 1 ≤ e.count
+    → names store ≡ names e.store → ((name : List ℕ) → last_in e.store name ≤ last_in store name) → ((name : List ℕ) → last_in store name ≤ store.changes)
+    → AreFed e.store change e.table.files table.files → Fits table.number (world_in store) table.files → table.number ≡ e.table.number + 1 → table.next_file ≡ e.table.next_file
+    → Invariant (record e { store = store; table = table })
+invariant_changed e change store table i more few same last lasts fed fits number next = record {
+  changes = (let l : store.changes ≤ e.count = omega (arith, more, few) in l);
+  creates_too = i.creates_too;
+  lasts = lasts;
+  can = each_more (CanTell e.labels e.store e.table) (CanTell e.labels store table)
+      (λ m can. can_store e.labels e.store store table last m (can_table e.labels e.store e.table table (fed_still e.store change e.table table (world_in store) fed fits) m can)) e.members i.can;
+  watch = topics_stay e.store store same e.members i.watch;
+  rise = i.rise;
+  installed = i.installed;
+  number = number ∙ ap (λ n. n + 1) i.number ∙ sym more;
+  fits = fits;
+  next = (let n = i.next in let l : table.next_file ≤ 256 * e.creates = omega (arith, n, next) in l);
+}
+
+-- before the commit the members can be told
+pub can_fed : (e : EngineState) (change : ChangeState) (w : World) (table : TableState) → Invariant e → AreFed e.store change e.table.files table.files → Fits table.number w table.files → AllByRecursion (CanTell e.labels e.store table) e.members
+can_fed e change w table i fed fits =
+    each_more (CanTell e.labels e.store e.table) (CanTell e.labels e.store table) (can_table e.labels e.store e.table table (fed_still e.store change e.table table w fed fits)) e.members i.can
+
+rise_push : (creates : ℕ) (ms : List Member) (m : Member) → InstallsRise ms → InstallsAreUpTo creates ms → creates < m.install → InstallsRise (ms ++ m ∷ [])
+rise_push creates [] m r u less = (tt, tt)
+rise_push creates (x ∷ ms) m r u less =
+    let first = u.0 in
+    (each_push (λ (n : Member). x.install < n.install) ms m r.0 (let l : x.install < m.install = omega (arith, first, less) in l), rise_push creates ms m r.1 u.1 less)
+
+few_more : (creates : ℕ) (ms : List Member) → InstallsAreUpTo creates ms → InstallsAreUpTo (creates + 1) ms
+few_more creates ms few = each_more (λ (n : Member). n.install ≤ creates) (λ (n : Member). n.install ≤ creates + 1) (λ n le. let l : n.install ≤ creates + 1 = omega (arith, le) in l) ms few
+
+-- one more create, whose member is not there yet
+pub invariant_created : (e : EngineState) → Invariant e → e.creates + 1 ≤ e.count → Invariant (record e { creates = e.creates + 1 })
+invariant_created e i few =
+    let n = i.next in
+    record {
+      changes = i.changes;
+      creates_too = few;
+      lasts = i.lasts;
+      can = i.can;
+      watch = i.watch;
+      rise = i.rise;
+      installed = few_more e.creates e.members i.installed;
+      number = i.number;
+      fits = i.fits;
+      next = (let l : e.table.next_file ≤ 256 * (e.creates + 1) = omega (arith, n) in l);
+    }
+
+-- the member is there, with the file of its plan
+pub invariant_added : (e : EngineState) (expr : Expr) (table : TableState) (file : ℕ) (m : Member) → Invariant e → IsInstalled expr e.table table file → Fits table.number (world_in e.store) table.files → operators expr ≤ 256
+    → CanTell e.labels e.store table m → HasTopics e.store m → m.install ≡ e.creates + 1
+    → e.creates + 1 ≤ e.count → Invariant (record e { creates = e.creates + 1; members = e.members ++ m ∷ []; table = table })
+invariant_added e expr table file m i done fits small can has install few =
+    let n = i.next in let room = done.room in
+    record {
+      changes = i.changes;
+      creates_too = few;
+      lasts = i.lasts;
+      can = each_push (CanTell e.labels e.store table) e.members m
+          (each_more (CanTell e.labels e.store e.table) (CanTell e.labels e.store table) (can_table e.labels e.store e.table table (installed_still expr e.table table file (world_in e.store) done fits)) e.members i.can) can;
+      watch = each_push (HasTopics e.store) e.members m i.watch has;
+      rise = rise_push e.creates e.members m i.rise i.installed (let l : e.creates < m.install = omega (arith, install) in l);
+      installed = each_push (λ (x : Member). x.install ≤ e.creates + 1) e.members m (few_more e.creates e.members i.installed) (let l : m.install ≤ e.creates + 1 = omega (arith, install) in l);
+      number = done.same ∙ i.number;
+      fits = fits;
+      next = (let l : table.next_file ≤ 256 * (e.creates + 1) = omega (arith, n, room, small) in l);
+    }
+
+each_map : (P Q : Member → Type 0) (f : Member → Member) → ((m : Member) → P m → Q (f m)) → (ms : List Member) → AllByRecursion P ms → AllByRecursion Q (map f ms)
+each_map P Q f g [] h = tt
+each_map P Q f g (m ∷ ms) h = (g m h.0, each_map P Q f g ms h.1)
+
+-- what is written down changes no number and nothing that is watched
+module _ (store : StoreState) (test : Member → Bool) where
+  abbrev noted_one : Member → Member
+  noted_one m = fired_if (test m) store m
+
+  pub one_install : (m : Member) → (noted_one m).install ≡ m.install
+  one_install m = elim (test m) as (λ t. (fired_if t store m).install ≡ m.install) [ true ↦ refl | false ↦ refl ]
+
+  one_watch : (before : StoreState) (m : Member) → HasTopics before m → HasTopics before (noted_one m)
+  one_watch before m has = elim (test m) as (λ t. HasTopics before (fired_if t store m)) [ true ↦ has | false ↦ has ]
+
+  pub rise_noted : (ms : List Member) → InstallsRise ms → InstallsRise (map noted_one ms)
+  rise_noted [] r = tt
+  rise_noted (m ∷ ms) r = (
+    each_map (λ n. m.install < n.install) (λ n. (noted_one m).install < n.install) noted_one
+        (λ n less. let a = one_install m in let b = one_install n in (let l : (noted_one m).install < (noted_one n).install = omega (arith, less, a, b) in l)) ms r.0,
+    rise_noted ms r.1,
+  )
+
+  pub invariant_noted : (e : EngineState) → e.store ≡ store → AreUpTo e.table.number e.table.files → Invariant e → Invariant (record e { members = map noted_one e.members })
+  invariant_noted e same upto i =
+      let up : AreUpTo store.changes e.table.files = subst (λ n. AreUpTo n e.table.files) (i.number ∙ ap (λ (s : StoreState). s.changes) same) upto in
+      record {
+        changes = i.changes;
+        creates_too = i.creates_too;
+        lasts = i.lasts;
+        can = subst (λ (s : StoreState). AllByRecursion (CanTell e.labels s e.table) (map noted_one e.members)) (sym same)
+            (each_map (CanTell e.labels store e.table) (CanTell e.labels store e.table) noted_one (λ m can. can_noted e.labels store e.table up (test m) m can) e.members
+            (subst (λ (s : StoreState). AllByRecursion (CanTell e.labels s e.table) e.members) same i.can));
+        watch = each_map (HasTopics e.store) (HasTopics e.store) noted_one (λ m has. one_watch e.store m has) e.members i.watch;
+        rise = rise_noted e.members i.rise;
+        installed = each_map (λ n. n.install ≤ e.creates) (λ n. n.install ≤ e.creates) noted_one (λ n few. let a = one_install n in (let l : (noted_one n).install ≤ e.creates = omega (arith, few, a) in l)) e.members i.installed;
+        number = i.number;
+        fits = i.fits;
+        next = i.next;
+      }
+
+rise_filter : (keep : Member → Bool) (ms : List Member) → InstallsRise ms → InstallsRise (filter keep ms)
+rise_filter keep [] r = tt
+rise_filter keep (m ∷ ms) r =
+    elim (keep m) as (λ t. InstallsRise (cond t (m ∷ filter keep ms) (filter keep ms))) [
+      | true ↦ (each_filter (λ (n : Member). m.install < n.install) keep ms r.0, rise_filter keep ms r.1)
+      | false ↦ rise_filter keep ms r.1
+    ]
+
+can_all : (e : EngineState) (table : TableState) → AreOf e.table.files table.files → table.number ≡ e.table.number → (ms : List Member) → AllByRecursion (λ m. HasFile table.files (plan_of m.query) m.file.0) ms
+    → AllByRecursion (CanTell e.labels e.store e.table) ms → AllByRecursion (CanTell e.labels e.store table) ms
+can_all e table left same [] f c = tt
+can_all e table left same (m ∷ ms) f c = (can_left e.labels e.store e.table table left same m f.0 c.0, can_all e table left same ms f.1 c.1)
+
+-- fewer files tell what they told
+fits_left : (old new : Files) (now : ℕ) (w : World) → AreOf old new → Fits now w old → Fits now w new
+fits_left old new now w left fits number file at =
+    let was = left number file at in
+    subst (λ (e : Expr). IsContent now file.content.rows (rows_in e w)) (sym was.1.1.0) (subst (λ (c : FileState). IsContent now c.rows (rows_in was.0.expr w)) (sym was.1.1.1) (fits number was.0 was.1.0))
+
+-- members are gone
+pub invariant_left : (e : EngineState) (keep : Member → Bool) (table : TableState) → Invariant e → IsRoll table (filter keep e.members) → AreOf e.table.files table.files → table.number ≡ e.table.number → table.next_file ≡ e.table.next_file
+    → Invariant (record e { members = filter keep e.members; table = table })
+invariant_left e keep table i roll left number next = record {
+  changes = i.changes;
+  creates_too = i.creates_too;
+  lasts = i.lasts;
+  can = can_all e table left number (filter keep e.members) roll.files (each_filter (CanTell e.labels e.store e.table) keep e.members i.can);
+  watch = each_filter (HasTopics e.store) keep e.members i.watch;
+  rise = rise_filter keep e.members i.rise;
+  installed = each_filter (λ (m : Member). m.install ≤ e.creates) keep e.members i.installed;
+  number = number ∙ i.number;
+  fits = subst (λ n. Fits n (world_in e.store) table.files) (sym number) (fits_left e.table.files table.files e.table.number (world_in e.store) left i.fits);
+  next = (let n = i.next in let l : table.next_file ≤ 256 * e.creates = omega (arith, n, next) in l);
+}

@@ -1,0 +1,162 @@
+-- Members that can be told stay so: behind a change of the store, of the files, and of what is written down.
+use Rattle.std.proofs.Common.{◌≡◌, ◌≢◌, ℕ, ◌+◌, ◌<◌, ◌≤◌, max, Bool, true, false, ◌==◌, List, [], ◌∷◌, ◌++◌, map, refl, sym, ◌∙◌, ap, subst, arith, inl, inr}
+use Rattle.std.specs.Prelude.{Option, Some, None, IfSome, if◌then◌else◌}
+use Rattle.std.specs.FinMap.{get}
+use Rattle.std.specs.Option.{option_map}
+use Rattle.std.specs.List.{AllByRecursion}
+use Rattle.std.proofs.lemmas.Bool.{cases_eq}
+use Rattle.ncq_book.specs.declared.member.Member.{Member}
+use Rattle.ncq_callback.specs.Labels.{Label}
+use Rattle.ncq_change.specs.Stores.{world_in}
+use Rattle.ncq_feed.specs.Feeds.{AreFed}
+use Rattle.ncq_feed.proofs.ContentLaws.{content_sound}
+use Rattle.ncq_group.specs.Installs.{IsInstalled}
+use Rattle.ncq_group.specs.Tables.{TableState}
+use Rattle.ncq_midfile.specs.Files.{FileState}
+use Rattle.ncq_midfile.specs.Content.{IsSoundAt}
+use Rattle.ncq_plan.specs.declared.expr.Expr.{Expr}
+use Rattle.ncq_plan.specs.Exprs.{World, rows_in}
+use Rattle.ncq_plan.specs.Plans.{plan_of}
+use Rattle.ncq_plan.specs.WellFormed.{IsWellFormed}
+use Rattle.ncq_shelf.specs.KeptFiles.{KeptFile, Files}
+use Rattle.ncq_shelf.specs.Stands.{Stands as HasFile}
+use Rattle.ncq_shelf.specs.Contents.{AreUpTo, Fits, with_more}
+use Rattle.ncq_source.specs.ChangeStates.{ChangeState}
+use Rattle.ncq_source.specs.StoreStates.{StoreState}
+use Rattle.ncq_engine.specs.Engines.{CanTell, fired_if, last_in, latest_in, mark_in, with_note}
+use Rattle.ncq_engine.specs.Tellings.{AreOf}
+use Rattle.ncq_engine.proofs.Lists.{each_both, each_more}
+
+-- files that tell a world are sound
+pub fits_sound : (now : ℕ) (w : World) (files : Files) → Fits now w files → (number : ℕ) (file : KeptFile) → get files number ≡ Some file → IsSoundAt now file.content.rows
+fits_sound now w files fits number file at = content_sound now file.content.rows (rows_in file.expr w) (fits number file at)
+
+-- the greatest of last changes that do not fall does not fall
+latest_more : (old new : StoreState) → ((name : List ℕ) → last_in old name ≤ last_in new name) → (names : List (List ℕ)) → latest_in old names ≤ latest_in new names
+latest_more old new more [] = let z : 0 ≤ 0 = omega arith in z
+latest_more old new more (name ∷ names) = let a = more name in let b = latest_more old new more names in omega (arith, a, b)
+
+mark_more : (old new : StoreState) → ((name : List ℕ) → last_in old name ≤ last_in new name) → (m : Member) (base : ℕ) → IfSome (mark_in old m) (λ n. base ≤ n) → IfSome (mark_in new m) (λ n. base ≤ n)
+mark_more old new more m base = by (m.timing.every == 0) m.noted
+  where
+    by : (based : Bool) (note : Option ℕ) → IfSome (if based then option_map (λ first. max first (latest_in old m.sources)) note else note) (λ n. base ≤ n)
+        → IfSome (if based then option_map (λ first. max first (latest_in new m.sources)) note else note) (λ n. base ≤ n)
+    by true None h = tt
+    by true (Some first) h = let l = latest_more old new more m.sources in omega (arith, h, l)
+    by false note h = h
+
+-- behind a store whose last changes do not fall
+pub can_store : (labels : List Label) (old new : StoreState) (table : TableState) → ((name : List ℕ) → last_in old name ≤ last_in new name) → (m : Member) → CanTell labels old table m → CanTell labels new table m
+can_store labels old new table more m can = record {
+  formed = can.formed;
+  action = can.action;
+  file = can.file;
+  at = can.at;
+  own = can.own;
+  sound = can.sound;
+  base = mark_more old new more m can.file.content.base can.base;
+}
+
+-- its file has the expression and the base that it had, and is sound now
+pub record HasStill (table : TableState) (number : ℕ) (was : KeptFile) : Type 0 where
+  pub file : KeptFile
+  pub at : get table.files number ≡ Some file
+  pub own : file.expr ≡ was.expr
+  pub base : file.content.base ≡ was.content.base
+  pub sound : IsSoundAt table.number file.content.rows
+
+pub can_table : (labels : List Label) (store : StoreState) (old new : TableState) → ((number : ℕ) (file : KeptFile) → get old.files number ≡ Some file → HasStill new number file) → (m : Member) → CanTell labels store old m → CanTell labels store new m
+can_table labels store old new still m can =
+    let s = still m.file.0 can.file can.at in
+    record {
+      formed = can.formed;
+      action = can.action;
+      file = s.file;
+      at = s.at;
+      own = s.own ∙ can.own;
+      sound = s.sound;
+      base = subst (λ b. IfSome (mark_in store m) (λ n. b ≤ n)) (sym s.base) can.base;
+    }
+
+-- behind a change that the files were fed
+pub fed_still : (store : StoreState) (change : ChangeState) (old new : TableState) (w : World) → AreFed store change old.files new.files → Fits new.number w new.files
+    → (number : ℕ) (file : KeptFile) → get old.files number ≡ Some file → HasStill new number file
+fed_still store change old new w fed fits number file at =
+    let f = fed.each number file at in
+    record {
+      file = f.0;
+      at = f.1.0;
+      own = ap (λ (k : KeptFile). k.expr) f.1.1.behind;
+      base = ap (λ (k : KeptFile). k.content.base) f.1.1.behind;
+      sound = fits_sound new.number w new.files fits number f.0 f.1.0;
+    }
+
+-- behind an install
+pub installed_still : (expr : Expr) (old new : TableState) (at : ℕ) (w : World) → IsInstalled expr old new at → Fits new.number w new.files
+    → (number : ℕ) (file : KeptFile) → get old.files number ≡ Some file → HasStill new number file
+installed_still expr old new at w done fits number file here =
+    elim (cases_eq number at) [
+      | inl same ↦
+          let there = subst (λ n. get new.files n ≡ Some (record file { uses = file.uses + 1 })) (sym same) (done.gains file (subst (λ n. get old.files n ≡ Some file) same here)) in
+          record { file = record file { uses = file.uses + 1 }; at = there; own = refl; base = refl; sound = fits_sound new.number w new.files fits number (record file { uses = file.uses + 1 }) there }
+      | inr differs ↦
+          let there = done.others number file here differs in
+          record { file = file; at = there; own = refl; base = refl; sound = fits_sound new.number w new.files fits number file there }
+    ]
+
+-- a member whose file is left
+pub can_left : (labels : List Label) (store : StoreState) (old new : TableState) → AreOf old.files new.files → new.number ≡ old.number → (m : Member) → HasFile new.files (plan_of m.query) m.file.0 → CanTell labels store old m → CanTell labels store new m
+can_left labels store old new left same m has can =
+    let was = left m.file.0 has.file has.at in
+    let one : Some was.0 ≡ Some can.file = sym was.1.0 ∙ can.at in
+    let is : was.0 ≡ can.file = cc in
+    let content = was.1.1.1 ∙ ap (λ (k : KeptFile). k.content) is in
+    record {
+      formed = can.formed;
+      action = can.action;
+      file = has.file;
+      at = has.at;
+      own = has.of;
+      sound = subst (λ n. IsSoundAt n has.file.content.rows) (sym same) (subst (λ (c : FileState). IsSoundAt old.number c.rows) (sym content) can.sound);
+      base = subst (λ (c : FileState). IfSome (mark_in store m) (λ n. c.base ≤ n)) (sym content) can.base;
+    }
+
+-- a member that is new has not fired
+pub can_new : (labels : List Label) (store : StoreState) (table : TableState) (w : World) → Fits table.number w table.files → (m : Member) → IsWellFormed m.query → m.action < length labels → m.noted ≡ None → HasFile table.files (plan_of m.query) m.file.0
+    → CanTell labels store table m
+can_new labels store table w fits m formed action none has = record {
+  formed = formed;
+  action = action;
+  file = has.file;
+  at = has.at;
+  own = has.of;
+  sound = fits_sound table.number w table.files fits m.file.0 has.file has.at;
+  base = subst (λ o. IfSome o (λ n. has.file.content.base ≤ n)) (sym unmarked) tt;
+}
+  where
+    unmarked : mark_in store m ≡ None
+    unmarked = (λ i. if m.timing.every == 0 then option_map (λ first. max first (latest_in store m.sources)) (none i) else none i) ∙ both (m.timing.every == 0)
+      where
+        both : (b : Bool) → (if b then option_map (λ first. max first (latest_in store m.sources)) None else None) ≡ None
+        both true = refl
+        both false = refl
+
+-- a member that has fired now
+pub can_noted : (labels : List Label) (store : StoreState) (table : TableState) → AreUpTo store.changes table.files → (fires : Bool) (m : Member) → CanTell labels store table m → CanTell labels store table (fired_if fires store m)
+can_noted labels store table upto false m can = can
+can_noted labels store table upto true m can = record {
+  formed = can.formed;
+  action = can.action;
+  file = can.file;
+  at = can.at;
+  own = can.own;
+  sound = can.sound;
+  base = by (m.timing.every == 0);
+}
+  where
+    low : can.file.content.base ≤ store.changes
+    low = (upto m.file.0 can.file can.at).base
+
+    by : (based : Bool) → IfSome (if based then option_map (λ first. max first (latest_in store m.sources)) (Some store.changes) else Some store.changes) (λ n. can.file.content.base ≤ n)
+    by true = omega (arith, low)
+    by false = low
