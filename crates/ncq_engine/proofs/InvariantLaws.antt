@@ -29,7 +29,7 @@ use Rattle.ncq_source.specs.Stores.{Source as Declared, without_room}
 use Rattle.ncq_source.specs.StoreStates.{StoreState, At, Declares, IsAlike, IsCommitted, found, names}
 use Rattle.ncq_book.specs.declared.member.Member.{Member}
 use Rattle.ncq_book.specs.Books.{InstallsRise}
-use Rattle.ncq_engine.specs.Engines.{CanTell, HasTopics, InstallsAreUpTo, IsEngine, fired_if, last_in, with_note}
+use Rattle.ncq_engine.specs.Engines.{CanTell, HasTopics, InstallsAreUpTo, IsEngine, fired_if, last_in, noted_at}
 use Rattle.ncq_engine.specs.History.{Source, world}
 use Rattle.ncq_engine.specs.Stands.{EngineState, content_of}
 use Rattle.ncq_engine.specs.Tellings.{AreOf, is_fired, noted_by, without}

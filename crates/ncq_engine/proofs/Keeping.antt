@@ -7,7 +7,7 @@ use Rattle.ncq_callback.specs.Labels.{Label}
 use Rattle.ncq_script.specs.declared.command.Command.{Command}
 use Rattle.ncq_source.specs.StoreStates.{StoreState}
 use Rattle.ncq_book.specs.declared.member.Member.{Member}
-use Rattle.ncq_engine.specs.Engines.{Pairwise, fired_if, last_in, latest_in, mark_in, with_note}
+use Rattle.ncq_engine.specs.Engines.{Pairwise, fired_if, last_in, latest_in, mark_in, noted_at}
 use Rattle.ncq_engine.specs.Firing.{fires, mark, marked, sources_of}
 use Rattle.ncq_engine.specs.History.{History, Subscription, changes, last_change}
 use Rattle.ncq_engine.specs.Marks.{IsRising, first_mark, first_marked, latest_change, mark_from, noted}

@@ -7,7 +7,7 @@ use Rattle.ncq_book.specs.declared.member.Member.{Member}
 use Rattle.ncq_book.specs.Books.{is_of}
 use Rattle.ncq_event.specs.declared.firing.Firing.{Firing}
 use Rattle.ncq_source.specs.StoreStates.{StoreState}
-use Rattle.ncq_engine.specs.Engines.{fired_if, with_note}
+use Rattle.ncq_engine.specs.Engines.{fired_if, noted_at}
 use Rattle.ncq_engine.specs.Tellings.{is_fired, noted_by}
 
 flip : (a b : ℕ) → (a == b) ≡ (b == a)
@@ -22,20 +22,20 @@ pub fired_members : (store : StoreState) (test : Member → Bool) (firings : Lis
     → noted_by store.changes firings ms ≡ map (λ m. fired_if (test m) store m) ms
 fired_members store test firings [] h = refl
 fired_members store test firings (m ∷ ms) h =
-    λ i. (if (any_flip m firings ∙ h.0) i then with_note store.changes m else m) ∷ fired_members store test firings ms h.1 i
+    λ i. (if (any_flip m firings ∙ h.0) i then noted_at store.changes m else m) ∷ fired_members store test firings ms h.1 i
 
 -- noting one firing, and then others
-pub noted_twice : (number : ℕ) (firing : Firing) (more : List Firing) (ms : List Member) → noted_by number more (map (λ m. if is_of firing.install m then with_note number m else m) ms) ≡ noted_by number (firing ∷ more) ms
+pub noted_twice : (number : ℕ) (firing : Firing) (more : List Firing) (ms : List Member) → noted_by number more (map (λ m. if is_of firing.install m then noted_at number m else m) ms) ≡ noted_by number (firing ∷ more) ms
 noted_twice number firing more [] = refl
 noted_twice number firing more (m ∷ ms) = λ i. by (is_of firing.install m) (is_fired more m) refl i ∷ noted_twice number firing more ms i
   where
     by : (first : Bool) (rest : Bool) → is_fired more m ≡ rest
-        → (if is_fired more (if first then with_note number m else m) then with_note number (if first then with_note number m else m) else (if first then with_note number m else m))
-        ≡ (if first || rest then with_note number m else m)
-    by true true e = λ i. if e i then with_note number m else with_note number m
-    by true false e = λ i. if e i then with_note number m else with_note number m
-    by false true e = λ i. if e i then with_note number m else m
-    by false false e = λ i. if e i then with_note number m else m
+        → (if is_fired more (if first then noted_at number m else m) then noted_at number (if first then noted_at number m else m) else (if first then noted_at number m else m))
+        ≡ (if first || rest then noted_at number m else m)
+    by true true e = λ i. if e i then noted_at number m else noted_at number m
+    by true false e = λ i. if e i then noted_at number m else noted_at number m
+    by false true e = λ i. if e i then noted_at number m else m
+    by false false e = λ i. if e i then noted_at number m else m
 
 pub noted_none : (number : ℕ) (ms : List Member) → noted_by number [] ms ≡ ms
 noted_none number [] = refl

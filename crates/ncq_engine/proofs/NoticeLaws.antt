@@ -13,7 +13,7 @@ use Rattle.ncq_callback.specs.Labels.{Label}
 use Rattle.ncq_midfile.specs.Content.{IsContent}
 use Rattle.ncq_midfile.specs.declared.signed.SignedRow.{SignedRow}
 use Rattle.ncq_news.specs.News.{answers_in, entries_of, since_mark}
-use Rattle.ncq_news.proofs.CallerLemmas.{first_news_tell, later_news_tell}
+use Rattle.ncq_news.proofs.CallerLemmas.{all_tell, since_tell}
 use Rattle.ncq_plan.specs.declared.query.NormalQuery.{NormalQuery}
 use Rattle.ncq_plan.specs.Exprs.{World, rows_in}
 use Rattle.ncq_plan.specs.Plans.{plan_of}
@@ -84,14 +84,14 @@ module _ (labels : List Label) (h : History) (command : Command) (store : StoreS
     by_mark : (o : Option ℕ) → mark s h ≡ o → IfSome o (λ number. can.file.content.base ≤ number)
         → entries_of m.query (since_mark o rows) ≡ difference (answer_over (language_of labels) s.statement.query (sources (command ∷ h))) (answer_at (language_of labels) s.statement.query h o)
     by_mark None e base =
-        first_news_tell m.query rows (changes (command ∷ h)) (rows_in (plan_of m.query) (world (sources (command ∷ h)))) (upto m.file.0 can.file can.at).last content_now
+        all_tell m.query (changes (command ∷ h)) rows (rows_in (plan_of m.query) (world (sources (command ∷ h)))) (upto m.file.0 can.file can.at).last content_now
         ∙ ap (λ now. difference now []) answer_now
     by_mark (Some number) e base =
         let few : number ≤ changes h = mark_few s h number e in
         let within : number ≤ changes (command ∷ h) = omega (arith, few) in
         let before : answers_in m.query (then_rows number) ≡ answer_at (language_of labels) s.statement.query h (Some number) =
         ap (λ w. answers_in m.query (rows_in (plan_of m.query) w)) (world_at_mark number command h few) ∙ at_mark labels h s m k (world (sources (up_to number h))) in
-        later_news_tell m.query rows (changes (command ∷ h)) number (then_rows number) (rows_in (plan_of m.query) (world (sources (command ∷ h)))) (upto m.file.0 can.file can.at).last within (content_then number base within) content_now
+        since_tell m.query number (changes (command ∷ h)) rows (then_rows number) (rows_in (plan_of m.query) (world (sources (command ∷ h)))) (upto m.file.0 can.file can.at).last (content_then number base within) content_now
         ∙ (λ i. difference (answer_now i) (before i))
 
     -- what differs for the member is what differs in the answer

@@ -23,7 +23,7 @@ use Rattle.ncq_shelf.specs.Stands.{Stands as HasFile}
 use Rattle.ncq_shelf.specs.Contents.{AreUpTo, Fits, with_more}
 use Rattle.ncq_source.specs.ChangeStates.{ChangeState}
 use Rattle.ncq_source.specs.StoreStates.{StoreState}
-use Rattle.ncq_engine.specs.Engines.{CanTell, fired_if, last_in, latest_in, mark_in, with_note}
+use Rattle.ncq_engine.specs.Engines.{CanTell, fired_if, last_in, latest_in, mark_in, noted_at}
 use Rattle.ncq_engine.specs.Tellings.{AreOf}
 use Rattle.ncq_engine.proofs.Lists.{each_both, each_more}
 

@@ -96,12 +96,12 @@ pub record CanTell (labels : List Label) (store : StoreState) (table : TableStat
   pub base : IfSome (mark_in store m) (λ number. file.content.base ≤ number)
 
 -- a member that has fired at a number of changes
-abbrev pub with_note : ℕ → Member → Member
-with_note number m = record m { noted = Some number }
+abbrev pub noted_at : ℕ → Member → Member
+noted_at number m = record m { noted = Some number }
 
 -- it fired where the test says so, and else it is as it was
 abbrev pub fired_if : Bool → StoreState → Member → Member
-fired_if fires store m = if fires then with_note store.changes m else m
+fired_if fires store m = if fires then noted_at store.changes m else m
 
 -- the two lists are of one length, and the items at each place are so related
 abbrev pub Pairwise : {A B : Type 0} → (A → B → Type 0) → List A → List B → Type 0

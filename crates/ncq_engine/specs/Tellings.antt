@@ -11,7 +11,7 @@ use Rattle.ncq_roll.specs.Rolls.{RollState}
 use Rattle.ncq_shelf.specs.KeptFiles.{KeptFile, Files}
 use Rattle.ncq_source.specs.StoreStates.{StoreState}
 use Rattle.ncq_engine.specs.Applies.{expired_name}
-use Rattle.ncq_engine.specs.Engines.{has_news_in, mark_in, told_text, with_note}
+use Rattle.ncq_engine.specs.Engines.{has_news_in, mark_in, told_text, noted_at}
 
 -- the line of a member that expires
 abbrev pub line_of : Option Member → List ℕ
@@ -56,7 +56,7 @@ is_fired firings m = list_any (λ firing. is_of firing.install m) firings
 -- the members behind these firings at a number of changes
 abbrev pub noted_by : ℕ → List Firing → List Member → List Member
 noted_by number firings members =
-    map (λ m. if is_fired firings m then with_note number m else m) members
+    map (λ m. if is_fired firings m then noted_at number m else m) members
 
 -- the members without those of these install numbers
 abbrev pub without : List ℕ → List Member → List Member
