@@ -152,11 +152,11 @@ module _ (store : StoreState) (clock count creates : ℕ) (labels : List Label) 
 pub not_exists : (result : Result SourceId DeclareError) (id : SourceId) → result ≡ Ok id → result ≡ Err Exists → ⊥
 not_exists result id is e = let bad : ◌≡◌ {A = Result SourceId DeclareError} (Ok id) (Err Exists) = sym is ∙ e in cc
 
--- those without one number are those without one name, where these are of one member
-pub without_named : (name : List ℕ) (install : ℕ) (ms : List Member) → AllByRecursion (λ m. is_of install m ≡ bytes_eq name m.name) ms → without (install ∷ []) ms ≡ filter (λ m. not (bytes_eq name m.name)) ms
-without_named name install [] h = refl
-without_named name install (m ∷ ms) h =
-    λ i. cond (not ((or_false (is_of install m) ∙ h.0) i)) (m ∷ without_named name install ms h.1 i) (without_named name install ms h.1 i)
+-- those without one number
+pub without_one : (install : ℕ) (ms : List Member) → without (install ∷ []) ms ≡ filter (λ m. not (is_of install m)) ms
+without_one install [] = refl
+without_one install (m ∷ ms) =
+    λ i. cond (not (or_false (is_of install m) i)) (m ∷ without_one install ms i) (without_one install ms i)
   where
     or_false : (b : Bool) → (b || false) ≡ b
     or_false true = refl

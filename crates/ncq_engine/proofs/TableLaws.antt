@@ -9,7 +9,9 @@ use Rattle.ncq_book.specs.declared.member.Member.{Member}
 use Rattle.ncq_callback.specs.Labels.{Label}
 use Rattle.ncq_change.specs.Stores.{world_in}
 use Rattle.ncq_feed.specs.Feeds.{AreFed}
-use Rattle.ncq_feed.proofs.ContentLaws.{content_sound}
+use Rattle.ncq_feed.proofs.ContentLaws.{content_sound, up_before}
+use Rattle.std.specs.FinMap.{same_map, nat_cmp-IsAntisymmetric}
+use Rattle.std.specs.Cmp.{nat_cmp_total}
 use Rattle.ncq_group.specs.Installs.{IsInstalled}
 use Rattle.ncq_group.specs.Tables.{TableState}
 use Rattle.ncq_midfile.specs.Files.{FileState}
@@ -20,7 +22,8 @@ use Rattle.ncq_plan.specs.Plans.{plan_of}
 use Rattle.ncq_plan.specs.WellFormed.{IsWellFormed}
 use Rattle.ncq_shelf.specs.KeptFiles.{KeptFile, Files}
 use Rattle.ncq_shelf.specs.Stands.{Stands as HasFile}
-use Rattle.ncq_shelf.specs.Contents.{AreUpTo, Fits, with_more}
+use Rattle.ncq_shelf.specs.Contents.{AreUpTo, Fits, cut_to}
+use Rattle.ncq_midfile.specs.declared.signed.SignedRow.{SignedRow}
 use Rattle.ncq_source.specs.ChangeStates.{ChangeState}
 use Rattle.ncq_source.specs.StoreStates.{StoreState}
 use Rattle.ncq_engine.specs.Engines.{CanTell, fired_if, last_in, latest_in, mark_in, noted_at}
@@ -160,3 +163,16 @@ can_noted labels store table upto true m can = record {
     by : (based : Bool) → IfSome (if based then option_map (λ first. max first (latest_in store m.sources)) (Some store.changes) else Some store.changes) (λ n. can.file.content.base ≤ n)
     by true = omega (arith, low)
     by false = low
+
+-- without the rows of a change that was fed the files are those before
+pub rolled_back : (store : StoreState) (change : ChangeState) (old fed after : Files) → AreFed store change old fed → AreUpTo store.changes old
+    → ((number : ℕ) → get after number ≡ option_map (cut_to store.changes) (get fed number)) → after ≡ old
+rolled_back store change old fed after done upto cut = same_map nat_cmp_total nat_cmp-IsAntisymmetric after old (λ number. cut number ∙ back number (get old number) refl)
+  where
+    back : (number : ℕ) (o : Option KeptFile) → get old number ≡ o → option_map (cut_to store.changes) (get fed number) ≡ get old number
+    back number None e = ap (option_map (cut_to store.changes)) (done.no_other number e) ∙ sym e
+    back number (Some was) e =
+        let f = done.each number was e in
+        ap (option_map (cut_to store.changes)) (f.1.0 ∙ ap Some f.1.1.behind)
+        ∙ ap (λ (rows : List SignedRow). Some (record was { content = record { base = was.content.base; rows = rows } })) (up_before store.changes was.content.rows f.1.1.news (upto number was e).last f.1.1.numbers)
+        ∙ sym e
