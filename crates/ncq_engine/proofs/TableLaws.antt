@@ -11,7 +11,7 @@ use Rattle.ncq_change.specs.Stores.{world_in}
 use Rattle.ncq_feed.specs.Feeds.{AreFed}
 use Rattle.ncq_feed.proofs.ContentLaws.{content_sound, up_before}
 use Rattle.std.specs.FinMap.{same_map, nat_cmp-IsAntisymmetric}
-use Rattle.std.specs.Cmp.{nat_cmp_total}
+use Rattle.std.proofs.lemmas.Cmp.{nat_cmp_total}
 use Rattle.ncq_group.specs.Installs.{IsInstalled}
 use Rattle.ncq_group.specs.Tables.{TableState}
 use Rattle.ncq_midfile.specs.Files.{FileState}
