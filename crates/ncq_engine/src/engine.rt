@@ -121,13 +121,15 @@ impl Engine {
         ensures labels { IfOk result (λ engine. engine.labels
             ≡ (labels handlers.now.items.items (λ h. h.name) (λ h. h.kind))) }
     {
-        Ok(Engine {
+        let engine = Engine {
             store: Store::new(alloc, seed),
             roll: Roll::new(alloc, seed),
             count: 0,
             creates: 0,
             labels: labels_of(alloc, handlers)?,
-        })
+        };
+        engine.shares();
+        Ok(engine)
     }
 
     /// The instant of the last accepted clock command, or 0.
@@ -283,8 +285,10 @@ impl Engine {
         let topic = place_of(&self.store, change.source());
         self.store.reserve(&change)?;
         let applied = self.accept(out)?;
+        self.roll.facts();
         let mark = self.roll.mark();
         self.roll.feed(alloc, &change, &self.store, steps)?;
+        self.roll.facts();
         match tell_change(alloc, &self.roll, topic, &self.store, handlers, out) {
             Ok(notices) => {
                 self.store.commit(change);
@@ -332,6 +336,7 @@ impl Engine {
         let applied = self.accept(out)?;
         self.creates += 1;
         self.roll.add(alloc, member, &plan, &self.store, steps)?;
+        self.roll.facts();
         let firings = started(alloc, self.roll.book(), &[self.creates])?;
         let notices = tell(
             alloc,
@@ -389,7 +394,9 @@ impl Engine {
             return self.refuse(Refusal::NoName);
         };
         let applied = self.accept(out)?;
+        self.roll.facts();
         take_all(&mut self.roll, &[install]);
+        self.roll.facts();
         Ok(applied)
     }
 
@@ -414,6 +421,7 @@ impl Engine {
         let applied = self.accept(out)?;
         let due = self.roll.book().due(alloc, instant)?;
         let firings = with_news(alloc, self.roll.book(), &self.store, due.as_slice())?;
+        self.roll.facts();
         let notices = tell(
             alloc,
             &self.roll,
@@ -428,6 +436,7 @@ impl Engine {
         self.roll.move_to(alloc, instant)?;
         note_all(&mut self.roll, self.store.changes(), firings.as_slice());
         take_all(&mut self.roll, expired.as_slice());
+        self.roll.facts();
         Ok(applied)
     }
 

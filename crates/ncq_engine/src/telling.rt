@@ -75,7 +75,6 @@ pub(crate) fn tell_change(
         (flat_map (started_at roll.now.instant roll.now.members)
         (watchers_of topic roll.now.members))) }
 {
-    roll.facts();
     let watchers = roll.book().watchers(alloc, topic)?;
     let firings = started(alloc, roll.book(), watchers.as_slice())?;
     tell(alloc, roll, firings.as_slice(), store, handlers, out)
