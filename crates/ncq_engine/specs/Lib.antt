@@ -9,3 +9,4 @@ pub mod Engines
 pub mod Stands
 pub mod Applies
 pub mod Tellings
+pub mod Works
