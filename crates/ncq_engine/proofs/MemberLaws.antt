@@ -1,7 +1,8 @@
 -- What a firing tells: the text of the notice, and the mark that follows from what is written down.
-use Rattle.std.proofs.Common.{◌≡◌, ℕ, zero, suc, ◌<◌, ◌≤◌, max, Bool, true, false, not, List, [], ◌∷◌, ◌++◌, length, take, drop, refl, sym, ◌∙◌, ap, subst, arith}
+use Rattle.std.proofs.Common.{◌≡◌, ℕ, zero, suc, ◌<◌, ◌≤◌, max, Bool, true, false, not, List, [], ◌∷◌, ◌++◌, length, take, get_or, ◌+◌, refl, sym, ◌∙◌, ap, subst, arith}
 use Rattle.std.specs.Prelude.{Option, Some, None, nat_lt, ◌==◌, slice_get, IfSome, if◌then◌else◌}
 use Rattle.std.specs.FinMap.{get}
+use Rattle.std.specs.List.{AllByRecursion}
 use Rattle.std.specs.Option.{option_map}
 use Rattle.ncq_bag.specs.declared.bag.Difference.{Difference}
 use Rattle.std.proofs.lemmas.List.{append-nil}
@@ -11,10 +12,17 @@ use Rattle.ncq_callback.specs.Texts.{render}
 use Rattle.ncq_callback.specs.declared.notice.Kind.{Kind}
 use Rattle.ncq_callback.specs.declared.notice.Kind.TheVariants.{Print, Count, MailTo}
 use Rattle.ncq_book.specs.declared.member.Member.{Member}
-use Rattle.ncq_news.specs.News.{entries_of}
+use Rattle.ncq_midfile.specs.Content.{IsSoundAt}
+use Rattle.ncq_midfile.specs.Files.{FileState}
+use Rattle.ncq_midfile.specs.declared.signed.SignedRow.{SignedRow}
+use Rattle.ncq_group.specs.Tables.{TableState, Facts}
+use Rattle.ncq_news.specs.News.{entries_of, since_mark}
+use Rattle.ncq_plan.specs.Exprs.{expr_width}
+use Rattle.ncq_plan.specs.WellFormed.{arms_width}
+use Rattle.ncq_plan.proofs.CallerLemmas.{plan_is_wide}
 use Rattle.ncq_shelf.specs.KeptFiles.{Files}
 use Rattle.ncq_source.specs.StoreStates.{StoreState}
-use Rattle.ncq_engine.specs.Engines.{news_of, told_text}
+use Rattle.ncq_engine.specs.Engines.{CanTell, last_in, latest_in, mark_in, news_of, rows_in_file, told_text}
 use Rattle.ncq_engine.specs.Notices.{rendered}
 
 -- what is written for a handler that is there
@@ -47,3 +55,35 @@ module _ (labels : List Label) (store : StoreState) (files : Files) (m : Member)
       written_as labels m.action within m.argument m.name instant entries out out' some
       (subst (λ (p : List ℕ × List ℕ). IfSome (slice_get labels m.action) (λ label. out' ≡ out ++ render label.1 p.0 p.1 instant entries)) (λ i. (a i, n i)) w)
       ∙ ap (λ (text : List ℕ). out ++ text) (sym told_as)
+
+-- what a call on a member's file asks and gives
+module _ (labels : List Label) (store : StoreState) (table : TableState) (m : Member) (can : CanTell labels store table m) (facts : Facts table) (content : FileState) (is : content ≡ can.file.content) where
+  pub wide_rows : AllByRecursion (λ r. length r.row ≡ arms_width m.query.arms) content.rows
+  wide_rows =
+      let w : expr_width can.file.expr ≡ arms_width m.query.arms = ap expr_width can.own ∙ plan_is_wide m.query can.formed in
+      subst (λ n. AllByRecursion (λ (r : SignedRow). length r.row ≡ n) content.rows) w
+      (subst (λ (c : FileState). AllByRecursion (λ (r : SignedRow). length r.row ≡ expr_width can.file.expr) c.rows) (sym is) (facts.wide m.file.0 can.file can.at))
+
+  pub last_rows : AllByRecursion (λ r. r.number ≤ table.number) content.rows
+  last_rows = subst (λ (c : FileState). AllByRecursion (λ (r : SignedRow). r.number ≤ table.number) c.rows) (sym is) (facts.up_to m.file.0 can.file can.at).last
+
+  pub base_now : content.base ≤ table.number
+  base_now = subst (λ (c : FileState). c.base ≤ table.number) (sym is) (facts.up_to m.file.0 can.file can.at).base
+
+  pub sound_now : IsSoundAt table.number content.rows
+  sound_now = subst (λ (c : FileState). IsSoundAt table.number c.rows) (sym is) can.sound
+
+  pub base_mark : (o : Option ℕ) → o ≡ mark_in store m → IfSome o (λ number. content.base ≤ number)
+  base_mark o e = subst (λ (o : Option ℕ). IfSome o (λ number. content.base ≤ number)) (sym e)
+      (subst (λ (c : FileState). IfSome (mark_in store m) (λ number. c.base ≤ number)) (sym is) can.base)
+
+  pub entries_are : (o : Option ℕ) (entries : List Difference) → o ≡ mark_in store m → entries ≡ entries_of m.query (since_mark o content.rows) → entries ≡ entries_of m.query (news_of store table.files m)
+  entries_are o entries e f = f ∙ (λ i. entries_of m.query (since_mark (e i) (is i).rows)) ∙ (λ i. entries_of m.query (since_mark (mark_in store m) (rows_in_file (sym can.at i))))
+
+-- the greatest of last changes, source by source
+pub latest_more : (store : StoreState) (names : List (List ℕ)) (at : ℕ) (latest : ℕ) → at < length names → latest ≡ latest_in store (take at names) → max latest (last_in store (get_or names at [])) ≡ latest_in store (take (at + 1) names)
+latest_more store [] at latest less e = absurd (let n : ⊥ = omega (arith, less) in n)
+latest_more store (name ∷ names) zero latest less e = let z : latest ≡ 0 = e in omega (arith, z)
+latest_more store (name ∷ names) (suc at) latest less e =
+    let rest = latest_more store names at (latest_in store (take at names)) (let l : at < length names = omega (arith, less) in l) refl in
+    omega (arith, e, rest)
