@@ -9,13 +9,12 @@ use Rattle.std.specs.Str.{bytes_eq}
 use Rattle.std.proofs.lemmas.Bool.{eqb-true}
 use Rattle.ncq_book.specs.declared.finders.Finders.{Finders}
 use Rattle.ncq_book.specs.declared.member.Member.{Member}
-use Rattle.std.specs.Option.{is_some}
 use Rattle.ncq_book.specs.Books.{is_named, is_of, timing_of, watches, watchers_of}
 use Rattle.ncq_book.specs.Watches.{AreRisingWatches}
 use Rattle.ncq_book.specs.Kept.{Placed, members_in, placed_of, is_watch_of, IsEnrolled, IsStruck, FindsAlike, IsKept}
-use Rattle.ncq_book.proofs.Lists.{found_passes, same_rising, is_some_map, some_found}
+use Rattle.ncq_book.proofs.Lists.{found_passes, same_rising}
 use Rattle.ncq_book.proofs.WatchLaws.{nobody_watches, watches_rise, watch_at}
-use Rattle.ncq_book.proofs.MemberLaws.{members_back, pairs_pushed, remove_pair, insert_pair, get_is, others_pushed, found_pushed, rise_more, differ_more, named_more, watched_more, rise_less, differ_less, named_less, watched_less, nobody_found, keys_below, no_watch_yet, members_rise, member_at, named_is, unnamed_is}
+use Rattle.ncq_book.proofs.MemberLaws.{members_back, pairs_pushed, remove_pair, insert_pair, get_is, others_pushed, found_pushed, rise_more, differ_more, named_more, watched_more, rise_less, differ_less, named_less, watched_less, nobody_found, keys_below, no_watch_yet, members_rise, member_at}
 
 -- members that stand under their numbers are those of the list
 pub shown : (placed : List Placed) (ms : List Member) → placed ≡ map placed_of ms → members_in placed ≡ ms
@@ -105,9 +104,6 @@ module _ (placed : List Placed) (ms : List Member) (finders : Finders) (kept : I
   pub free_name : (name : List ℕ) → list_any (is_named name) ms ≡ false → lookup (bytes_eq name) finders.names ≡ None
   free_name name free = kept.named name ∙ nobody_found name ms free
 
-  pub has_name : (name : List ℕ) → is_some (lookup (bytes_eq name) finders.names) ≡ list_any (is_named name) ms
-  has_name name = ap is_some (kept.named name) ∙ is_some_map (λ (m : Member). m.install) (find (is_named name) ms) ∙ some_found (is_named name) ms
-
   pub is_idle : (i : ℕ) → AllByRecursion (λ n. n.install < i) ms → list_any (λ w. w.install == i) finders.watchers ≡ false
   is_idle i above = nobody_watches i finders.watchers (λ w here. kept.watched w ∙ no_watch_yet i w ms here above)
 
@@ -116,10 +112,3 @@ module _ (placed : List Placed) (ms : List Member) (finders : Finders) (kept : I
   watchers_are topic rising =
       same_rising _ _ (watches_rise topic finders.watchers rising) (members_rise (watches topic) ms kept.rise)
       (λ n. watch_at topic n finders.watchers ∙ kept.watched (record { topic = topic; install = n }) ∙ sym (member_at topic n ms))
-
-  -- without the member of a name, as without that of its install number
-  pub without_named : (name : List ℕ) (i : ℕ) → lookup (bytes_eq name) finders.names ≡ Some i → filter (λ m. not (is_of i m)) ms ≡ filter (λ m. not (is_named name m)) ms
-  without_named name i found = named_is name i ms kept.rise kept.differ (sym (kept.named name) ∙ found)
-
-  pub without_nobody : (name : List ℕ) → lookup (bytes_eq name) finders.names ≡ None → ms ≡ filter (λ m. not (is_named name m)) ms
-  without_nobody name none = sym (unnamed_is name ms (sym (kept.named name) ∙ none))

@@ -8,7 +8,6 @@ use Rattle.std.specs.Option.{is_some, option_map}
 use Rattle.std.specs.Ordering.{nat_cmp}
 use Rattle.std.specs.BTreeMap.{is_at}
 use Rattle.std.specs.Cmp.{nat_cmp_total}
-use Rattle.std.proofs.lemmas.Option.{same_Some}
 use Rattle.std.proofs.lemmas.Bool.Decides.{nat_tests}
 use Rattle.std.proofs.lemmas.Map.Lookups.{btree_set_from_contains, exact_unsigned}
 
@@ -44,18 +43,6 @@ pub is_some_map : {A B : Type 0} (f : A → B) (o : Option A) → is_some (optio
 is_some_map f None = refl
 is_some_map f (Some a) = refl
 
-pub map_some : {A B : Type 0} (f : A → B) (o : Option A) (b : B) → option_map f o ≡ Some b → (a : A) × (o ≡ Some a) × (f a ≡ b)
-map_some f None b h = cc
-map_some f (Some a) b h = (a, refl, same_Some (f a) b h)
-
-pub map_none : {A B : Type 0} (f : A → B) (o : Option A) → option_map f o ≡ None → o ≡ None
-map_none f None h = refl
-map_none f (Some a) h = cc
-
-pub filter_true : {A : Type 0} (xs : List A) → filter (λ x. true) xs ≡ xs
-filter_true [] = refl
-filter_true (x ∷ xs) = ap (λ r. x ∷ r) (filter_true xs)
-
 pub map_itself : {A : Type 0} (o : Option A) → option_map (λ a. a) o ≡ o
 map_itself None = refl
 map_itself (Some a) = refl
@@ -64,15 +51,6 @@ module _ {A : Type 0} (test : A → Bool) where
   pub some_found : (xs : List A) → is_some (find test xs) ≡ list_any test xs
   some_found [] = refl
   some_found (x ∷ xs) = elim (test x) as (λ t. is_some (cond t (Some x) (find test xs)) ≡ (t || list_any test xs)) [ true ↦ refl | false ↦ some_found xs ]
-
-  -- none is found, so all stay
-  pub none_found : (xs : List A) → find test xs ≡ None → filter (λ x. not (test x)) xs ≡ xs
-  none_found [] h = refl
-  none_found (x ∷ xs) h =
-      elim (test x) as (λ t. cond t (Some x) (find test xs) ≡ None → cond (not t) (x ∷ filter (λ x. not (test x)) xs) (filter (λ x. not (test x)) xs) ≡ x ∷ xs) [
-        | true ↦ λ q. cc
-        | false ↦ λ q. ap (λ r. x ∷ r) (none_found xs q)
-      ] h
 
   -- what holds of each holds of the one found
   pub found_has : (P : A → Type 0) (xs : List A) (y : A) → AllByRecursion P xs → find test xs ≡ Some y → P y
@@ -124,15 +102,6 @@ module _ {A : Type 0} (P : A → Type 0) where
   pub each_pushed : (xs : List A) (y : A) → AllByRecursion P xs → P y → AllByRecursion P (xs ++ y ∷ [])
   each_pushed [] y h p = (p, tt)
   each_pushed (x ∷ xs) y h p = (h.0, each_pushed xs y h.1 p)
-
--- a filter of a filter
-pub filter_of_filter : {A : Type 0} (p q : A → Bool) (xs : List A) → filter p (filter q xs) ≡ filter (λ x. q x && p x) xs
-filter_of_filter p q [] = refl
-filter_of_filter p q (x ∷ xs) =
-    elim (q x) as (λ t. filter p (cond t (x ∷ filter q xs) (filter q xs)) ≡ cond (t && p x) (x ∷ filter (λ x. q x && p x) xs) (filter (λ x. q x && p x) xs)) [
-      | true ↦ λ i. cond (p x) (x ∷ filter_of_filter p q xs i) (filter_of_filter p q xs i)
-      | false ↦ filter_of_filter p q xs
-    ]
 
 -- a test of what a map makes of a filter
 pub any_mapped : {A B : Type 0} (p : B → Bool) (f : A → B) (q : A → Bool) (xs : List A) → list_any p (map f (filter q xs)) ≡ list_any (λ x. q x && p (f x)) xs

@@ -1,5 +1,5 @@
 -- Members whose install numbers rise and whose names differ: one more, one less, one changed.
-use Rattle.std.proofs.Common.{◌≡◌, ℕ, ◌<◌, ◌==◌, ◌&&◌, ◌||◌, not, Bool, true, false, List, [], ◌∷◌, ◌++◌, map, refl, sym, ◌∙◌, ap, arith, cond, subst, inl, inr, ◌+◌, take, length, get_or}
+use Rattle.std.proofs.Common.{◌≡◌, ℕ, ◌<◌, ◌==◌, ◌&&◌, ◌||◌, not, Bool, true, false, List, [], ◌∷◌, ◌++◌, map, refl, sym, ◌∙◌, ap, arith, cond, subst, inl, inr}
 use Rattle.std.specs.Prelude.{Some, None, nat_eq}
 use Rattle.std.specs.List.{filter, find, list_any, AllByRecursion}
 use Rattle.std.specs.Option.{option_map}
@@ -8,16 +8,15 @@ use Rattle.std.specs.BTreeMap.{is_at, insert_entry}
 use Rattle.std.specs.Ordering.{nat_cmp, match_ordering}
 use Rattle.std.specs.Str.{bytes_eq}
 use Rattle.std.proofs.lemmas.Bool.{cases_Bool, true≢false, eqb-true, eq-eqb, ne_eqb, and_parts, and_left}
-use Rattle.std.proofs.lemmas.List.Folds.{list_any-append, list_any_more}
-use Rattle.std.proofs.lemmas.List.Elements.{filter_agree}
+use Rattle.std.proofs.lemmas.List.Folds.{list_any-append}
 use mathlib.Core.Bool.{or-false, and-true, and_comm}
 use Rattle.std.proofs.lemmas.Bool.Decides.{nat_tests}
 use Rattle.std.proofs.lemmas.Slice.Eq.{bytes_eq-Decides}
 use Rattle.ncq_book.specs.declared.member.Member.{Member}
 use Rattle.ncq_book.specs.declared.watchers.Watch.{Watch}
-use Rattle.ncq_book.specs.Books.{is_named, is_of, member_of, watches, watchers_of, InstallsRise}
-use Rattle.ncq_book.specs.Kept.{Placed, members_in, placed_of, NamesDiffer, install_of, is_watch_of}
-use Rattle.ncq_book.proofs.Lists.{number_at, found_has, each_leads, each_filtered, each_pushed, none_is_found, none_passes, all_pass, or_left, or_right, cond_map, map_itself, NumbersRise, any_mapped, any_agree, map_some, map_none, none_found, filter_of_filter}
+use Rattle.ncq_book.specs.Books.{is_named, is_of, member_of, watches, watchers_of, InstallsRise, NamesDiffer}
+use Rattle.ncq_book.specs.Kept.{Placed, members_in, placed_of, install_of, is_watch_of}
+use Rattle.ncq_book.proofs.Lists.{number_at, found_has, each_leads, each_filtered, each_pushed, none_is_found, none_passes, all_pass, or_left, or_right, cond_map, map_itself, NumbersRise, any_mapped, any_agree}
 
 -- members under their numbers, and back
 pub members_back : (ms : List Member) → members_in (map placed_of ms) ≡ ms
@@ -32,7 +31,7 @@ pub none_above : (i : ℕ) (m : Member) (ms : List Member) → is_of i m ≡ tru
 none_above i m ms h above = each_leads (λ n. m.install < n.install) (λ n. is_of i n ≡ false) (λ n l. grind (arith, nat_tests)) ms above
 
 -- the others are all, where no member has the number
-others_all : (i : ℕ) (ms : List Member) → NoneOf i ms → filter (λ m. not (is_of i m)) ms ≡ ms
+pub others_all : (i : ℕ) (ms : List Member) → NoneOf i ms → filter (λ m. not (is_of i m)) ms ≡ ms
 others_all i ms none = all_pass (λ m. not (is_of i m)) ms (each_leads (λ m. is_of i m ≡ false) (λ m. not (is_of i m) ≡ true) (λ m e. ap not e) ms none)
 
 -- a list of pairs that a choice makes of members, each under the install number
@@ -256,44 +255,3 @@ others_pushed (n ∷ ms) m above =
     let up = above.0 in
     let other : is_of m.install n ≡ false = grind (arith, nat_tests) in
     (λ i. cond (not (other i)) (n ∷ filter (λ n. not (is_of m.install n)) (ms ++ m ∷ [])) (filter (λ n. not (is_of m.install n)) (ms ++ m ∷ []))) ∙ ap (λ r. n ∷ r) (others_pushed ms m above.1)
-
--- the member of a name has its install number: without the one is without the other
-pub named_is : (name : List ℕ) (i : ℕ) (ms : List Member) → InstallsRise ms → NamesDiffer ms → install_of name ms ≡ Some i
-    → filter (λ m. not (is_of i m)) ms ≡ filter (λ m. not (is_named name m)) ms
-named_is name i [] rise differ found = refl
-named_is name i (m ∷ ms) rise differ found =
-    elim (is_named name m) as (λ t. is_named name m ≡ t → option_map (λ k. k.install) (cond t (Some m) (find (is_named name) ms)) ≡ Some i
-    → filter (λ m. not (is_of i m)) (m ∷ ms) ≡ cond (not t) (m ∷ filter (λ m. not (is_named name m)) ms) (filter (λ m. not (is_named name m)) ms)) [
-      | true ↦ λ h q.
-          let same : m.install ≡ i = grind arith in
-          let here : is_of i m ≡ true = eq-eqb m.install i same in
-          let e : name ≡ m.name = names_same name m.name h in
-          let unnamed : AllByRecursion (λ n. is_named name n ≡ false) ms = subst (λ a. AllByRecursion (λ n. is_named a n ≡ false) ms) (sym e) differ.0 in
-          (λ j. cond (not (here j)) (m ∷ filter (λ m. not (is_of i m)) ms) (filter (λ m. not (is_of i m)) ms))
-          ∙ others_all i ms (none_above i m ms here rise.0)
-          ∙ sym (all_pass (λ n. not (is_named name n)) ms (each_leads (λ n. is_named name n ≡ false) (λ n. not (is_named name n) ≡ true) (λ n e. ap not e) ms unnamed))
-      | false ↦ λ h q.
-          let k = map_some (λ (k : Member). k.install) (find (is_named name) ms) i q in
-          let up : m.install < k.0.install = found_has (is_named name) (λ n. m.install < n.install) ms k.0 rise.0 k.1 in
-          let other : is_of i m ≡ false = ne_eqb m.install i (λ e. let f = k.2 in absurd (omega (arith, e, f))) in
-          (λ j. cond (not (other j)) (m ∷ filter (λ m. not (is_of i m)) ms) (filter (λ m. not (is_of i m)) ms))
-          ∙ ap (λ r. m ∷ r) (named_is name i ms rise.1 differ.1 q)
-    ] refl found
-
-pub unnamed_is : (name : List ℕ) (ms : List Member) → install_of name ms ≡ None → filter (λ m. not (is_named name m)) ms ≡ ms
-unnamed_is name ms none = none_found (is_named name) ms (map_none (λ (m : Member). m.install) (find (is_named name) ms) none)
-
-not_both : (a b : Bool) → (not a && not b) ≡ not (a || b)
-not_both true b = refl
-not_both false b = refl
-
--- without one number more
-pub without_more : (installs : List ℕ) (i install : ℕ) (ms : List Member) → i < length installs → install ≡ get_or installs i 0
-    → filter (λ m. not (is_of install m)) (filter (λ m. not (list_any (nat_eq m.install) (take i installs))) ms) ≡ filter (λ m. not (list_any (nat_eq m.install) (take (i + 1) installs))) ms
-without_more installs i install ms within here =
-    filter_of_filter (λ m. not (is_of install m)) (λ m. not (list_any (nat_eq m.install) (take i installs))) ms
-    ∙ filter_agree _ (λ m. not (list_any (nat_eq m.install) (take (i + 1) installs)))
-    (λ m.
-    not_both (list_any (nat_eq m.install) (take i installs)) (is_of install m)
-    ∙ (λ j. not (list_any (nat_eq m.install) (take i installs) || nat_eq m.install (here j)))
-    ∙ ap not (sym (list_any_more (nat_eq m.install) installs i 0 within))) ms

@@ -1,11 +1,12 @@
 -- A book of live subscriptions, as callers see it.
-use Rattle.std.specs.Prelude.{ℕ, ◌<◌, ◌==◌, ◌&&◌, Bool, nat_eq, List, [], ◌∷◌, map, filter, refl}
+use Rattle.std.specs.Prelude.{ℕ, ◌<◌, ◌==◌, ◌&&◌, Bool, false, nat_eq, List, [], ◌∷◌, map, filter, refl}
+use Rattle.std.specs.Prelude.{◌≡◌}
 use Rattle.std.specs.Prelude.{Option, Some, if◌then◌else◌}
 use Rattle.std.specs.List.{find, list_any, AllByRecursion}
 use Rattle.std.specs.Str.{bytes_eq}
 use Rattle.std.specs.Coded.{Coded, code_by, coded×, coded_ℕ, coded_list}
+use Rattle.ncq_base.specs.declared.atom.FileId.{FileId}
 use Rattle.ncq_event.specs.Calendars.{Entry}
-use Rattle.ncq_row.specs.Embeddings.{Row}
 use Rattle.ncq_book.specs.declared.member.Member.{Member}
 use Rattle.ncq_book.specs.contracts.member.Member.{the_row as member_row}
 
@@ -43,10 +44,19 @@ watches topic m = m.timing.every == 0 && list_any (nat_eq topic) m.topics
 abbrev pub watchers_of : ℕ → List Member → List ℕ
 watchers_of topic members = map (λ m. m.install) (filter (watches topic) members)
 
--- the member with another mark and other rows, if it is that of the install number
-abbrev pub noted : ℕ → ℕ → List Row → Member → Member
-noted install mark told m =
-    if is_of install m then record m { mark = Some mark; told = told } else m
+-- the member with this number noted, if it is that of the install number
+abbrev pub with_note : ℕ → ℕ → Member → Member
+with_note install number m = if is_of install m then record m { noted = Some number } else m
+
+-- the member with this file, if it is that of the install number
+abbrev pub with_file : ℕ → FileId → Member → Member
+with_file install file m = if is_of install m then record m { file = file } else m
+
+-- no two have one name
+abbrev pub NamesDiffer : List Member → Type 0
+NamesDiffer [] = Unit {0}
+NamesDiffer (m ∷ more) =
+    AllByRecursion (λ n. is_named m.name n ≡ false) more × NamesDiffer more
 
 -- each has a greater install number than those before it
 abbrev pub InstallsRise : List Member → Type 0

@@ -10,7 +10,7 @@ use Rattle.std.specs.Str.{bytes_eq}
 use Rattle.ncq_book.specs.declared.finders.Finders.{Finders}
 use Rattle.ncq_book.specs.declared.member.Member.{Member}
 use Rattle.ncq_book.specs.declared.watchers.Watch.{Watch}
-use Rattle.ncq_book.specs.Books.{is_named, watches, timing_of, InstallsRise}
+use Rattle.ncq_book.specs.Books.{is_named, watches, timing_of, InstallsRise, NamesDiffer}
 use Rattle.ncq_book.specs.Watches.{is_watch}
 
 -- a member with the number that it stands under
@@ -24,12 +24,6 @@ members_in placed = map (λ p. p.1) placed
 -- a member under its install number
 abbrev pub placed_of : Member → Placed
 placed_of m = (m.install, m)
-
--- no two have one name
-abbrev pub NamesDiffer : List Member → Type 0
-NamesDiffer [] = Unit {0}
-NamesDiffer (m ∷ more) =
-    AllByRecursion (λ n. is_named m.name n ≡ false) more × NamesDiffer more
 
 -- the install number of the member of this name, where there is one
 abbrev pub install_of : List ℕ → List Member → Option ℕ

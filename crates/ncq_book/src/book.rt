@@ -1,17 +1,16 @@
 //! The book: live subscriptions in the order of their creates, and what finds them.
 ghost use Rattle.std.specs.Prelude.{◌≡◌, ◌<◌, ◌≤◌, ◌-◌, ◌^◌, ◌++◌, ◌∷◌, [], not, map, filter};
 ghost use Rattle.std.specs.Prelude.{length, nat_eq, Some, false, IfOk, OnOk, OnErr, IsSome};
-ghost use Rattle.std.specs.List.{list_any, AllByRecursion};
-ghost use Rattle.std.specs.Option.{option_copied};
+ghost use Rattle.std.specs.List.{find, list_any, AllByRecursion};
+ghost use Rattle.std.specs.Option.{option_copied, option_map};
 ghost use Rattle.ncq_event.specs.Calendars.{due_firings, expired_at};
 ghost use Rattle.ncq_book.specs.Books.{is_named, is_of, member_of, timing_of, watchers_of};
-ghost use Rattle.ncq_book.specs.Books.{noted, InstallsRise};
+ghost use Rattle.ncq_book.specs.Books.{with_file, with_note, InstallsRise, NamesDiffer};
 
 use crate::finders::Finders;
 use crate::member::Member;
-use ncq_base::Bytes;
+use ncq_base::{Bytes, FileId};
 use ncq_event::{Firings, Installs};
-use ncq_row::Rows;
 use std::alloc::{AllocError, Global};
 use std::collections::BTreeMap;
 use std::hash::RandomState;
@@ -53,10 +52,11 @@ impl Book {
         }
     }
 
-    /// How many members there are. Their install numbers rise.
+    /// How many members there are. Their install numbers rise, and no two have one name.
     pub fn len(&self) -> usize
         ensures len { result ≡ length self.now.members }
         ensures rise { InstallsRise self.now.members }
+        ensures names { NamesDiffer self.now.members }
     {
         self.members.len()
     }
@@ -72,7 +72,14 @@ impl Book {
     pub fn has(&self, name: &Bytes) -> bool
         ensures { result ≡ list_any (is_named name.now) self.now.members }
     {
-        self.finders.names.find(name).is_some()
+        self.find(name).is_some()
+    }
+
+    /// The install number of the member of this name, if it is there. It takes no memory.
+    pub fn find(&self, name: &Bytes) -> Option<u64>
+        ensures { result ≡ option_map (λ m. m.install) (find (is_named name.now) self.now.members) }
+    {
+        self.finders.names.find(name)
     }
 
     /// The member of this install number, if it is there. It takes no memory.
@@ -129,38 +136,37 @@ impl Book {
         }
     }
 
-    /// Takes the member of this name away, if it is there. It takes no memory.
-    pub fn remove(&mut self, name: &Bytes)
-        ensures { self.new ≡ record self.old {
-          members = filter (λ m. not (is_named name.now m)) self.old.members;
+    /// Takes the member of this install number away, if it is there. It takes no memory.
+    pub fn take(&mut self, install: u64) -> Option<Member>
+        ensures members { self.new ≡ record self.old {
+          members = filter (λ m. not (is_of install m)) self.old.members;
         } }
+        ensures taken { result ≡ member_of install self.old.members }
     {
-        if let Some(install) = self.finders.names.find(name) {
-            self.take(install);
-        }
+        let member = self.members.remove(&install)?;
+        self.finders.strike(&member);
+        Some(member)
     }
 
-    /// Takes the members of these install numbers away. It takes no memory.
-    pub fn remove_all(&mut self, installs: &[u64])
+    /// Notes this number for the member of this install number, if it is there. It takes no memory.
+    pub fn note(&mut self, install: u64, number: u64)
         ensures { self.new ≡ record self.old {
-          members = filter (λ m. not (list_any (nat_eq m.install) installs.now)) self.old.members;
-        } }
-    {
-        for install in installs {
-            self.take(*install);
-        }
-    }
-
-    /// Notes that the member of this install number has fired at this number of changes, and was
-    /// told of these rows. It takes no memory.
-    pub fn note(&mut self, install: u64, mark: u64, told: Rows)
-        ensures { self.new ≡ record self.old {
-          members = map (noted install mark told) self.old.members;
+          members = map (with_note install number) self.old.members;
         } }
     {
         if let Some(member) = self.members.get_mut(&install) {
-            member.mark = Some(mark);
-            member.told = told;
+            member.noted = Some(number);
+        }
+    }
+
+    /// Gives the member of this install number another file, if it is there. It takes no memory.
+    pub fn set_file(&mut self, install: u64, file: FileId)
+        ensures { self.new ≡ record self.old {
+          members = map (with_file install file) self.old.members;
+        } }
+    {
+        if let Some(member) = self.members.get_mut(&install) {
+            member.file = file;
         }
     }
 
@@ -172,16 +178,5 @@ impl Book {
         ensures err { OnErr result (self.new ≡ self.old) }
     {
         self.finders.calendar.move_to(alloc, to)
-    }
-
-    /// Takes the member of this install number away, if it is there.
-    fn take(&mut self, install: u64)
-        ensures { self.new ≡ record self.old {
-          members = filter (λ m. not (is_of install m)) self.old.members;
-        } }
-    {
-        if let Some(member) = self.members.remove(&install) {
-            self.finders.strike(&member);
-        }
     }
 }

@@ -1,13 +1,12 @@
 //! A live subscription.
-use ncq_base::{Bytes, Sequence};
+use ncq_base::{Bytes, FileId, Sequence};
 use ncq_event::Timing;
-use ncq_plan::{Expr, NormalQuery};
-use ncq_row::Rows;
+use ncq_plan::NormalQuery;
 
 /// Numbers of what members watch.
 pub type Topics = Sequence<u64>;
 
-/// A live subscription: what it asks, when it fires, and what it was told of.
+/// A live subscription: what it asks, where the rows of that stand, and when it fires.
 #[derive(Drop)]
 pub struct Member {
     /// What it is called.
@@ -18,8 +17,8 @@ pub struct Member {
     pub topics: Topics,
     /// Its query in normal form.
     pub query: NormalQuery,
-    /// The plan of the query.
-    pub plan: Expr,
+    /// The file of its plan.
+    pub file: FileId,
     /// When it fires and when it ends.
     pub timing: Timing,
     /// The place of its handler.
@@ -28,8 +27,7 @@ pub struct Member {
     pub argument: Bytes,
     /// Its number among the accepted creates, from 1.
     pub install: u64,
-    /// The number of changes at its latest firing; none before the first.
-    pub mark: Option<u64>,
-    /// The rows of the plan at its latest firing; none before the first.
-    pub told: Rows,
+    /// What is written down of when it fired: of one that fires at changes the number of changes at
+    /// its first firing, of a timer that at its latest; none before the first.
+    pub noted: Option<u64>,
 }

@@ -3,10 +3,9 @@ ghost use Rattle.std.specs.Prelude.{◌≡◌, ◌<◌, ◌+◌, [], IfOk};
 ghost use Rattle.std.specs.List.{AllByRecursion};
 
 use crate::{Book, Member, Topics};
-use ncq_base::{Bytes, Sequence, bytes_of};
+use ncq_base::{Bytes, FileId, Sequence, bytes_of};
 use ncq_event::{Firing, Firings, Timing};
-use ncq_plan::{Arms, Expr, NormalQuery, SlotTemplate, Tests};
-use ncq_row::{Names, Rows, Shape, ShapeContent, ShapeSuffix};
+use ncq_plan::{Arms, NormalQuery, SlotTemplate, Tests};
 use std::alloc::{AllocError, Global};
 use std::hash::RandomState;
 use std::process::Abort;
@@ -84,19 +83,6 @@ const EXPIRED: [(u64, &[u64]); 6] = [
     (18446744073709551615, &[2, 3]),
 ];
 
-/// A plan that is not looked at.
-fn any_plan(alloc: Global) -> Result<Expr, AllocError> {
-    let source = bytes_of(alloc, b"quotes")?;
-    let tag = bytes_of(alloc, b"Quote")?;
-    let shape = Shape {
-        tag,
-        attributes: Names::new(alloc),
-        content: ShapeContent::Value,
-        suffix: ShapeSuffix::Plain,
-    };
-    Ok(Expr::Scan { source, shape })
-}
-
 /// A query that is not looked at.
 fn any_query(alloc: Global) -> NormalQuery {
     NormalQuery {
@@ -113,13 +99,12 @@ fn member(alloc: Global, install: u64, name: Bytes, row: &Row) -> Result<Member,
 {
     let (_, (start, every, expire), topics) = *row;
     let topics = numbers(alloc, topics)?;
-    let plan = any_plan(alloc)?;
     Ok(Member {
         name,
         sources: Sequence::new(alloc),
         topics,
         query: any_query(alloc),
-        plan,
+        file: FileId(0),
         timing: Timing {
             start,
             every,
@@ -128,8 +113,7 @@ fn member(alloc: Global, install: u64, name: Bytes, row: &Row) -> Result<Member,
         action: 0,
         argument: Bytes::new(alloc),
         install,
-        mark: None,
-        told: Rows::new(alloc),
+        noted: None,
     })
 }
 
@@ -175,12 +159,12 @@ fn firings(alloc: Global, pairs: &[(u64, u64)]) -> Result<Firings, AllocError> {
     Ok(firings)
 }
 
-/// The number of changes at the member's latest firing, where there is a member and a firing.
-fn mark_of(book: &Book, install: u64) -> Option<u64> {
+/// What is noted of the member, where there is a member and a note.
+fn note_of(book: &Book, install: u64) -> Option<u64> {
     let Some(member) = book.get(install) else {
         return None;
     };
-    member.mark
+    member.noted
 }
 
 /// Each topic of the rows is watched by those of its row.
@@ -231,13 +215,16 @@ fn has(alloc: Global, book: &Book, name: &str) -> Result<bool, AllocError> {
     Ok(book.has(&bytes_of(alloc, name.as_bytes())?))
 }
 
-fn remove(alloc: Global, book: &mut Book, name: &str) -> Result<(), AllocError>
+/// Takes the member of the name away, and tells whether it was there.
+fn take(alloc: Global, book: &mut Book, name: &str) -> Result<bool, AllocError>
     requires { AllByRecursion (λ m. m.install < 4) book.old.members }
     ensures { AllByRecursion (λ m. m.install < 4) book.new.members }
 {
     let name = bytes_of(alloc, name.as_bytes())?;
-    book.remove(&name);
-    Ok(())
+    let Some(install) = book.find(&name) else {
+        return Ok(false);
+    };
+    Ok(book.take(install).is_some())
 }
 
 fn expect_named(rt: &impl Abort, alloc: Global, book: &Book) -> Result<(), AllocError> {
@@ -256,21 +243,21 @@ fn expect_moved(rt: &impl Abort, alloc: Global, book: &mut Book) -> Result<(), A
     expect_due(rt, alloc, book, &DUE_LATER)
 }
 
-fn expect_noted(rt: &impl Abort, alloc: Global, book: &mut Book) {
-    book.note(2, 4, Rows::new(alloc));
-    book.note(4, 9, Rows::new(alloc));
-    assert!(rt; mark_of(book, 1).is_none() && mark_of(book, 3).is_none());
-    assert!(rt; mark_of(book, 2) == Some(4));
-    book.note(2, 0, Rows::new(alloc));
-    assert!(rt; mark_of(book, 2) == Some(0));
+fn expect_noted(rt: &impl Abort, book: &mut Book) {
+    book.note(2, 4);
+    book.note(4, 9);
+    assert!(rt; note_of(book, 1).is_none() && note_of(book, 3).is_none());
+    assert!(rt; note_of(book, 2) == Some(4));
+    book.note(2, 0);
+    assert!(rt; note_of(book, 2) == Some(0));
     assert!(rt; book.len() == 3);
 }
 
 fn expect_removed(rt: &impl Abort, alloc: Global, book: &mut Book) -> Result<(), AllocError>
     requires { AllByRecursion (λ m. m.install < 4) book.old.members }
 {
-    remove(alloc, book, "changes")?;
-    remove(alloc, book, "changes")?;
+    assert!(rt; take(alloc, book, "changes")?);
+    assert!(rt; !take(alloc, book, "changes")?);
     assert!(rt; book.len() == 2);
     expect_watchers(rt, alloc, book, &[(7, &[]), (9, &[3])])?;
     expect_expired(rt, alloc, book, &[(51, &[3])])?;
@@ -280,13 +267,13 @@ fn expect_removed(rt: &impl Abort, alloc: Global, book: &mut Book) -> Result<(),
 }
 
 fn expect_left(rt: &impl Abort, alloc: Global, book: &mut Book) -> Result<(), AllocError> {
-    book.remove_all(&[4, 1, 2]);
+    for install in [4, 1] {
+        assert!(rt; book.take(install).is_some());
+    }
+    assert!(rt; book.take(2).is_none());
     assert!(rt; book.len() == 1 && book.get(3).is_some());
     expect_watchers(rt, alloc, book, &[(9, &[3])])?;
-    expect_due(rt, alloc, book, &[(99, &[(30, 3)])])?;
-    book.remove_all(&[]);
-    assert!(rt; book.len() == 1);
-    Ok(())
+    expect_due(rt, alloc, book, &[(99, &[(30, 3)])])
 }
 
 fn expect_last(rt: &impl Abort, alloc: Global, book: &mut Book) -> Result<(), AllocError>
@@ -306,7 +293,7 @@ fn members_are_found(rt: HostRuntime) -> Result<(), Fail> {
     expect_watchers(&rt, rt.alloc(), &book, &WATCHERS)?;
     expect_expired(&rt, rt.alloc(), &book, &EXPIRED)?;
     expect_moved(&rt, rt.alloc(), &mut book)?;
-    expect_noted(&rt, rt.alloc(), &mut book);
+    expect_noted(&rt, &mut book);
     Ok(())
 }
 

@@ -1,6 +1,6 @@
 -- What the engine stands for behind a change of a source.
 use Rattle.std.proofs.Common.{◌≡◌, ℕ, zero, suc, ◌+◌, ◌<◌, ◌≤◌, Bool, true, false, ◌&&◌, ◌==◌, cond, List, [], ◌∷◌, ◌++◌, map, length, get_or, slice_get, refl, sym, ◌∙◌, ap, subst, arith, inl, inr, zero-add}
-use Rattle.std.specs.Prelude.{Option, Some, None, Result, Ok, Err, if◌then◌else◌, nat_lt, nat_le, is_some}
+use Rattle.std.specs.Prelude.{Option, Some, None, Result, Ok, Err, ◌⊎◌, if◌then◌else◌, nat_lt, nat_le, is_some}
 use Rattle.std.specs.Option.{option_and_then}
 use Rattle.std.proofs.lemmas.Bool.Decides.{nat_tests}
 use Rattle.std.proofs.lemmas.List.Quantifiers.{position-Some}
@@ -153,6 +153,15 @@ module _ (store ready after_store : StoreState) (clock count creates : ℕ) (lab
 
   roomy : Found ready name change.source.0
   roomy = found_at ready name change.source.0 here_ready
+
+  -- each source has changed now, or is as it was
+  pub last_either : (asked : List ℕ) → (last_in after_store asked ≡ after_store.changes) ⊎ (last_in after_store asked ≡ last_in ready asked)
+  last_either asked =
+      let c = committed.sources roomy.source roomy.there in
+      elim (bytes_eq asked name) as (λ t. bytes_eq asked name ≡ t → (last_in after_store asked ≡ after_store.changes) ⊎ (last_in after_store asked ≡ last_in ready asked)) [
+        | true ↦ λ e. inl (last_changed store ready after_store name change.source.0 roomy.source c.0 here_ready roomy.there c.1 c.2.name roomy.own roomy.first roomy.is asked e ∙ c.2.last)
+        | false ↦ λ e. inr (last_unchanged store ready after_store name change.source.0 roomy.source c.0 here_ready roomy.there c.1 c.2.name roomy.own roomy.first roomy.is asked e)
+      ] refl
 
   module _ (h : History) (s : Follows old_engine h) where
     pub delta_allowed : delta_refusal items (source_in name (sources h)) ≡ None

@@ -27,3 +27,6 @@ pub mod NotedLaws
 pub mod ExpiryLaws
 pub mod TopicLaws
 pub mod BookLaws
+pub mod ChangeAnswers
+pub mod ClockAnswers
+pub mod CreateAnswers

@@ -49,3 +49,10 @@ invariant_of-self-in-Err c =
     (above_in _ _ c.args.member c.self.view_is c.requires.above) (free_in _ _ c.args.member c.self.view_is c.requires.free)
     c.in_ok-enroll.ensures.ok c.insert.new.self.entries c.strike.new.self
     (subst (λ p. IsStruck p.1 c.enroll.new.self c.strike.new.self) c.in-Err.ensures.value_returned c.strike.ensures) c.in-Err.ensures.err
+
+pub invariant_of-self-in-Err-2 : goal.invariant_of-self-in-Err-2
+invariant_of-self-in-Err-2 c =
+    put_back c.self.inside.members.entries c.self.inside.finders c.enroll.new.self c.self.invariant c.args.member
+    (above_in _ _ c.args.member c.self.view_is c.requires.above) (free_in _ _ c.args.member c.self.view_is c.requires.free)
+    c.in_ok-enroll.ensures.ok c.insert.new.self.entries c.strike.new.self
+    (subst (λ p. IsStruck p.1 c.enroll.new.self c.strike.new.self) c.in-Err.ensures.value_returned c.strike.ensures) c.in-Err.ensures.err

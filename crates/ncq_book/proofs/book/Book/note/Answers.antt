@@ -1,6 +1,6 @@
-use Rattle.std.proofs.Common.{◌∙◌, ap, sym, subst, map}
+use Rattle.std.proofs.Common.{◌∙◌, ap, refl, sym, subst, map}
 use Rattle.std.specs.Prelude.{Some}
-use Rattle.ncq_book.specs.Books.{BookState, noted}
+use Rattle.ncq_book.specs.Books.{BookState, with_note}
 use Rattle.ncq_book.specs.Kept.{members_in, IsKept}
 use Rattle.ncq_book.specs.contracts.book.Book.{the_view}
 use Rattle.ncq_book.proofs.NoteLaws.{noted_kept, noted_shown, noted_nobody}
@@ -11,9 +11,9 @@ pub invariant_of-self : goal.invariant_of-self
 invariant_of-self c =
     elim c.match-get_mut.branch [
       | in-Some w ↦
-          let written = record w.in-Some.member.now { mark = Some c.args.mark; told = c.args.told } in
+          let written = record w.in-Some.member.now { noted = Some c.args.number } in
           subst (λ b. IsKept (members_in b.members.entries) b.members.entries b.finders) (sym w.self-inside-is)
-          (noted_kept c.args.install c.args.mark c.args.told c.self.inside.members.entries c.self.inside.finders c.self.invariant (c.get_mut.follows.lender written).entries w.in-Some.member.now
+          (noted_kept c.args.install (λ m. record m { noted = Some c.args.number }) (λ m. refl) (λ m. refl) (λ m. refl) (λ m. refl) c.self.inside.members.entries c.self.inside.finders c.self.invariant (c.get_mut.follows.lender written).entries w.in-Some.member.now
           (sym w.in-Some.ensures.value) (c.get_mut.follows.holds written).0)
       | in_default w ↦
           subst (λ b. IsKept (members_in b.members.entries) b.members.entries b.finders)
@@ -22,16 +22,16 @@ invariant_of-self c =
 
 pub returns : goal.returns
 returns c =
-    let turned = ap (λ (b : BookState). record b { members = map (noted c.args.install c.args.mark c.args.told) b.members }) c.self.view_is in
+    let turned = ap (λ (b : BookState). record b { members = map (with_note c.args.install c.args.number) b.members }) c.self.view_is in
     elim c.match-get_mut.branch [
       | in-Some w ↦
-          let written = record w.in-Some.member.now { mark = Some c.args.mark; told = c.args.told } in
+          let written = record w.in-Some.member.now { noted = Some c.args.number } in
           let is =
-          noted_shown c.args.install c.args.mark c.args.told c.self.inside.members.entries c.self.inside.finders c.self.invariant (c.get_mut.follows.lender written).entries w.in-Some.member.now
+          noted_shown c.args.install (λ m. record m { noted = Some c.args.number }) (λ m. refl) (λ m. refl) (λ m. refl) (λ m. refl) c.self.inside.members.entries c.self.inside.finders c.self.invariant (c.get_mut.follows.lender written).entries w.in-Some.member.now
           (sym w.in-Some.ensures.value) (c.get_mut.follows.holds written).0 in
           ap the_view w.self-inside-is ∙ (λ i. record { members = is i; instant = c.self.inside.finders.calendar.instant }) ∙ turned
       | in_default w ↦
-          let is = noted_nobody c.args.install c.args.mark c.args.told c.self.inside.members.entries c.self.inside.finders c.self.invariant (sym w.in_default.ensures.value) in
+          let is = noted_nobody c.args.install (λ m. record m { noted = Some c.args.number }) (λ m. refl) (λ m. refl) (λ m. refl) (λ m. refl) c.self.inside.members.entries c.self.inside.finders c.self.invariant (sym w.in_default.ensures.value) in
           ap the_view (w.self-inside-is ∙ (λ i. record { members = c.get_mut.follows.holds-at-none i; finders = c.self.inside.finders }))
           ∙ (λ i. record { members = is i; instant = c.self.inside.finders.calendar.instant }) ∙ turned
     ]

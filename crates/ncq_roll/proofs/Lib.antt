@@ -1,0 +1,5 @@
+pub mod CallerLemmas
+mod Users
+mod RollLaws
+pub mod ShareLaws
+pub mod TurnLaws

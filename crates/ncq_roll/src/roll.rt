@@ -1,0 +1,239 @@
+//! The roll: members, and the files that they use.
+ghost use Rattle.std.specs.Prelude.{◌≡◌, ℕ, ◌+◌, ◌-◌, ◌<◌, ◌≤◌, ◌^◌, List, [], not, map, filter};
+ghost use Rattle.std.specs.Prelude.{length, false, Some, OnOk, OnErr, IfSome, IfNone};
+ghost use Rattle.std.specs.FinMap.{empty, get};
+ghost use Rattle.std.specs.Option.{option_map};
+ghost use Rattle.std.specs.List.{list_any, AllByRecursion};
+ghost use Rattle.ncq_plan.specs.declared.expr.Expr.{Expr as an_expr};
+ghost use Rattle.ncq_plan.specs.Plans.{plan_of};
+ghost use Rattle.ncq_plan.specs.WellFormed.{IsWellFormed};
+ghost use Rattle.ncq_change.specs.Stores.{world_in};
+ghost use Rattle.ncq_shelf.specs.Contents.{Fits, cut_to};
+ghost use Rattle.ncq_shelf.specs.KeptFiles.{KeptFile};
+ghost use Rattle.ncq_feed.specs.Feeds.{IsPreparedFrom, AreFed, world_after, feed_work};
+ghost use Rattle.ncq_group.specs.Installs.{NamesTheMissing, rows_of_all};
+ghost use Rattle.ncq_group.specs.Releases.{IsReleased};
+ghost use Rattle.ncq_group.specs.Tables.{Facts};
+ghost use Rattle.ncq_book.specs.Books.{is_named, is_of, member_of, with_note, InstallsRise, NamesDiffer};
+ghost use Rattle.ncq_roll.specs.Rolls.{IsRoll, HasJoined};
+ghost use Rattle.ncq_roll.specs.Shares.{Shares};
+
+use ncq_base::Steps;
+use ncq_book::{Book, Member};
+use ncq_group::{GroupMark, GroupTable};
+use ncq_plan::Expr;
+use ncq_source::{Change, Store};
+use std::alloc::{AllocError, Global};
+use std::hash::RandomState;
+use std::marker::Model;
+use std::sync::ledger::Ledger;
+
+/// Live subscriptions at an instant of the clock, each with the file of its plan, and the table of
+/// these files. Contracts see the table, the members in the order of their creates and the instant.
+#[derive(Drop)]
+pub struct Roll {
+    groups: GroupTable,
+    book: Book,
+}
+
+impl Model for Roll {
+    ghost use Rattle.ncq_roll.specs.Rolls.{RollState, roll_code, IsRoll};
+
+    ghost Value = { RollState };
+
+    ghost coded = { roll_code };
+
+    ghost view = { λ r. record {
+      table = r.groups;
+      members = r.book.members;
+      instant = r.book.instant;
+    } };
+
+    ghost invariant = { λ r. IsRoll r.groups r.book.members };
+}
+
+impl Roll {
+    /// Nobody and no file, at instant 0 and change 0. Names are placed by the seed. It takes no
+    /// memory.
+    pub fn new(alloc: Global, seed: RandomState) -> Roll
+        ensures files { result.table.files ≡ empty }
+        ensures next_file { result.table.next_file ≡ 0 }
+        ensures number { result.table.number ≡ 0 }
+        ensures members { result.members ≡ [] }
+        ensures instant { result.instant ≡ 0 }
+    {
+        Roll {
+            groups: GroupTable::new(alloc),
+            book: Book::new(alloc, seed),
+        }
+    }
+
+    /// The members, and what finds them.
+    pub fn book(&self) -> &Book
+        ensures { result.now ≡ record { members = self.now.members; instant = self.now.instant } }
+    {
+        &self.book
+    }
+
+    /// The table of the files.
+    pub fn groups(&self) -> &GroupTable
+        ensures { result.now ≡ self.now.table }
+    {
+        &self.groups
+    }
+
+    /// Every roll meets the facts: this call does nothing.
+    pub fn facts(&self)
+        ensures roll { IsRoll self.now.table self.now.members }
+        ensures facts { Facts self.now.table }
+        ensures rise { InstallsRise self.now.members }
+        ensures names { NamesDiffer self.now.members }
+    {
+        self.groups.facts();
+        let _count = self.book.len();
+    }
+
+    /// The files are those of the parts of the members' plans, one each: this call does nothing.
+    pub fn shares(&self)
+        ensures { Shares self.now.members self.now.table }
+    {
+        self.facts();
+    }
+
+    /// How far the files are now. It takes no memory.
+    pub fn mark(&self) -> GroupMark
+        ensures { result ≡ (self.now.table.number, self.now.table.next_file) }
+    {
+        self.groups.mark()
+    }
+
+    /// One more member, under an install number above all others and a name that is free, with the
+    /// file of its plan: the file that it comes with does not count. Each row of a new file is one
+    /// step, whatever it answers. Where memory runs out, all is as before.
+    pub fn add<L: Ledger>(
+        &mut self,
+        alloc: Global,
+        member: Member,
+        plan: &Expr,
+        store: &Store,
+        steps: &mut Steps<L>,
+    ) -> Result<(), AllocError>
+        requires formed { IsWellFormed member.query }
+        requires plan { plan.now ≡ plan_of member.query }
+        requires above { AllByRecursion (λ m. m.install < member.install) self.old.members }
+        requires free { list_any (is_named member.name) self.old.members ≡ false }
+        requires few { length self.old.members < 2 ^ 64 - 1 }
+        requires number { store.now.changes ≡ self.old.table.number }
+        requires fits { Fits self.old.table.number (world_in store.now) self.old.table.files }
+        requires room { self.old.table.next_file ≤ 2 ^ 64 - 257 }
+        ensures ok { OnOk result (HasJoined plan.now member self.old self.new) }
+        ensures fits { Fits self.old.table.number (world_in store.now) self.new.table.files }
+        ensures number { self.new.table.number ≡ self.old.table.number }
+        ensures instant { self.new.instant ≡ self.old.instant }
+        ensures err { OnErr result (self.new ≡ self.old) }
+
+        // `missing` is any list that names each part of the plan without a file.
+        ensures cost { (missing : List an_expr)
+            → NamesTheMissing self.old.table.files plan.now missing
+            → steps.new ≤ steps.old + rows_of_all (world_in store.now) missing }
+    {
+        let install = member.install;
+        self.book.add(alloc, member)?;
+        match self.groups.install(alloc, plan, store, steps) {
+            Ok(file) => {
+                self.book.set_file(install, file);
+                Ok(())
+            }
+            Err(AllocError) => {
+                let _member = self.book.take(install);
+                Err(AllocError)
+            }
+        }
+    }
+
+    /// Takes the member of this install number away, if it is there, and gives up its use of its
+    /// file. What no member and no other file needs any more is taken away. It takes no memory.
+    pub fn remove(&mut self, install: u64)
+        ensures members { self.new.members
+            ≡ filter (λ m. not (is_of install m)) self.old.members }
+        ensures files { IfSome (member_of install self.old.members) (λ m.
+            IsReleased self.old.table.files m.file.0 self.new.table.files) }
+        ensures none { IfNone (member_of install self.old.members)
+            (self.new.table ≡ self.old.table) }
+        ensures next_file { self.new.table.next_file ≡ self.old.table.next_file }
+        ensures number { self.new.table.number ≡ self.old.table.number }
+        ensures instant { self.new.instant ≡ self.old.instant }
+    {
+        self.facts();
+        if let Some(member) = self.book.take(install) {
+            self.groups.release(member.file);
+        }
+    }
+
+    /// Gives each file the signed rows that the change makes of its expression, under the number of
+    /// the change. After an error the roll is as it was. Each signed row is one step, whatever it
+    /// answers. The only error is that memory ran out.
+    pub fn feed<L: Ledger>(
+        &mut self,
+        alloc: Global,
+        change: &Change,
+        store: &Store,
+        steps: &mut Steps<L>,
+    ) -> Result<(), AllocError>
+        requires change { IsPreparedFrom store.now change.now }
+        requires number { store.now.changes ≡ self.old.table.number }
+        requires more { self.old.table.number < 2 ^ 64 - 1 }
+        requires fits { Fits self.old.table.number (world_in store.now) self.old.table.files }
+        ensures number { OnOk result (self.new.table.number ≡ self.old.table.number + 1) }
+        ensures fed { OnOk result
+            (AreFed store.now change.now self.old.table.files self.new.table.files) }
+        ensures fits { OnOk result (Fits self.new.table.number (world_after store.now change.now)
+            self.new.table.files) }
+        ensures next_file { self.new.table.next_file ≡ self.old.table.next_file }
+        ensures members { self.new.members ≡ self.old.members }
+        ensures instant { self.new.instant ≡ self.old.instant }
+        ensures err { OnErr result (self.new.table ≡ self.old.table) }
+        ensures cost { steps.new ≤ steps.old + feed_work store.now change.now self.old.table.files }
+    {
+        self.groups.feed(alloc, change, store, steps)
+    }
+
+    /// Takes the signed rows of later changes than the mark's away from each file. It takes no memory.
+    pub fn roll_back(&mut self, mark: GroupMark)
+        requires number { mark.0 ≤ self.old.table.number }
+        requires next_file { mark.1 ≤ self.old.table.next_file }
+        requires base { (number : ℕ) (file : KeptFile)
+            → get self.old.table.files number ≡ Some file → file.content.base ≤ mark.0 }
+        requires below { (number : ℕ) (file : KeptFile)
+            → get self.old.table.files number ≡ Some file → number < mark.1 }
+        ensures number { self.new.table.number ≡ mark.0 }
+        ensures next_file { self.new.table.next_file ≡ mark.1 }
+        ensures files { (number : ℕ) → get self.new.table.files number
+            ≡ option_map (cut_to mark.0) (get self.old.table.files number) }
+        ensures members { self.new.members ≡ self.old.members }
+        ensures instant { self.new.instant ≡ self.old.instant }
+    {
+        self.groups.roll_back(mark);
+    }
+
+    /// Notes this number for the member of this install number, if it is there. It takes no memory.
+    pub fn note(&mut self, install: u64, number: u64)
+        ensures members { self.new.members ≡ map (with_note install number) self.old.members }
+        ensures table { self.new.table ≡ self.old.table }
+        ensures instant { self.new.instant ≡ self.old.instant }
+    {
+        self.book.note(install, number);
+    }
+
+    /// Moves the clock. Where memory runs out, all is as before. It costs in proportion to what is
+    /// due.
+    pub fn move_to(&mut self, alloc: Global, to: u64) -> Result<(), AllocError>
+        requires { self.old.instant ≤ to }
+        ensures ok { OnOk result (self.new.instant ≡ to) }
+        ensures err { OnErr result (self.new.instant ≡ self.old.instant) }
+        ensures table { self.new.table ≡ self.old.table }
+        ensures members { self.new.members ≡ self.old.members }
+    {
+        self.book.move_to(alloc, to)
+    }
+}
