@@ -1,0 +1,177 @@
+-- A create that is accepted, from what the calls give.
+use Rattle.std.proofs.Common.{◌≡◌, ℕ, ◌+◌, ◌<◌, ◌≤◌, false, List, [], ◌∷◌, ◌++◌, map, length, refl, sym, ◌∙◌, ap, subst, arith}
+use Rattle.std.specs.Prelude.{Some, None, Ok, is_some, nat_lt, IsSome}
+use Rattle.std.specs.List.{flat_map, list_any, AllByRecursion}
+use Rattle.std.specs.Str.{bytes_eq}
+use Rattle.ncq_base.specs.declared.atom.FileId.{FileId}
+use Rattle.ncq_base.specs.Keys.{times}
+use Rattle.ncq_bind.specs.Bindings.{Binds, roots_in}
+use Rattle.ncq_book.specs.declared.member.Member.{Member}
+use Rattle.ncq_book.specs.Books.{InstallsRise, member_of}
+use Rattle.ncq_callback.specs.Labels.{Label}
+use Rattle.ncq_change.specs.Stores.{world_in}
+use Rattle.ncq_event.specs.declared.firing.Firing.{Firing}
+use Rattle.ncq_event.specs.declared.timing.Timing.{Timing}
+use Rattle.ncq_event.specs.Instants.{is_expired}
+use Rattle.ncq_group.specs.Installs.{IsInstalled}
+use Rattle.ncq_group.specs.Tables.{TableState, Facts}
+use Rattle.ncq_plan.specs.declared.query.NormalQuery.{NormalQuery}
+use Rattle.ncq_plan.specs.Plans.{plan_of}
+use Rattle.ncq_plan.specs.WellFormed.{IsWellFormed}
+use Rattle.ncq_plan.proofs.PlanFits.{plan_is_well_formed}
+use Rattle.ncq_roll.specs.Rolls.{RollState}
+use Rattle.ncq_script.specs.declared.command.Command.TheVariants.{Create}
+use Rattle.ncq_shelf.specs.Contents.{AreUpTo, Fits}
+use Rattle.ncq_source.specs.StoreStates.{StoreState}
+use Rattle.ncq_xmlql.specs.declared.model.Statement.{Statement}
+use Rattle.ncq_xmlql.specs.WellFormed.{IsWellFormed as IsWhole}
+use Rattle.ncq_engine.specs.declared.engine.Applied.{Applied}
+use Rattle.ncq_engine.specs.Applies.{Applies, kind_at, ok_text}
+use Rattle.ncq_engine.specs.Engines.{CanTell, HasTopics, fired_if, new_member}
+use Rattle.ncq_engine.specs.Notices.{kind_in}
+use Rattle.ncq_engine.specs.Output.{is_at_odds}
+use Rattle.ncq_engine.specs.Stands.{EngineState}
+use Rattle.ncq_engine.specs.Tellings.{firing_text, noted_by, started_at}
+use Rattle.ncq_engine.proofs.BookLaws.{create_fired, create_text, create_there, create_time}
+use Rattle.ncq_engine.proofs.ClockAnswers.{counted_engine}
+use Rattle.ncq_engine.proofs.CommandLaws.{engine}
+use Rattle.ncq_engine.proofs.CreateLaws.{above_all, create_accepted, created_instant, timed}
+use Rattle.ncq_engine.proofs.InvariantLaws.{Invariant, invariant_added, invariant_counted, invariant_created, invariant_noted}
+use Rattle.ncq_engine.proofs.TableLaws.{can_new}
+
+-- the member came in, with the file of its plan
+pub record IsIn (inside : EngineState) (query : NormalQuery) (made : FileId → Member) (roll : RollState) : Type 0 where
+  pub file : FileId
+  pub installed : IsInstalled (plan_of query) inside.table roll.table file.0
+  pub members : roll.members ≡ inside.members ++ made file ∷ []
+  pub fits : Fits inside.table.number (world_in inside.store) roll.table.files
+  pub instant : roll.instant ≡ inside.clock
+  pub facts : Facts roll.table
+
+-- its firing, if it starts now, as the book says
+pub record IsStarting (roll : RollState) (install : ℕ) (firings : List Firing) : Type 0 where
+  pub installs : List ℕ
+  pub installs_is : installs ≡ install ∷ []
+  pub kept : List Firing
+  pub kept_is : kept ≡ flat_map (started_at roll.instant roll.members) installs
+  pub slice_is : firings ≡ kept
+
+-- what was written
+pub record IsToldFirst (inside : EngineState) (known : List Label) (roll : RollState) (firings : List Firing) (line out' : List ℕ) (many : ℕ) : Type 0 where
+  pub text : out' ≡ line ++ flat_map (firing_text known inside.store roll.table.files roll.members) firings
+  pub times_are : many ≡ times (λ f. nat_lt 0 (length (firing_text known inside.store roll.table.files roll.members f))) firings
+
+-- the statement and what was found of it
+pub record IsRead (e : EngineState) (statement : Statement) (query : NormalQuery) (action : ℕ) (topics : List ℕ) : Type 0 where
+  pub whole : IsWhole statement
+  pub binds : Binds statement.query (roots_in e.store) (Ok query)
+  pub formed : IsWellFormed query
+  pub within : action < length e.labels
+  pub kind : kind_at e.labels action ≡ kind_in statement.action e.labels
+  pub fitting : is_at_odds (kind_in statement.action e.labels) statement.argument ≡ false
+  pub free : list_any (λ m. bytes_eq statement.name m.name) e.members ≡ false
+  pub timely : is_expired (timed statement e.clock) (timed statement e.clock).start ≡ false
+  pub watched : HasTopics e.store (new_member statement query (timed statement e.clock) action e.creates topics (record { 0 = 0 }))
+
+module _ (e : EngineState) (statement : Statement) (query : NormalQuery) (action : ℕ) (topics : List ℕ) (holds : Invariant e) (read : IsRead e statement query action topics) where
+  abbrev pub made : FileId → Member
+  made file = new_member statement query (timed statement e.clock) action e.creates topics file
+
+  few : e.creates + 1 ≤ e.count + 1
+  few = let c = holds.creates_too in omega (arith, c)
+
+  pub created_holds : Invariant (record (counted_engine e) { creates = e.creates + 1 })
+  created_holds = invariant_created (counted_engine e) (invariant_counted e holds) few
+
+  pub below : (file : FileId) → AllByRecursion (λ m. m.install < (made file).install) e.members
+  below file = above_all e.creates e.members (e.creates + 1) holds.installed refl
+
+  module _ (roll : RollState) (inn : IsIn (counted_engine e) query made roll) where
+    abbrev all : List Member
+    all = e.members ++ made inn.file ∷ []
+
+    fits_now : Fits roll.table.number (world_in e.store) roll.table.files
+    fits_now = subst (λ n. Fits n (world_in e.store) roll.table.files) (sym inn.installed.same) inn.fits
+
+    own_can : CanTell e.labels e.store roll.table (made inn.file)
+    own_can = can_new e.labels e.store roll.table (world_in e.store) fits_now (made inn.file) read.formed read.within refl inn.installed.stands
+
+    added : Invariant (engine e.store e.clock (e.count + 1) (e.creates + 1) e.labels all roll.table)
+    added = invariant_added (counted_engine e) (plan_of query) roll.table inn.file.0 (made inn.file) (invariant_counted e holds) inn.installed fits_now (plan_is_well_formed query read.formed).small own_can read.watched refl few
+
+    rise : InstallsRise all
+    rise = added.rise
+
+    can : AllByRecursion (CanTell e.labels e.store roll.table) all
+    can = added.can
+
+    upto : AreUpTo e.store.changes roll.table.files
+    upto = subst (λ n. AreUpTo n roll.table.files) (inn.installed.same ∙ holds.number) inn.facts.up_to
+
+    module _ (firings : List Firing) (starting : IsStarting (record { table = roll.table; members = all; instant = e.clock }) (e.creates + 1) firings) where
+      there : AllByRecursion (λ f. IsSome (member_of f.install all)) firings
+      there = create_there e.store e.clock e.members (made inn.file) rise (below inn.file) starting.installs starting.kept firings starting.installs_is starting.kept_is starting.slice_is
+
+      noted_is : noted_by e.store.changes firings all ≡ map (λ m. fired_if (is_some (created_instant e.clock (e.creates + 1) m)) e.store m) all
+      noted_is = create_fired e.store e.clock e.members (made inn.file) rise (below inn.file) starting.installs starting.kept firings starting.installs_is starting.kept_is starting.slice_is
+
+      noted_holds : Invariant (engine e.store e.clock (e.count + 1) (e.creates + 1) e.labels (noted_by e.store.changes firings all) roll.table)
+      noted_holds =
+          subst (λ (ms : List Member). Invariant (engine e.store e.clock (e.count + 1) (e.creates + 1) e.labels ms roll.table)) (sym noted_is)
+          (invariant_noted e.store (λ m. is_some (created_instant e.clock (e.creates + 1) m)) (engine e.store e.clock (e.count + 1) (e.creates + 1) e.labels all roll.table) refl inn.facts.up_to added)
+
+      applies : (out line out' : List ℕ) (many : ℕ) (applied : Applied) → line ≡ out ++ ok_text (e.count + 1)
+          → IsToldFirst (counted_engine e) e.labels (record { table = roll.table; members = all; instant = e.clock }) firings line out' many
+          → applied.from ≡ length line → applied.to ≡ length out' → applied.notices ≡ many
+          → Applies e (Create statement) out (Ok applied) (engine e.store e.clock (e.count + 1) (e.creates + 1) e.labels (noted_by e.store.changes firings all) roll.table) out'
+      applies out line out' many applied line_is told from to notices =
+          create_accepted e.store e.clock e.count e.creates e.labels e.members e.table roll.table statement query action topics inn.file read.whole read.binds read.kind inn.installed holds.number inn.fits upto
+          read.fitting read.free read.timely can holds.installed out line out' applied (noted_by e.store.changes firings all) line_is
+          (told.text ∙ ap (λ text. line ++ text) (create_text e.store e.clock e.members (made inn.file) rise (below inn.file) starting.installs starting.kept firings starting.installs_is starting.kept_is starting.slice_is e.labels roll.table.files))
+          from to
+          (notices ∙ told.times_are ∙ create_time e.store e.clock e.members (made inn.file) rise (below inn.file) starting.installs starting.kept firings starting.installs_is starting.kept_is starting.slice_is e.labels roll.table.files)
+          noted_is
+
+-- by the names of the code
+module _ (e inside : EngineState) (is : inside ≡ counted_engine e) (known : List Label) (handled : e.labels ≡ known) (statement : Statement) (query : NormalQuery) (action : ℕ) (topics : List ℕ) (holds : Invariant e) (read : IsRead e statement query action topics)
+    (roll : RollState) (inn : IsIn inside query (made e statement query action topics holds read) roll) where
+  here : IsIn (counted_engine e) query (made e statement query action topics holds read) roll
+  here = subst (λ (x : EngineState). IsIn x query (made e statement query action topics holds read) roll) is inn
+
+  abbrev full : List Member
+  full = e.members ++ made e statement query action topics holds read here.file ∷ []
+
+  pub create_can : AllByRecursion (CanTell known inside.store roll.table) roll.members
+  create_can = subst (λ (ms : List Member). AllByRecursion (CanTell known inside.store roll.table) ms) (sym here.members)
+      (subst (λ (l : List Label). AllByRecursion (CanTell l inside.store roll.table) full) handled
+      (subst (λ (x : EngineState). AllByRecursion (CanTell e.labels x.store roll.table) full) (sym is) (can e statement query action topics holds read roll here)))
+
+  pub added_holds : Invariant (engine inside.store roll.instant inside.count (inside.creates + 1) inside.labels roll.members roll.table)
+  added_holds = subst (λ (x : EngineState). Invariant (engine x.store roll.instant x.count (x.creates + 1) x.labels roll.members roll.table)) (sym is)
+      (subst (λ (p : List Member × ℕ). Invariant (engine e.store p.1 (e.count + 1) (e.creates + 1) e.labels p.0 roll.table)) (λ i. (sym here.members i, sym here.instant i))
+      (added e statement query action topics holds read roll here))
+
+  module _ (firings : List Firing) (starting : IsStarting roll (inside.creates + 1) firings) where
+    start : IsStarting (record { table = roll.table; members = full; instant = e.clock }) (e.creates + 1) firings
+    start = subst (λ (p : List Member × ℕ). IsStarting (record { table = roll.table; members = p.0; instant = p.1 }) (e.creates + 1) firings) (λ i. (here.members i, here.instant i))
+        (subst (λ (x : EngineState). IsStarting roll (x.creates + 1) firings) is starting)
+
+    pub there_first : AllByRecursion (λ f. IsSome (member_of f.install roll.members)) firings
+    there_first = subst (λ (ms : List Member). AllByRecursion (λ f. IsSome (member_of f.install ms)) firings) (sym here.members) (there e statement query action topics holds read roll here firings start)
+
+    pub told_holds : Invariant (engine inside.store roll.instant inside.count (inside.creates + 1) inside.labels (noted_by inside.store.changes firings roll.members) roll.table)
+    told_holds = subst (λ (x : EngineState). Invariant (engine x.store roll.instant x.count (x.creates + 1) x.labels (noted_by x.store.changes firings roll.members) roll.table)) (sym is)
+        (subst (λ (p : List Member × ℕ). Invariant (engine e.store p.1 (e.count + 1) (e.creates + 1) e.labels (noted_by e.store.changes firings p.0) roll.table)) (λ i. (sym here.members i, sym here.instant i))
+        (noted_holds e statement query action topics holds read roll here firings start))
+
+    pub create_answers : (out line out' : List ℕ) (many : ℕ) (applied : Applied) → line ≡ out ++ ok_text (e.count + 1) → IsToldFirst inside known roll firings line out' many
+        → applied.from ≡ length line → applied.to ≡ length out' → applied.notices ≡ many
+        → Applies e (Create statement) out (Ok applied) (engine inside.store roll.instant inside.count (inside.creates + 1) inside.labels (noted_by inside.store.changes firings roll.members) roll.table) out'
+    create_answers out line out' many applied line_is told from to notices =
+        subst (λ (x : EngineState). Applies e (Create statement) out (Ok applied) (engine x.store roll.instant x.count (x.creates + 1) x.labels (noted_by x.store.changes firings roll.members) roll.table) out') (sym is)
+        (subst (λ (p : List Member × ℕ). Applies e (Create statement) out (Ok applied) (engine e.store p.1 (e.count + 1) (e.creates + 1) e.labels (noted_by e.store.changes firings p.0) roll.table) out') (λ i. (sym here.members i, sym here.instant i))
+        (applies e statement query action topics holds read roll here firings start out line out' many applied line_is
+        (subst (λ (p : List Member × ℕ). IsToldFirst (counted_engine e) e.labels (record { table = roll.table; members = p.0; instant = p.1 }) firings line out' many) (λ i. (here.members i, here.instant i))
+        (subst (λ (l : List Label). IsToldFirst (counted_engine e) l roll firings line out' many) (sym handled)
+        (subst (λ (x : EngineState). IsToldFirst x known roll firings line out' many) is told)))
+        from to notices))
