@@ -4,7 +4,7 @@ use Rattle.std.specs.Prelude.{Some, None, if◌then◌else◌}
 use Rattle.std.specs.List.{filter, position, AllByRecursion}
 use Rattle.std.specs.Str.{bytes_eq}
 use Rattle.std.specs.FinMap.{empty}
-use Rattle.ncq_change.specs.Stores.{world_in}
+use Rattle.ncq_change.specs.Stores.{kept_in, world_in}
 use Rattle.ncq_change.specs.Entries.{after_in, world_of}
 use Rattle.ncq_change.proofs.CommitLaws.{commits_after, found_name}
 use Rattle.ncq_event.specs.declared.firing.Firing.{Firing}
@@ -150,10 +150,8 @@ module _ (store ready : StoreState) (name : List ℕ) (items : List Item) (chang
   -- the world after it is committed
   pub world_committed : (after : StoreState) → IsCommitted ready change after → world_after ready change ≡ world_in after
   world_committed after done =
-      (λ i. world_of (after_in (kept ready) (name_is i) change.entries))
+      (λ i. world_of (after_in (kept_in ready) (name_is i) change.entries))
       ∙ ap world_of (sym (λ i. λ source. commits_after ready ready after name change (record { source = here_ready; chains = chains_here; room = record { changes = refl; sources = refl }; committed = done }) source i))
-    where
-      use Rattle.ncq_change.specs.Stores.{kept_in as kept}
 
 -- the files were fed, and the change was committed
 pub invariant_changed : (e : EngineState) (change : ChangeState) (store : StoreState) (table : TableState) → Invariant e → store.changes ≡ e.store.changes + 1 → e.store.changes + 1 ≤ e.count

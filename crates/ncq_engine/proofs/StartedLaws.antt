@@ -54,7 +54,7 @@ stays_fired command h same = each_more (FiresFirst h) (FiresFirst (command ∷ h
 
 -- a start that the clock passes is due, unless the subscription has expired then
 start_due : (timing : Timing) (from to : ℕ) → timing.every == 0 ≡ true → from < timing.start → timing.start ≤ to → is_expired timing to ≡ false → (instant : ℕ) × (due timing from to ≡ Some instant)
-start_due timing from to based after within open = by (due timing from to) refl
+start_due timing from to based after within fresh = by (due timing from to) refl
   where
     here : is_instant timing timing.start ≡ true
     here =
@@ -66,11 +66,11 @@ start_due timing from to based after within open = by (due timing from to) refl
     unexpired (Some expire) e = grind (arith, nat_tests, e, within)
 
     by : (o : Option ℕ) → due timing from to ≡ o → (instant : ℕ) × (due timing from to ≡ Some instant)
-    by None e = absurd (due_none timing from to e timing.start (record { above = after; within = within; instant = here; unexpired = unexpired timing.expire open }))
+    by None e = absurd (due_none timing from to e timing.start (record { above = after; within = within; instant = here; unexpired = unexpired timing.expire fresh }))
     by (Some instant) e = (instant, e)
 
 clock_fires : (instant : ℕ) (h : History) (s : Subscription) → s.install ≤ creates h → is_expired (timing_of s) instant ≡ false → FiresFirst h s → FiresFirst (Clock instant ∷ h) s
-clock_fires instant h s before open f based started =
+clock_fires instant h s before fresh f based started =
     elim (cases_lt (now h) s.start) [
       | inl later ↦ by_first later (first_mark s h) refl
       | inr early ↦ first_stays s h (Clock instant) (f based early)
@@ -80,7 +80,7 @@ clock_fires instant h s before open f based started =
     by_first later (Some number) e = first_stays s h (Clock instant) (number, e)
     by_first later None e =
         let there : is_installed s h ≡ true = grind (arith, nat_tests, before) in
-        let d = start_due (timing_of s) (now h) instant based later started open in
+        let d = start_due (timing_of s) (now h) instant based later started fresh in
         first_of_fired s h (Clock instant) d.0
         ((λ i. if there i && has_news (no_mark s h e i) s.statement h then due (timing_of s) (now h) instant else None) ∙ d.1)
 
@@ -115,7 +115,7 @@ all_fired ((Delete name) ∷ before) = each_filter (FiresFirst (Delete name ∷ 
 all_fired ((Clock instant) ∷ before) =
     kept_pass (FiresFirst (Clock instant ∷ before)) (λ s. not (is_expired (timing_of s) instant)) (live before)
     (each_both (λ s. s.install ≤ creates before) (FiresFirst before) (λ s. not (is_expired (timing_of s) instant) ≡ true → FiresFirst (Clock instant ∷ before) s)
-    (λ s few f open. clock_fires instant before s few (off (is_expired (timing_of s) instant) open) f) (live before) (installed before) (all_fired before))
+    (λ s few f fresh. clock_fires instant before s few (off (is_expired (timing_of s) instant) fresh) f) (live before) (installed before) (all_fired before))
   where
     off : (b : Bool) → not b ≡ true → b ≡ false
     off true e = absurd (true≢false (sym e))

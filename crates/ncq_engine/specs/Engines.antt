@@ -46,8 +46,8 @@ abbrev pub latest_in : StoreState → List (List ℕ) → ℕ
 latest_in store [] = 0
 latest_in store (source ∷ more) = max (last_in store source) (latest_in store more)
 
--- the number of changes at its latest firing: of one that fires at changes it follows from its first
--- firing and the last changes of its sources
+-- the number of changes at its latest firing: of one that fires at changes it follows from its
+-- first firing and the last changes of its sources
 abbrev pub mark_in : StoreState → Member → Option ℕ
 mark_in store m = if m.timing.every == 0
     then option_map (λ first. max first (latest_in store m.sources)) m.noted else m.noted
@@ -148,8 +148,8 @@ new_member statement query timing action creates topics file = record {
 }
 
 -- what holds of an engine whatever was answered: there are no more changes and creates than
--- commands, and no source has changed later; its members can be told, watch their sources and rise by
--- install number; its files have the rows of the sources as they stand, and no more numbers were
+-- commands, and no source has changed later; its members can be told, watch their sources and rise
+-- by install number; its files have the rows of the sources as they stand, and no more numbers were
 -- given than creates can take
 pub record IsEngine (store : StoreState) (count creates : ℕ) (labels : List Label)
     (members : List Member) (table : TableState) : Type 0 where

@@ -24,8 +24,8 @@ use Rattle.ncq_engine.specs.Marks.{IsRising, noted}
 use Rattle.ncq_engine.specs.Notices.{kind_in}
 
 -- what contracts see of an engine: the store, the clock, how many commands were answered and how
--- many creates accepted, the names and kinds of its handlers, the live subscriptions in the order of
--- their creates, and the table of the files that they share
+-- many creates accepted, the names and kinds of its handlers, the live subscriptions in the order
+-- of their creates, and the table of the files that they share
 pub record EngineState : Type 0 where
   pub store : StoreState
   pub clock : ℕ

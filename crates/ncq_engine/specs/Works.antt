@@ -73,8 +73,8 @@ abbrev pub unless_refused : Option Refusal → ℕ → ℕ
 unless_refused None rows = rows
 unless_refused (Some why) rows = 0
 
--- the work of a command is at most this number: that of any list that names each of its expressions;
--- a refused one makes no row
+-- the work of a command is at most this number: that of any list that names each of its
+-- expressions; a refused one makes no row
 abbrev pub IsWorkUpTo : Language → History → Command → ℕ → Type 0
 IsWorkUpTo language history command bound =
     (exprs : List Expr) × ((expr : Expr) → IsMade history command expr → IsNamed expr exprs)

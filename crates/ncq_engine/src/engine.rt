@@ -153,14 +153,15 @@ impl Engine {
         self.roll.book().len()
     }
 
-    /// Answers a command. Ok appends the answer of an accepted one: the line `<k> ok` with its number,
-    /// the notices by instant and then by install number, and a line for each subscription that
-    /// expires. `Refused` comes exactly with the first refusal that the command meets; then `out` is
-    /// as before, and the engine stands for what it stood for. Either counts the command. After want
-    /// of memory the engine can only be dropped.
+    /// Answers a command. Ok appends the answer of an accepted one: the line `<k> ok` with its
+    /// number, the notices by instant and then by install number, and a line for each subscription
+    /// that expires. `Refused` comes exactly with the first refusal that the command meets; then
+    /// `out` is as before, and the engine stands for what it stood for. Either counts the command.
+    /// After want of memory the engine can only be dropped.
     ///
-    /// The handlers are those that the engine was made for. The command is one that a `ScriptReader`
-    /// gives: the elements that it puts are proper, and its statement is well formed.
+    /// The handlers are those that the engine was made for. The command is one that a
+    /// `ScriptReader` gives: the elements that it puts are proper, and its statement is well
+    /// formed.
     pub fn apply<L: Ledger>(
         &mut self,
         alloc: Global,

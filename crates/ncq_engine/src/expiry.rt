@@ -43,8 +43,8 @@ fn write_expired_line(name: &[u8], out: &mut Vec<u8>) -> Result<(), AllocError>
     Ok(())
 }
 
-/// Takes the members of these install numbers away, and gives up their uses of their files. It takes
-/// no memory.
+/// Takes the members of these install numbers away, and gives up their uses of their files. It
+/// takes no memory.
 pub(crate) fn take_all(roll: &mut Roll, installs: &[u64])
     ensures { IsLeftBy installs.now roll.old roll.new }
 {

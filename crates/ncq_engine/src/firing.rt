@@ -44,8 +44,8 @@ pub(crate) fn fire(
     Ok(())
 }
 
-/// The number of changes at the member's latest firing. Of one that fires at changes it follows from
-/// its first firing and the last changes of its sources, so that no change has to write it down.
+/// The number of changes at the member's latest firing. Of one that fires at changes it follows
+/// from its first firing and the last changes of its sources: no change has to write it down.
 pub(crate) fn mark_of(member: &Member, store: &Store) -> Option<u64>
     ensures { result ≡ mark_in store.now member.now }
 {

@@ -1,12 +1,12 @@
 //! The engine: commands come in one by one, and out goes the answer to each.
 //!
 //! What is answered is defined by the history of the accepted commands alone: the sources, the
-//! clock, the live subscriptions, when each fires, and what its answer over the whole sources gained
-//! and lost since its latest firing. The engine stands for that history (`specs/Stands`): its store
-//! has the sources, and each subscription keeps its normal query and the rows of its plan at its
-//! latest firing. A firing makes the rows of the plan anew by walking it over the store; nothing is
-//! shared between subscriptions yet. `report` is refused as not built yet: that is the one command
-//! whose answer is not that of the whole language.
+//! clock, the live subscriptions, when each fires, and what its answer over the whole sources
+//! gained and lost since its latest firing. The engine stands for that history (`specs/Stands`): its
+//! store has the sources, its files are those of the subexpressions of the live queries, one each,
+//! with the rows that these had at each change, and each subscription has the file of its plan. A
+//! firing tells what the rows of that file since its mark add up to. `report` is refused as not
+//! built yet: that is the one command whose answer is not that of the whole language.
 #![tactic(auto)]
 
 mod engine;

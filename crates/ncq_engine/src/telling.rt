@@ -43,7 +43,15 @@ pub(crate) fn tell(
             unreachable!();
         };
         let before = out.len();
-        fire(alloc, member, firing.instant, roll.groups(), store, handlers, out)?;
+        fire(
+            alloc,
+            member,
+            firing.instant,
+            roll.groups(),
+            store,
+            handlers,
+            out,
+        )?;
         notices += one_if_longer(before, out);
     }
     Ok(notices)

@@ -14,7 +14,8 @@ ghost use Rattle.ncq_feed.specs.Feeds.{IsPreparedFrom, AreFed, world_after, feed
 ghost use Rattle.ncq_group.specs.Installs.{NamesTheMissing, rows_of_all};
 ghost use Rattle.ncq_group.specs.Releases.{IsReleased};
 ghost use Rattle.ncq_group.specs.Tables.{Facts};
-ghost use Rattle.ncq_book.specs.Books.{is_named, is_of, member_of, with_note, InstallsRise, NamesDiffer};
+ghost use Rattle.ncq_book.specs.Books.{is_named, is_of, member_of, with_note};
+ghost use Rattle.ncq_book.specs.Books.{InstallsRise, NamesDiffer};
 ghost use Rattle.ncq_roll.specs.Rolls.{IsRoll, HasJoined};
 ghost use Rattle.ncq_roll.specs.Shares.{Shares};
 
@@ -198,7 +199,8 @@ impl Roll {
         self.groups.feed(alloc, change, store, steps)
     }
 
-    /// Takes the signed rows of later changes than the mark's away from each file. It takes no memory.
+    /// Takes the signed rows of later changes than the mark's away from each file. It takes no
+    /// memory.
     pub fn roll_back(&mut self, mark: GroupMark)
         requires number { mark.0 ≤ self.old.table.number }
         requires next_file { mark.1 ≤ self.old.table.next_file }
