@@ -1,15 +1,21 @@
 -- Members that expire, by their install numbers.
-use Rattle.std.proofs.Common.{◌≡◌, ℕ, Bool, true, false, not, cond, List, [], ◌∷◌, ◌++◌, map, refl, sym, ◌∙◌, ap}
-use Rattle.std.specs.Prelude.{Some, nat_eq}
+use Rattle.std.proofs.Common.{◌≡◌, ℕ, ◌-◌, ◌||◌, Bool, true, false, not, cond, List, [], ◌∷◌, ◌++◌, map, refl, sym, ◌∙◌, ap, subst, inl, inr}
+use Rattle.std.specs.Prelude.{Option, Some, None, nat_eq, IfSome}
+use Rattle.std.specs.FinMap.{get}
+use Rattle.std.proofs.lemmas.Bool.{cases_eq}
 use Rattle.std.specs.List.{filter, flat_map, list_any, AllByRecursion}
 use Rattle.ncq_book.specs.declared.member.Member.{Member}
-use Rattle.ncq_book.specs.Books.{InstallsRise, member_of, timing_of}
+use Rattle.ncq_book.specs.Books.{InstallsRise, is_of, member_of, timing_of}
+use Rattle.ncq_group.specs.Releases.{IsReleased, with_use_less}
+use Rattle.ncq_roll.specs.Rolls.{RollState}
+use Rattle.ncq_shelf.specs.KeptFiles.{KeptFile, Files}
+use Rattle.ncq_shelf.proofs.CallerLemmas.{one_value, put_other, put_same}
 use Rattle.ncq_event.specs.Calendars.{Entry, expired_at}
 use Rattle.ncq_event.specs.Instants.{is_expired}
 use Rattle.ncq_source.specs.StoreStates.{StoreState}
 use Rattle.ncq_engine.specs.Applies.{expired_name}
 use Rattle.ncq_engine.specs.Engines.{fired_if}
-use Rattle.ncq_engine.specs.Tellings.{expired_of, line_of, without}
+use Rattle.ncq_engine.specs.Tellings.{AreOf, IsLeftBy, expired_of, line_of, without}
 use Rattle.ncq_engine.proofs.ByInstall.{AreFound, found_each, left_out, numbers}
 use Rattle.ncq_engine.proofs.ClockLaws.{expired_names, unexpired}
 use Rattle.ncq_engine.proofs.InvariantLaws.{one_install, rise_noted}
@@ -75,3 +81,80 @@ module _ (instant : ℕ) where
     out_are ms installs rise e =
         ap (λ (xs : List ℕ). without xs (map noted_one ms)) (e ∙ expired_numbers ms ∙ numbers_stay ms)
         ∙ left_out ends (map noted_one ms) (rise_noted store test ms rise)
+
+-- what is left where members are taken away one by one
+filter_all : (ms : List Member) → without [] ms ≡ ms
+filter_all [] = refl
+filter_all (m ∷ ms) = ap (λ more. m ∷ more) (filter_all ms)
+
+pub left_none : (roll : RollState) → IsLeftBy [] roll roll
+left_none roll = record {
+  members = sym (filter_all roll.members);
+  instant = refl;
+  number = refl;
+  next_file = refl;
+  files = λ number file at. (file, at, refl, refl);
+}
+
+without_push : (installs : List ℕ) (install : ℕ) (ms : List Member) → filter (λ m. not (is_of install m)) (without installs ms) ≡ without (installs ++ install ∷ []) ms
+without_push installs install [] = refl
+without_push installs install (m ∷ ms) =
+    by (list_any (nat_eq m.install) installs) (is_of install m) refl refl (without_push installs install ms)
+  where
+    any_push : (xs : List ℕ) → list_any (nat_eq m.install) (xs ++ install ∷ []) ≡ (list_any (nat_eq m.install) xs || is_of install m)
+    any_push [] = or_false (nat_eq m.install install)
+      where
+        or_false : (b : Bool) → (b || false) ≡ b
+        or_false true = refl
+        or_false false = refl
+    any_push (x ∷ xs) = ap (λ b. nat_eq m.install x || b) (any_push xs) ∙ or_assoc (nat_eq m.install x) (list_any (nat_eq m.install) xs) (is_of install m)
+      where
+        or_assoc : (a b c : Bool) → (a || (b || c)) ≡ ((a || b) || c)
+        or_assoc true b c = refl
+        or_assoc false b c = refl
+
+    by : (first second : Bool) → list_any (nat_eq m.install) installs ≡ first → is_of install m ≡ second → filter (λ m. not (is_of install m)) (without installs ms) ≡ without (installs ++ install ∷ []) ms
+        → filter (λ m. not (is_of install m)) (without installs (m ∷ ms)) ≡ without (installs ++ install ∷ []) (m ∷ ms)
+    by true second a b rest =
+        (λ i. filter (λ m. not (is_of install m)) (cond (not (a i)) (m ∷ without installs ms) (without installs ms)))
+        ∙ rest ∙ (λ i. cond (not (sym (any_push installs ∙ (λ j. a j || is_of install m)) i)) (m ∷ without (installs ++ install ∷ []) ms) (without (installs ++ install ∷ []) ms))
+    by false true a b rest =
+        (λ i. filter (λ m. not (is_of install m)) (cond (not (a i)) (m ∷ without installs ms) (without installs ms)))
+        ∙ (λ i. cond (not (b i)) (m ∷ filter (λ m. not (is_of install m)) (without installs ms)) (filter (λ m. not (is_of install m)) (without installs ms)))
+        ∙ rest ∙ (λ i. cond (not (sym (any_push installs ∙ (λ j. a j || b j)) i)) (m ∷ without (installs ++ install ∷ []) ms) (without (installs ++ install ∷ []) ms))
+    by false false a b rest =
+        (λ i. filter (λ m. not (is_of install m)) (cond (not (a i)) (m ∷ without installs ms) (without installs ms)))
+        ∙ (λ i. cond (not (b i)) (m ∷ filter (λ m. not (is_of install m)) (without installs ms)) (filter (λ m. not (is_of install m)) (without installs ms)))
+        ∙ (λ i. m ∷ rest i) ∙ (λ i. cond (not (sym (any_push installs ∙ (λ j. a j || b j)) i)) (m ∷ without (installs ++ install ∷ []) ms) (without (installs ++ install ∷ []) ms))
+
+-- a release leaves files as they were
+released_of : (old new : Files) (number : ℕ) → IsReleased old number new → AreOf old new
+released_of old new number r other state at = elim (cases_eq other number) [
+  | inl same ↦
+      let there = subst (λ n. get (with_use_less old number r.file) n ≡ Some state) same (r.stays other state at).0 in
+      let is : record (r.file) { uses = r.file.uses - 1 } ≡ state = one_value (put_same old number (record (r.file) { uses = r.file.uses - 1 })) there in
+      (r.file, subst (λ n. get old n ≡ Some r.file) (sym same) r.at, ap (λ (k : KeptFile). k.expr) (sym is), ap (λ (k : KeptFile). k.content) (sym is))
+  | inr differs ↦ (state, sym (put_other old number (record (r.file) { uses = r.file.uses - 1 }) other differs) ∙ (r.stays other state at).0, refl, refl)
+]
+
+-- and the removal of a member
+pub removed_of : (old new : Files) (o : Option Member) → IfSome o (λ m. IsReleased old m.file.0 new) → (o ≡ None → new ≡ old) → AreOf old new
+removed_of old new None some none = subst (AreOf old) (sym (none refl)) (λ number file at. (file, at, refl, refl))
+removed_of old new (Some m) some none = released_of old new m.file.0 some
+
+of_of : (old mid new : Files) → AreOf old mid → AreOf mid new → AreOf old new
+of_of old mid new first second number file at =
+    let b = second number file at in
+    let a = first number b.0 b.1.0 in
+    (a.0, a.1.0, b.1.1.0 ∙ a.1.1.0, b.1.1.1 ∙ a.1.1.1)
+
+-- one more
+pub left_more : (installs more : List ℕ) (install : ℕ) (old mid new : RollState) → more ≡ installs ++ install ∷ [] → IsLeftBy installs old mid → new.members ≡ filter (λ m. not (is_of install m)) mid.members
+    → AreOf mid.table.files new.table.files → new.table.next_file ≡ mid.table.next_file → new.table.number ≡ mid.table.number → new.instant ≡ mid.instant → IsLeftBy more old new
+left_more installs more install old mid new is left members files next number instant = record {
+  members = members ∙ ap (filter (λ m. not (is_of install m))) left.members ∙ without_push installs install old.members ∙ ap (λ (xs : List ℕ). without xs old.members) (sym is);
+  instant = instant ∙ left.instant;
+  number = number ∙ left.number;
+  next_file = next ∙ left.next_file;
+  files = of_of old.table.files mid.table.files new.table.files left.files files;
+}
