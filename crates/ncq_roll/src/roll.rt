@@ -19,7 +19,7 @@ ghost use Rattle.ncq_book.specs.Books.{InstallsRise, NamesDiffer};
 ghost use Rattle.ncq_roll.specs.Rolls.{IsRoll, HasJoined};
 ghost use Rattle.ncq_roll.specs.Shares.{Shares};
 
-use ncq_base::Steps;
+use ncq_base::{FileId, Steps};
 use ncq_book::{Book, Member};
 use ncq_group::{GroupMark, GroupTable};
 use ncq_plan::Expr;
@@ -138,6 +138,7 @@ impl Roll {
             → NamesTheMissing self.old.table.files plan.now missing
             → steps.new ≤ steps.old + rows_of_all (world_in store.now) missing }
     {
+        self.facts();
         let install = member.install;
         self.book.add(alloc, member)?;
         match self.groups.install(alloc, plan, store, steps) {
@@ -146,7 +147,7 @@ impl Roll {
                 Ok(())
             }
             Err(AllocError) => {
-                let _member = self.book.take(install);
+                let _file = take_away(&mut self.book, install);
                 Err(AllocError)
             }
         }
@@ -166,8 +167,8 @@ impl Roll {
         ensures instant { self.new.instant ≡ self.old.instant }
     {
         self.facts();
-        if let Some(member) = self.book.take(install) {
-            self.groups.release(member.file);
+        if let Some(file) = take_away(&mut self.book, install) {
+            self.groups.release(file);
         }
     }
 
@@ -238,4 +239,16 @@ impl Roll {
     {
         self.book.move_to(alloc, to)
     }
+}
+
+/// Takes the member of this install number away, if it is there, and tells its file. It takes no
+/// memory.
+fn take_away(book: &mut Book, install: u64) -> Option<FileId>
+    ensures members { book.new ≡ record book.old {
+      members = filter (λ m. not (is_of install m)) book.old.members;
+    } }
+    ensures file { result ≡ option_map (λ m. m.file) (member_of install book.old.members) }
+{
+    let member = book.take(install)?;
+    Some(member.file)
 }
