@@ -8,4 +8,4 @@ use Rattle.ncq_news.proofs.firing.news.Goals as goal
 pub entries_of-requires-clause-wide : goal.entries_of-requires-clause-wide
 entries_of-requires-clause-wide c =
     subst (AllByRecursion (λ (r : SignedRow). length r.row ≡ arms_width c.args.query.now.arms)) (sym c.rows_since.ensures)
-    (since_wide (arms_width c.args.query.now.arms) c.in-Some.number c.args.file.now.rows c.requires.wide)
+    (since_wide (arms_width c.args.query.now.arms) _ c.args.file.now.rows c.requires.wide)
