@@ -32,7 +32,7 @@ started_there now members (n ∷ more) = by (started_there now members more) (me
     by rest None e = rest
     by rest (Some m) e =
         elim (nat_le m.timing.start now) as (λ t. AllByRecursion (λ f. IsSome (member_of f.install members)) ((if t then record { instant = now; install = n } ∷ [] else []) ++ flat_map (started_at now members) more)) [
-          | true ↦ (subst IsSome (sym e) tt, rest)
+          | true ↦ (subst IsSome (sym e) refl, rest)
           | false ↦ rest
         ]
 

@@ -81,10 +81,6 @@ module _ (labels : List Label) (h : History) (name : List ℕ) (items : List Ite
   fires_each (s ∷ subs) [] p i = absurd p
   fires_each (s ∷ subs) (m ∷ ms) p i = ((p.0, fires_one s m p.0 i.0), fires_each subs ms p.1 i.1)
 
-pub some_if : (b : Bool) (n : ℕ) → is_some (if b then Some n else None) ≡ b
-some_if true n = refl
-some_if false n = refl
-
 -- the instant says whether
 pub some_if : (b : Bool) (n : ℕ) → is_some (if b then Some n else None) ≡ b
 some_if true n = refl

@@ -45,9 +45,9 @@ contents_stay files h command same held number file change at low high =
 pub contents_left : (old new : Files) (h : History) → AreOf old new → AreContents old h → AreContents new h
 contents_left old new h left held number file change at low high =
     let was = left number file at in
-    let base : was.0.content.base ≤ change = subst (λ (c : FileState). c.base ≤ change) was.1.1.1 low in
-    subst (λ (e : Expr). IsContent change file.content.rows (rows_in e (world (sources (up_to change h))))) (sym was.1.1.0)
-    (subst (λ (c : FileState). IsContent change c.rows (rows_in was.0.expr (world (sources (up_to change h))))) (sym was.1.1.1) (held number was.0 change was.1.0 base high))
+    let base : was.0.content.base ≤ change = subst (λ (c : FileState). c.base ≤ change) was.2.1 low in
+    subst (λ (e : Expr). IsContent change file.content.rows (rows_in e (world (sources (up_to change h))))) (sym was.2.0)
+    (subst (λ (c : FileState). IsContent change c.rows (rows_in was.0.expr (world (sources (up_to change h))))) (sym was.2.1) (held number was.0 change was.1 base high))
 
 -- rows of a later change do not count
 none_up : (change now : ℕ) (news : List SignedRow) → change ≤ now → AllByRecursion (λ r. r.number ≡ now + 1) news → rows_up_to change news ≡ []
@@ -85,14 +85,14 @@ contents_fed store change old new h command fed now more fits held number file a
     before : (was : KeptFile) → get old number ≡ Some was → at_change ≤ changes h → IsContent at_change file.content.rows (rows_in file.expr (world (sources (up_to at_change (command ∷ h)))))
     before was here few =
         let f = fed.each number was here in
-        let one : Some f.0 ≡ Some file = sym f.1.0 ∙ at in
+        let one : Some f.0 ≡ Some file = sym f.1 ∙ at in
         let is : f.0 ≡ file = cc in
-        let behind = sym is ∙ f.1.1.behind in
+        let behind = sym is ∙ f.2.behind in
         let base : was.content.base ≤ at_change = subst (λ (k : KeptFile). k.content.base ≤ at_change) behind low in
-        let numbers = subst (λ n. AllByRecursion (λ (r : SignedRow). r.number ≡ n + 1) f.1.1.news) now f.1.1.numbers in
+        let numbers = subst (λ n. AllByRecursion (λ (r : SignedRow). r.number ≡ n + 1) f.2.news) now f.2.numbers in
         subst (λ (k : KeptFile). IsContent at_change k.content.rows (rows_in k.expr (world (sources (up_to at_change (command ∷ h)))))) (sym behind)
-        (subst (λ w. IsContent at_change (was.content.rows ++ f.1.1.news) (rows_in was.expr w)) (sym (world_at_mark at_change command h few))
-        (content_before at_change (changes h) was.content.rows f.1.1.news _ few numbers (held number was at_change here base few)))
+        (subst (λ w. IsContent at_change (was.content.rows ++ f.2.news) (rows_in was.expr w)) (sym (world_at_mark at_change command h few))
+        (content_before at_change (changes h) was.content.rows f.2.news _ few numbers (held number was at_change here base few)))
 
     by_old : (o : Option KeptFile) → get old number ≡ o → IsContent at_change file.content.rows (rows_in file.expr (world (sources (up_to at_change (command ∷ h)))))
     by_old None here = absurd (let bad : Some file ≡ None = sym at ∙ fed.no_other number here in cc)

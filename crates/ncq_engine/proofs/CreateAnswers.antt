@@ -22,7 +22,8 @@ use Rattle.ncq_plan.proofs.PlanFits.{plan_is_well_formed}
 use Rattle.ncq_roll.specs.Rolls.{RollState}
 use Rattle.ncq_script.specs.declared.command.Command.TheVariants.{Create}
 use Rattle.ncq_shelf.specs.Contents.{AreUpTo, Fits}
-use Rattle.ncq_source.specs.StoreStates.{StoreState}
+use Rattle.ncq_source.specs.StoreStates.{StoreState, found}
+use Rattle.ncq_engine.specs.Firing.{sources_of}
 use Rattle.ncq_xmlql.specs.declared.model.Statement.{Statement}
 use Rattle.ncq_xmlql.specs.WellFormed.{IsWellFormed as IsWhole}
 use Rattle.ncq_engine.specs.declared.engine.Applied.{Applied}
@@ -71,7 +72,7 @@ pub record IsRead (e : EngineState) (statement : Statement) (query : NormalQuery
   pub fitting : is_at_odds (kind_in statement.action e.labels) statement.argument ≡ false
   pub free : list_any (λ m. bytes_eq statement.name m.name) e.members ≡ false
   pub timely : is_expired (timed statement e.clock) (timed statement e.clock).start ≡ false
-  pub watched : HasTopics e.store (new_member statement query (timed statement e.clock) action e.creates topics (record { 0 = 0 }))
+  pub watched : map (found e.store) (sources_of statement) ≡ map Some topics
 
 module _ (e : EngineState) (statement : Statement) (query : NormalQuery) (action : ℕ) (topics : List ℕ) (holds : Invariant e) (read : IsRead e statement query action topics) where
   abbrev pub made : FileId → Member

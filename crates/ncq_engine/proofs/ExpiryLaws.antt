@@ -93,7 +93,7 @@ left_none roll = record {
   instant = refl;
   number = refl;
   next_file = refl;
-  files = λ number file at. (file, at, refl, refl);
+  files = λ number file at. (file, at, (refl, refl));
 }
 
 without_push : (installs : List ℕ) (install : ℕ) (ms : List Member) → filter (λ m. not (is_of install m)) (without installs ms) ≡ without (installs ++ install ∷ []) ms
@@ -133,20 +133,20 @@ released_of old new number r other state at = elim (cases_eq other number) [
   | inl same ↦
       let there = subst (λ n. get (with_use_less old number r.file) n ≡ Some state) same (r.stays other state at).0 in
       let is : record (r.file) { uses = r.file.uses - 1 } ≡ state = one_value (put_same old number (record (r.file) { uses = r.file.uses - 1 })) there in
-      (r.file, subst (λ n. get old n ≡ Some r.file) (sym same) r.at, ap (λ (k : KeptFile). k.expr) (sym is), ap (λ (k : KeptFile). k.content) (sym is))
-  | inr differs ↦ (state, sym (put_other old number (record (r.file) { uses = r.file.uses - 1 }) other differs) ∙ (r.stays other state at).0, refl, refl)
+      (r.file, subst (λ n. get old n ≡ Some r.file) (sym same) r.at, (ap (λ (k : KeptFile). k.expr) (sym is), ap (λ (k : KeptFile). k.content) (sym is)))
+  | inr differs ↦ (state, sym (put_other old number (record (r.file) { uses = r.file.uses - 1 }) other differs) ∙ (r.stays other state at).0, (refl, refl))
 ]
 
 -- and the removal of a member
 pub removed_of : (old new : Files) (o : Option Member) → IfSome o (λ m. IsReleased old m.file.0 new) → (o ≡ None → new ≡ old) → AreOf old new
-removed_of old new None some none = subst (AreOf old) (sym (none refl)) (λ number file at. (file, at, refl, refl))
+removed_of old new None some none = subst (AreOf old) (sym (none refl)) (λ number file at. (file, at, (refl, refl)))
 removed_of old new (Some m) some none = released_of old new m.file.0 some
 
 of_of : (old mid new : Files) → AreOf old mid → AreOf mid new → AreOf old new
 of_of old mid new first second number file at =
     let b = second number file at in
-    let a = first number b.0 b.1.0 in
-    (a.0, a.1.0, b.1.1.0 ∙ a.1.1.0, b.1.1.1 ∙ a.1.1.1)
+    let a = first number b.0 b.1 in
+    (a.0, a.1, (b.2.0 ∙ a.2.0, b.2.1 ∙ a.2.1))
 
 -- one more
 pub left_more : (installs more : List ℕ) (install : ℕ) (old mid new : RollState) → more ≡ installs ++ install ∷ [] → IsLeftBy installs old mid → new.members ≡ filter (λ m. not (is_of install m)) mid.members

@@ -1,5 +1,5 @@
 -- What holds of an engine whatever was answered, behind each step of the code.
-use Rattle.std.proofs.Common.{◌≡◌, ℕ, suc, ◌+◌, ◌*◌, ◌<◌, ◌≤◌, Bool, true, false, ◌||◌, cond, List, [], ◌∷◌, ◌++◌, map, length, slice_get, get_or, refl, sym, ◌∙◌, ap, subst, arith}
+use Rattle.std.proofs.Common.{◌≡◌, ℕ, zero, suc, ◌+◌, ◌*◌, ◌<◌, ◌≤◌, Bool, true, false, ◌||◌, cond, List, [], ◌∷◌, ◌++◌, map, length, slice_get, get_or, refl, sym, ◌∙◌, ap, subst, arith}
 use Rattle.std.specs.Prelude.{Some, None, if◌then◌else◌}
 use Rattle.std.specs.List.{filter, position, AllByRecursion}
 use Rattle.std.specs.Str.{bytes_eq}
@@ -78,7 +78,7 @@ pub invariant_declared : (e : EngineState) (store : StoreState) (name root : Lis
 invariant_declared e store name root key d i =
     let few = i.changes in
     let same = d.changes in
-    let last = λ asked. last_declared e.store store asked name root key d.sources in
+    let last : (asked : List ℕ) → last_in store asked ≡ last_in e.store asked = λ asked. last_declared e.store store asked name root key d.sources in
     record {
       changes = (let l : store.changes ≤ e.count = omega (arith, few, same) in l);
       creates_too = i.creates_too;
@@ -98,7 +98,7 @@ pub invariant_alike : (e : EngineState) (store : StoreState) → IsAlike e.store
 invariant_alike e store alike i =
     let few = i.changes in
     let same = alike.changes in
-    let last = λ asked. last_alike e.store store asked alike.sources in
+    let last : (asked : List ℕ) → last_in store asked ≡ last_in e.store asked = λ asked. last_alike e.store store asked alike.sources in
     record {
       changes = (let l : store.changes ≤ e.count = omega (arith, few, same) in l);
       creates_too = i.creates_too;
@@ -134,7 +134,7 @@ module _ (store ready : StoreState) (name : List ℕ) (items : List Item) (chang
       same_at : (f : Declared → Declared) (xs ys : List Declared) (i : ℕ) (x y : Declared) → map f xs ≡ map f ys → slice_get xs i ≡ Some x → slice_get ys i ≡ Some y → f x ≡ f y
       same_at f [] ys i x y e a b = absurd cc
       same_at f (p ∷ xs) [] i x y e a b = absurd cc
-      same_at f (p ∷ xs) (q ∷ ys) 0 x y e a b = let fp : f p ≡ f q = cc in let px : p ≡ x = cc in let qy : q ≡ y = cc in ap f (sym px) ∙ fp ∙ ap f qy
+      same_at f (p ∷ xs) (q ∷ ys) zero x y e a b = let fp : f p ≡ f q = cc in let px : p ≡ x = cc in let qy : q ≡ y = cc in ap f (sym px) ∙ fp ∙ ap f qy
       same_at f (p ∷ xs) (q ∷ ys) (suc i) x y e a b = same_at f xs ys i x y (let rest : map f xs ≡ map f ys = cc in rest) a b
 
   chains_here : (source : Declared) → slice_get ready.sources change.source.0 ≡ Some source → Chains source.elements change.entries
@@ -281,7 +281,7 @@ can_all e table left same (m ∷ ms) f c = (can_left e.labels e.store e.table ta
 fits_left : (old new : Files) (now : ℕ) (w : World) → AreOf old new → Fits now w old → Fits now w new
 fits_left old new now w left fits number file at =
     let was = left number file at in
-    subst (λ (e : Expr). IsContent now file.content.rows (rows_in e w)) (sym was.1.1.0) (subst (λ (c : FileState). IsContent now c.rows (rows_in was.0.expr w)) (sym was.1.1.1) (fits number was.0 was.1.0))
+    subst (λ (e : Expr). IsContent now file.content.rows (rows_in e w)) (sym was.2.0) (subst (λ (c : FileState). IsContent now c.rows (rows_in was.0.expr w)) (sym was.2.1) (fits number was.0 was.1))
 
 -- members are gone
 pub invariant_left : (e : EngineState) (keep : Member → Bool) (table : TableState) → Invariant e → IsRoll table (filter keep e.members) → AreOf e.table.files table.files → table.number ≡ e.table.number → table.next_file ≡ e.table.next_file

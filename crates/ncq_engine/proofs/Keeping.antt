@@ -39,8 +39,8 @@ mark_is labels h s m k rising store last =
     ∙ sym (marks_follow s h rising)
 
 -- a member whose mark is written down as it is behind the command is kept
-pub keeps_as : (labels : List Label) (h : History) (command : Command) (s : Subscription) (m : Member) → Keeps labels h s m → (note : Option ℕ) → note ≡ noted s (command ∷ h) → Keeps labels (command ∷ h) s (record m { noted = note })
-keeps_as labels h command s m k note e = record {
+pub keeps_as : (labels : List Label) (h : History) (command : Command) (s : Subscription) (m : Member) → Keeps labels h s m → (written : Option ℕ) → written ≡ noted s (command ∷ h) → Keeps labels (command ∷ h) s (record m { noted = written })
+keeps_as labels h command s m k written e = record {
   name = k.name;
   sources = k.sources;
   whole = k.whole;

@@ -80,10 +80,7 @@ module _ (labels : List Label) (store : StoreState) (table : TableState) (m : Me
   pub entries_are : (o : Option ℕ) (entries : List Difference) → o ≡ mark_in store m → entries ≡ entries_of m.query (since_mark o content.rows) → entries ≡ entries_of m.query (news_of store table.files m)
   entries_are o entries e f = f ∙ (λ i. entries_of m.query (since_mark (e i) (is i).rows)) ∙ (λ i. entries_of m.query (since_mark (mark_in store m) (rows_in_file (sym can.at i))))
 
--- the greatest of last changes, source by source
-pub latest_more : (store : StoreState) (names : List (List ℕ)) (at : ℕ) (latest : ℕ) → at < length names → latest ≡ latest_in store (take at names) → max latest (last_in store (get_or names at [])) ≡ latest_in store (take (at + 1) names)
-latest_more store [] at latest less e = absurd (let n : ⊥ = omega (arith, less) in n)
-latest_more store (name ∷ names) zero latest less e = let z : latest ≡ 0 = e in omega (arith, z)
-latest_more store (name ∷ names) (suc at) latest less e =
-    let rest = latest_more store names at (latest_in store (take at names)) (let l : at < length names = omega (arith, less) in l) refl in
-    omega (arith, e, rest)
+-- the greatest of last changes, with one source more
+pub latest_push : (store : StoreState) (names : List (List ℕ)) (name : List ℕ) → latest_in store (names ++ name ∷ []) ≡ max (latest_in store names) (last_in store name)
+latest_push store [] name = let a : max (last_in store name) 0 ≡ max 0 (last_in store name) = omega arith in a
+latest_push store (first ∷ names) name = let rest = latest_push store names name in omega (arith, rest)

@@ -1,5 +1,5 @@
 -- Who is live, fires at changes and has started has fired: so a change is never a first firing, and nothing has to be written down at it.
-use Rattle.std.proofs.Common.{◌≡◌, ℕ, ◌+◌, ◌<◌, ◌≤◌, max, Bool, true, false, not, ◌&&◌, ◌==◌, cond, List, [], ◌∷◌, ◌++◌, refl, sym, ◌∙◌, ap, arith, true≢false, inl, inr}
+use Rattle.std.proofs.Common.{◌≡◌, ℕ, ◌+◌, ◌-◌, ◌%◌, ◌<◌, ◌≤◌, max, Bool, true, false, not, ◌&&◌, ◌==◌, cond, List, [], ◌∷◌, ◌++◌, refl, sym, ◌∙◌, ap, arith, true≢false, inl, inr}
 use Rattle.std.specs.Prelude.{Option, Some, None, nat_le, nat_lt, if◌then◌else◌}
 use Rattle.std.specs.List.{filter, list_any, AllByRecursion}
 use Rattle.std.specs.Str.{bytes_eq}
@@ -40,13 +40,13 @@ first_stays s h command (number, e) = (number, λ i. first_marked (fires s h com
 -- what has never fired has no mark
 no_mark : (s : Subscription) (h : History) → first_mark s h ≡ None → mark s h ≡ None
 no_mark s [] e = refl
-no_mark s (command ∷ h) e = by (fires s h command) refl (first_mark s h) refl
+no_mark s (command ∷ h) e = by (no_mark s h) (fires s h command) refl (first_mark s h) refl
   where
-    by : (f : Option ℕ) → fires s h command ≡ f → (o : Option ℕ) → first_mark s h ≡ o → mark s (command ∷ h) ≡ None
-    by None p None q = (λ i. marked (p i) (changes (command ∷ h)) (mark s h)) ∙ no_mark s h q
-    by None p (Some number) q = absurd (let bad : Some number ≡ None = (λ i. first_marked (sym p i) (changes (command ∷ h)) (sym q i)) ∙ e in cc)
-    by (Some instant) p None q = absurd (let bad : Some (changes (command ∷ h)) ≡ None = (λ i. first_marked (sym p i) (changes (command ∷ h)) (sym q i)) ∙ e in cc)
-    by (Some instant) p (Some number) q = absurd (let bad : Some number ≡ None = (λ i. first_marked (sym p i) (changes (command ∷ h)) (sym q i)) ∙ e in cc)
+    by : (first_mark s h ≡ None → mark s h ≡ None) → (f : Option ℕ) → fires s h command ≡ f → (o : Option ℕ) → first_mark s h ≡ o → mark s (command ∷ h) ≡ None
+    by before None p None q = (λ i. marked (p i) (changes (command ∷ h)) (mark s h)) ∙ before q
+    by before None p (Some number) q = absurd (let bad : Some number ≡ None = (λ i. first_marked (sym p i) (changes (command ∷ h)) (sym q i)) ∙ e in cc)
+    by before (Some instant) p None q = absurd (let bad : Some (changes (command ∷ h)) ≡ None = (λ i. first_marked (sym p i) (changes (command ∷ h)) (sym q i)) ∙ e in cc)
+    by before (Some instant) p (Some number) q = absurd (let bad : Some number ≡ None = (λ i. first_marked (sym p i) (changes (command ∷ h)) (sym q i)) ∙ e in cc)
 
 -- a command that leaves the clock leaves this
 stays_fired : (command : Command) (h : History) → now (command ∷ h) ≡ now h → (xs : List Subscription) → AllByRecursion (FiresFirst h) xs → AllByRecursion (FiresFirst (command ∷ h)) xs

@@ -1,5 +1,5 @@
 -- Members that can be told stay so: behind a change of the store, of the files, and of what is written down.
-use Rattle.std.proofs.Common.{◌≡◌, ◌≢◌, ℕ, ◌+◌, ◌<◌, ◌≤◌, max, Bool, true, false, ◌==◌, List, [], ◌∷◌, ◌++◌, map, refl, sym, ◌∙◌, ap, subst, arith, inl, inr}
+use Rattle.std.proofs.Common.{◌≡◌, ◌≢◌, ℕ, ◌+◌, ◌<◌, ◌≤◌, max, Bool, true, false, ◌==◌, List, [], ◌∷◌, ◌++◌, map, length, refl, sym, ◌∙◌, ap, subst, arith, inl, inr}
 use Rattle.std.specs.Prelude.{Option, Some, None, IfSome, if◌then◌else◌}
 use Rattle.std.specs.FinMap.{get}
 use Rattle.std.specs.Option.{option_map}
@@ -42,11 +42,11 @@ latest_more old new more (name ∷ names) = let a = more name in let b = latest_
 mark_more : (old new : StoreState) → ((name : List ℕ) → last_in old name ≤ last_in new name) → (m : Member) (base : ℕ) → IfSome (mark_in old m) (λ n. base ≤ n) → IfSome (mark_in new m) (λ n. base ≤ n)
 mark_more old new more m base = by (m.timing.every == 0) m.noted
   where
-    by : (based : Bool) (note : Option ℕ) → IfSome (if based then option_map (λ first. max first (latest_in old m.sources)) note else note) (λ n. base ≤ n)
-        → IfSome (if based then option_map (λ first. max first (latest_in new m.sources)) note else note) (λ n. base ≤ n)
+    by : (based : Bool) (noted : Option ℕ) → IfSome (if based then option_map (λ first. max first (latest_in old m.sources)) noted else noted) (λ n. base ≤ n)
+        → IfSome (if based then option_map (λ first. max first (latest_in new m.sources)) noted else noted) (λ n. base ≤ n)
     by true None h = tt
     by true (Some first) h = let l = latest_more old new more m.sources in omega (arith, h, l)
-    by false note h = h
+    by false noted h = h
 
 -- behind a store whose last changes do not fall
 pub can_store : (labels : List Label) (old new : StoreState) (table : TableState) → ((name : List ℕ) → last_in old name ≤ last_in new name) → (m : Member) → CanTell labels old table m → CanTell labels new table m
@@ -88,10 +88,10 @@ fed_still store change old new w fed fits number file at =
     let f = fed.each number file at in
     record {
       file = f.0;
-      at = f.1.0;
-      own = ap (λ (k : KeptFile). k.expr) f.1.1.behind;
-      base = ap (λ (k : KeptFile). k.content.base) f.1.1.behind;
-      sound = fits_sound new.number w new.files fits number f.0 f.1.0;
+      at = f.1;
+      own = ap (λ (k : KeptFile). k.expr) f.2.behind;
+      base = ap (λ (k : KeptFile). k.content.base) f.2.behind;
+      sound = fits_sound new.number w new.files fits number f.0 f.1;
     }
 
 -- behind an install
@@ -111,9 +111,9 @@ installed_still expr old new at w done fits number file here =
 pub can_left : (labels : List Label) (store : StoreState) (old new : TableState) → AreOf old.files new.files → new.number ≡ old.number → (m : Member) → HasFile new.files (plan_of m.query) m.file.0 → CanTell labels store old m → CanTell labels store new m
 can_left labels store old new left same m has can =
     let was = left m.file.0 has.file has.at in
-    let one : Some was.0 ≡ Some can.file = sym was.1.0 ∙ can.at in
+    let one : Some was.0 ≡ Some can.file = sym was.1 ∙ can.at in
     let is : was.0 ≡ can.file = cc in
-    let content = was.1.1.1 ∙ ap (λ (k : KeptFile). k.content) is in
+    let content = was.2.1 ∙ ap (λ (k : KeptFile). k.content) is in
     record {
       formed = can.formed;
       action = can.action;
@@ -173,6 +173,6 @@ rolled_back store change old fed after done upto cut = same_map nat_cmp_total na
     back number None e = ap (option_map (cut_to store.changes)) (done.no_other number e) ∙ sym e
     back number (Some was) e =
         let f = done.each number was e in
-        ap (option_map (cut_to store.changes)) (f.1.0 ∙ ap Some f.1.1.behind)
-        ∙ ap (λ (rows : List SignedRow). Some (record was { content = record { base = was.content.base; rows = rows } })) (up_before store.changes was.content.rows f.1.1.news (upto number was e).last f.1.1.numbers)
+        ap (option_map (cut_to store.changes)) (f.1 ∙ ap Some f.2.behind)
+        ∙ ap (λ (rows : List SignedRow). Some (record was { content = record { base = was.content.base; rows = rows } })) (up_before store.changes was.content.rows f.2.news (upto number was e).last f.2.numbers)
         ∙ sym e

@@ -363,9 +363,8 @@ impl Engine {
         requires formed { IsWellFormed query }
         requires declared { are_declared (roots_in self.now.store) statement.query.items ≡ true }
         requires few { self.now.creates < 2 ^ 48 }
-        ensures made { IfOk result (λ m. (topics : List ℕ)
-            × (m ≡ new_member statement query timing action self.now.creates topics
-            (file_id 0))) }
+        ensures made { IfOk result (λ m. (topics : List ℕ) (file : file_id)
+            × (m ≡ new_member statement query timing action self.now.creates topics file)) }
         ensures topics { IfOk result (HasTopics self.now.store) }
     {
         let sources = asked_by(alloc, statement.query.items.as_slice())?;

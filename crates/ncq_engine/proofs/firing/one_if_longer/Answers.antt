@@ -1,0 +1,22 @@
+use Rattle.ncq_engine.proofs.StartedLaws.{all_fired}
+use Rattle.ncq_engine.proofs.Keeping.{keep_all}
+use Rattle.ncq_engine.proofs.NoticeLaws.{text_is}
+use Rattle.ncq_engine.proofs.ToldLaws.{tells_each}
+use Rattle.ncq_engine.proofs.TableLaws.{can_noted}
+use Rattle.ncq_engine.proofs.ContentLaws.{contents_installed}
+use Rattle.ncq_engine.proofs.InvariantLaws.{invariant_left}
+use Rattle.ncq_engine.proofs.CommandLaws.{delete_accepted}
+use Rattle.ncq_engine.proofs.ChangeLaws.{change_accepted}
+use Rattle.ncq_engine.proofs.ClockLaws.{clock_accepted}
+use Rattle.ncq_engine.proofs.CreateLaws.{create_accepted}
+use Rattle.ncq_engine.proofs.FiringLaws.{told_texts}
+use Rattle.ncq_engine.proofs.NotedLaws.{fired_members}
+use Rattle.ncq_engine.proofs.ExpiryLaws.{left_more}
+use Rattle.ncq_engine.proofs.BookLaws.{move_fired}
+use Rattle.ncq_engine.proofs.MemberLaws.{text_some}
+use Rattle.ncq_engine.proofs.TellingLoops.{text_found}
+use Rattle.ncq_engine.proofs.ChangeAnswers.{change_answers}
+use Rattle.ncq_engine.proofs.ClockAnswers.{clock_answers}
+use Rattle.ncq_engine.proofs.CreateAnswers.{create_answers}
+use Rattle.ncq_engine.proofs.AppliesLaws.{joined_of}
+use Rattle.ncq_engine.proofs.firing.one_if_longer.Goals as goal
