@@ -27,6 +27,7 @@ pub mod NotedLaws
 pub mod ExpiryLaws
 pub mod TopicLaws
 pub mod BookLaws
+pub mod NewLaws
 pub mod ChangeAnswers
 pub mod ClockAnswers
 pub mod CreateAnswers

@@ -363,7 +363,7 @@ impl Engine {
         requires formed { IsWellFormed query }
         requires declared { are_declared (roots_in self.now.store) statement.query.items ≡ true }
         requires few { self.now.creates < 2 ^ 48 }
-        ensures made { IfOk result (λ m. (topics : List ℕ) (file : file_id)
+        ensures made { IfOk result (λ m. (topics : List ℕ) × (file : file_id)
             × (m ≡ new_member statement query timing action self.now.creates topics file)) }
         ensures topics { IfOk result (HasTopics self.now.store) }
     {

@@ -1,13 +1,34 @@
-use Rattle.std.proofs.Common.{◌≡◌, ◌∙◌, ap, sym, rules}
-use Rattle.std.specs.Vec.Iter.{into_iter_items}
-use Rattle.ncq_book.specs.Books.{BookState}
+use Rattle.std.proofs.Common.{◌≡◌, ◌∙◌, ◌+◌, ◌<◌, ◌≤◌, ◌∷◌, [], arith, drop, length, get_or, ap, sym, List, map}
+use Rattle.std.specs.Prelude.{if◌then◌else◌}
+use Rattle.std.proofs.lemmas.List.{drop_more, drop_all}
+use Rattle.ncq_book.specs.Books.{is_of}
+use Rattle.ncq_book.specs.declared.member.Member.{Member}
+use Rattle.ncq_event.specs.declared.firing.Firing.{Firing}
+use Rattle.ncq_engine.specs.Engines.{noted_at}
 use Rattle.ncq_engine.specs.Tellings.{noted_by}
+use Rattle.ncq_engine.proofs.NotedLaws.{noted_none, noted_twice}
 use Rattle.ncq_engine.proofs.telling.note_all.Goals as goal
 
-pub loop-one-preserved : goal.loop-one-preserved
-loop-one-preserved c =
-    let noted = c.note.ensures in
+pub loop-firing-preserved : goal.loop-firing-preserved
+loop-firing-preserved c =
+    let firings = c.args.firings.now in
+    let at = c.loop-firing.firing-index in
+    let number = c.args.number in
+    let one : Firing = get_or firings at (record { instant = 0; install = 0 }) in
+    let here : at < length firings = c.loop-firing-test.true in
+    let left : drop at firings ≡ one ∷ drop (at + 1) firings = drop_more firings at (record { instant = 0; install = 0 }) here in
     record {
-      members = ap (λ (b : BookState). noted_by c.args.mark (into_iter_items c.next.new.self) b.members) noted ∙ (let step = c.loop-one.invariant.members in search rules);
-      instant = ap (λ (b : BookState). b.instant) noted ∙ c.loop-one.invariant.instant;
+      members = ap (noted_by number (drop (at + 1) firings)) c.note.ensures.members
+          ∙ noted_twice number one (drop (at + 1) firings) c.loop-firing.roll.members
+          ∙ ap (λ (fs : List Firing). noted_by number fs c.loop-firing.roll.members) (sym left)
+          ∙ c.loop-firing.invariant.members;
+      table = c.note.ensures.table ∙ c.loop-firing.invariant.table;
+      instant = c.note.ensures.instant ∙ c.loop-firing.invariant.instant;
     }
+
+pub returns : goal.returns
+returns c =
+    let past : length c.args.firings.now ≤ c.loop-firing.firing-index = omega (arith, c.loop-firing-test.false) in
+    let inv = c.loop-firing.invariant in
+    let members = sym (noted_none c.args.number c.loop-firing.roll.members) ∙ ap (λ (fs : List Firing). noted_by c.args.number fs c.loop-firing.roll.members) (sym (drop_all c.loop-firing.firing-index c.args.firings.now past)) ∙ inv.members in
+    λ i. record { table = inv.table i; members = members i; instant = inv.instant i }

@@ -1,28 +1,34 @@
-use Rattle.std.proofs.Common.{◌≡◌, ◌++◌, ◌∷◌, [], List, ℕ, nat_lt, map, length, take, get_or, ◌+◌, ◌<◌, ◌≤◌, arith, rules, sym, refl, subst, ◌∙◌, ap}
+use Rattle.std.proofs.Common.{◌≡◌, ◌++◌, ◌∷◌, [], List, ℕ, nat_lt, length, take, get_or, ◌+◌, ◌<◌, ◌≤◌, arith, rules, sym, refl, subst, ◌∙◌, ap}
 use Rattle.std.specs.Prelude.{Some, IsSome, if◌then◌else◌}
 use Rattle.std.specs.List.{flat_map, AllByRecursion}
 use Rattle.std.proofs.lemmas.List.{take_more, take_all}
 use Rattle.ncq_base.specs.Keys.{times}
 use Rattle.ncq_book.specs.declared.member.Member.{Member}
-use Rattle.ncq_book.specs.Books.{member_of}
+use Rattle.ncq_book.specs.Books.{BookState, member_of}
 use Rattle.ncq_callback.specs.Labels.{Label, labels}
 use Rattle.ncq_event.specs.declared.firing.Firing.{Firing}
-use Rattle.ncq_engine.specs.declared.telling.News.{News}
-use Rattle.ncq_engine.specs.Engines.{CanFire, rows_over, told_text}
-use Rattle.ncq_engine.specs.Tellings.{firing_text, IsNews}
-use Rattle.ncq_engine.proofs.Lists.{each_push}
-use Rattle.ncq_engine.proofs.TellingLoops.{at_most_one, counted, each_here, found_as, found_has, longer, made_on, news_found, not_missing, text_found, text_on, times_on}
+use Rattle.ncq_group.specs.Tables.{TableState}
+use Rattle.ncq_shelf.specs.KeptFiles.{Files}
+use Rattle.ncq_engine.specs.Engines.{CanTell, told_text}
+use Rattle.ncq_engine.specs.Tellings.{firing_text}
+use Rattle.ncq_engine.proofs.TellingLoops.{at_most_one, counted, each_here, found_as, found_has, longer, not_missing, text_found, text_on, times_on}
 use Rattle.ncq_engine.proofs.telling.tell.Goals as goal
 
 pub unreachable-requires : goal.unreachable-requires
 unreachable-requires g c =
-    not_missing c.get.result _ c.get.ensures c.in_default.is
-    (each_here (λ (f : Firing). IsSome (member_of f.install c.args.book.now.members)) c.args.firings.now c.loop-firing.firing-index (record { instant = 0; install = 0 }) c.loop-firing-test.true c.requires.there)
+    let item : Firing = get_or c.args.firings.now c.loop-firing.firing-index (record { instant = 0; install = 0 }) in
+    not_missing c.get.result (member_of item.install c.args.roll.now.members) (c.get.ensures ∙ ap (λ (b : BookState). member_of item.install b.members) c.book.ensures) c.in_default.is
+    (each_here (λ (f : Firing). IsSome (member_of f.install c.args.roll.now.members)) c.args.firings.now c.loop-firing.firing-index (record { instant = 0; install = 0 }) c.loop-firing-test.true c.requires.there)
 
 pub fire-requires : goal.fire-requires
 fire-requires g c =
-    let item = get_or c.args.firings.now c.loop-firing.firing-index (record { instant = 0; install = 0 }) in
-    record { can = found_has (CanFire (labels c.args.handlers.now.items.items (λ h. h.name) (λ h. h.kind))) item.install c.args.book.now.members c.in-Some.member.now c.requires.can (found_as c.get.result _ c.in-Some.member c.get.ensures c.in-Some.is) }
+    let all : List Label = labels c.args.handlers.now.items.items (λ h. h.name) (λ h. h.kind) in
+    let item : Firing = get_or c.args.firings.now c.loop-firing.firing-index (record { instant = 0; install = 0 }) in
+    let found : member_of item.install c.args.roll.now.members ≡ Some c.in-Some.member.now = sym (c.in-Some.ensures ∙ ap (λ (b : BookState). member_of item.install b.members) c.book.ensures) in
+    record {
+      can = subst (λ (t : TableState). CanTell all c.args.store.now t c.in-Some.member.now) (sym c.groups.ensures)
+          (found_has (CanTell all c.args.store.now c.args.roll.now.table) item.install c.args.roll.now.members c.in-Some.member.now c.requires.can found);
+    }
 
 pub overflow_add-notices : goal.overflow_add-notices
 overflow_add-notices g c =
@@ -33,50 +39,41 @@ overflow_add-notices g c =
 
 pub loop-firing-preserved : goal.loop-firing-preserved
 loop-firing-preserved g c =
-    let all : List Label = (labels c.args.handlers.now.items.items (λ h. h.name) (λ h. h.kind)) in
+    let all : List Label = labels c.args.handlers.now.items.items (λ h. h.name) (λ h. h.kind) in
     let store = c.args.store.now in
-    let members : List Member = c.args.book.now.members in
+    let files : Files = c.args.roll.now.table.files in
+    let members : List Member = c.args.roll.now.members in
     let firings = c.args.firings.now in
     let at = c.loop-firing.firing-index in
     let here : at < length firings = c.loop-firing-test.true in
     let item : Firing = get_or firings at (record { instant = 0; install = 0 }) in
     let one : take (at + 1) firings ≡ take at firings ++ item ∷ [] = take_more firings at (record { instant = 0; install = 0 }) here in
     let m : Member = c.in-Some.member.now in
-    let found : Some m ≡ member_of item.install members = sym (found_as c.get.result _ c.in-Some.member c.get.ensures c.in-Some.is) in
-    let text : told_text all m item.instant (rows_over store m) ≡ firing_text all store members item = text_found all store members item m found in
+    let found : Some m ≡ member_of item.install members = c.in-Some.ensures ∙ ap (λ (b : BookState). member_of item.install b.members) c.book.ensures in
+    let text : told_text all store c.groups.result.now.files m item.instant ≡ firing_text all store files members item =
+    ap (λ (t : TableState). told_text all store t.files m item.instant) c.groups.ensures ∙ text_found all store files members item m found in
     let before : List ℕ = c.loop-firing.out.items in
     let after : List ℕ = c.fire.new.out.items in
-    let written : after ≡ before ++ firing_text all store members item = c.in_ok-rows.ensures.text ∙ ap (λ (l : List ℕ). before ++ l) text in
+    let written : after ≡ before ++ firing_text all store files members item = c.in_ok-fire.ensures.text ∙ ap (λ (l : List ℕ). before ++ l) text in
     let long : c.len-before.result ≡ length before = search rules in
-    let news : News = record { install = item.install; rows = c.in_ok-rows.rows } in
     record {
-      text = text_on firings at item one (firing_text all store members) c.args.out.now.items before after c.loop-firing.invariant.text written;
-      notices = times_on firings at item one (λ f. nat_lt 0 (length (firing_text all store members f))) c.loop-firing.notices (c.loop-firing.notices + c.one_if_longer-notices.result) c.loop-firing.invariant.notices
+      text = text_on firings at item one (firing_text all store files members) c.args.out.now.items before after c.loop-firing.invariant.text written;
+      notices = times_on firings at item one (λ f. nat_lt 0 (length (firing_text all store files members f))) c.loop-firing.notices (c.loop-firing.notices + c.one_if_longer-notices.result) c.loop-firing.invariant.notices
           (ap (λ (n : ℕ). c.loop-firing.notices + n)
           (c.one_if_longer-notices.ensures ∙ (λ i. if nat_lt (long i) (length after) then 1 else 0)
-          ∙ (λ i. if longer before (firing_text all store members item) after written i then 1 else 0)));
-      installs = ap (map (λ (n : News). n.install)) c.in_ok-push.ensures.items
-          ∙ made_on firings at item one (λ f. f.install) (λ (n : News). n.install) c.loop-firing.news.items news c.loop-firing.invariant.installs refl;
-      news = subst (AllByRecursion (IsNews store members)) (sym c.in_ok-push.ensures.items)
-          (each_push (IsNews store members) c.loop-firing.news.items news c.loop-firing.invariant.news
-          (news_found store members news m found c.in_ok-rows.ensures.counts c.in_ok-rows.ensures.wide));
+          ∙ (λ i. if longer before (firing_text all store files members item) after written i then 1 else 0)));
     }
 
 pub returns-clause-text : goal.returns-clause-text
 returns-clause-text g c =
     let past : length c.args.firings.now ≤ c.loop-firing.firing-index = omega (arith, c.loop-firing-test.false) in
     c.loop-firing.invariant.text
-    ∙ ap (λ (fs : List Firing). c.args.out.now.items ++ flat_map (firing_text (labels c.args.handlers.now.items.items (λ h. h.name) (λ h. h.kind)) c.args.store.now c.args.book.now.members) fs)
+    ∙ ap (λ (fs : List Firing). c.args.out.now.items ++ flat_map (firing_text (labels c.args.handlers.now.items.items (λ h. h.name) (λ h. h.kind)) c.args.store.now c.args.roll.now.table.files c.args.roll.now.members) fs)
     (take_all c.loop-firing.firing-index c.args.firings.now past)
 
 pub returns-clause-notices : goal.returns-clause-notices
 returns-clause-notices g c =
     let past : length c.args.firings.now ≤ c.loop-firing.firing-index = omega (arith, c.loop-firing-test.false) in
     c.loop-firing.invariant.notices
-    ∙ ap (times (λ f. nat_lt 0 (length (firing_text (labels c.args.handlers.now.items.items (λ h. h.name) (λ h. h.kind)) c.args.store.now c.args.book.now.members f))))
+    ∙ ap (times (λ f. nat_lt 0 (length (firing_text (labels c.args.handlers.now.items.items (λ h. h.name) (λ h. h.kind)) c.args.store.now c.args.roll.now.table.files c.args.roll.now.members f))))
     (take_all c.loop-firing.firing-index c.args.firings.now past)
-
-pub returns-clause-installs : goal.returns-clause-installs
-returns-clause-installs g c =
-    let past : length c.args.firings.now ≤ c.loop-firing.firing-index = omega (arith, c.loop-firing-test.false) in
-    c.loop-firing.invariant.installs ∙ ap (map (λ (f : Firing). f.install)) (take_all c.loop-firing.firing-index c.args.firings.now past)

@@ -1,0 +1,6 @@
+use Rattle.std.proofs.Common.{take}
+use Rattle.ncq_engine.specs.Tellings.{IsLeftBy}
+use Rattle.ncq_engine.proofs.expiry.take_all.Given as goal
+
+abbrev pub invariant-loop-install : goal.invariant-loop-install
+invariant-loop-install l = IsLeftBy (take l.install-index l.installs) l.initial.roll l.roll
