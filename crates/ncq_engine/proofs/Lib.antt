@@ -30,3 +30,4 @@ pub mod BookLaws
 pub mod ChangeAnswers
 pub mod ClockAnswers
 pub mod CreateAnswers
+pub mod WorkLaws
