@@ -1,20 +1,54 @@
 -- What a command costs is at most its work.
-use Rattle.std.proofs.Common.{◌≡◌, ◌≢◌, ℕ, ◌+◌, ◌≤◌, true, ◌&&◌, cond, List, [], ◌∷◌, ◌⊎◌, inl, inr, refl, sym, ◌∙◌, ap, subst, arith, true≢false}
+use Rattle.std.proofs.Common.{◌≡◌, ◌≢◌, ℕ, ◌+◌, ◌≤◌, true, cond, List, [], ◌∷◌, length, map, ◌⊎◌, inl, inr, refl, sym, ◌∙◌, ap, subst, arith, true≢false}
 use Rattle.std.specs.Prelude.{Some, None, Ok, slice_get, slice_set}
 use Rattle.std.specs.FinMap.{get, entries, entries_sorted, get-entries, find, is_sorted}
 use Rattle.std.specs.FinMap.Entries.{below_all}
-use Rattle.std.specs.List.{AllByRecursion}
+use Rattle.std.specs.List.{AllByRecursion, position}
 use Rattle.std.specs.Ordering.{nat_cmp, is_lt}
 use Rattle.std.specs.Cmp.{unsigned_tied}
+use Rattle.std.specs.Str.{bytes_eq}
 use Rattle.std.proofs.lemmas.Bool.{cases_eq, eq-eqb, ne_eqb}
 use Rattle.ncq_base.specs.Counts.{total_by}
+use Rattle.ncq_base.proofs.CountLaws.{total_by-congr}
 use Rattle.ncq_base.proofs.Tests.{both_true}
 use Rattle.ncq_base.proofs.Totals.{told, not_tied}
-use Rattle.ncq_group.specs.Installs.{IsNamed}
+use Rattle.ncq_bind.specs.Bindings.{Binds, roots_in}
+use Rattle.ncq_book.specs.declared.member.Member.{Member}
+use Rattle.ncq_callback.specs.Labels.{Label}
+use Rattle.ncq_change.specs.Entries.{of_source, scans_of}
+use Rattle.ncq_change.specs.Stores.{world_in}
+use Rattle.ncq_change.proofs.CommitLaws.{found_name}
+use Rattle.ncq_feed.specs.Feeds.{delta_by, feed_work, name_at, world_after}
+use Rattle.ncq_group.specs.Installs.{IsNamed, NamesTheMissing, rows_of_all}
 use Rattle.ncq_plan.specs.declared.expr.Expr.{Expr}
+use Rattle.ncq_plan.specs.declared.query.NormalQuery.{NormalQuery}
+use Rattle.ncq_plan.specs.Deltas.{delta_of}
+use Rattle.ncq_plan.specs.Exprs.{World, rows_in}
+use Rattle.ncq_plan.specs.Plans.{plan_of}
+use Rattle.ncq_pyx.specs.declared.item.Item.{Item}
+use Rattle.ncq_roll.specs.Shares.{IsPlanned, Shares}
+use Rattle.ncq_script.specs.declared.command.Command.TheVariants.{Delta, Create}
 use Rattle.ncq_shelf.specs.KeptFiles.{KeptFile, Files}
+use Rattle.ncq_shelf.specs.Parts.{IsPart}
 use Rattle.ncq_shelf.specs.Stands.{IsGrounded}
 use Rattle.ncq_shelf.proofs.CallerLemmas.{there}
+use Rattle.ncq_source.specs.Changes.{after, prepared}
+use Rattle.ncq_source.specs.Changes.Trial.{Good}
+use Rattle.ncq_source.specs.ChangeStates.{ChangeState}
+use Rattle.ncq_source.specs.Prepared.{IsPrepared}
+use Rattle.ncq_source.specs.Stores.{Source as Declared, Follows as IsChanged}
+use Rattle.ncq_source.specs.StoreStates.{StoreState, At, IsAlike, IsCommitted, found}
+use Rattle.ncq_source.proofs.Folds.{fold_of_entries}
+use Rattle.ncq_engine.specs.Engines.{Pairwise}
+use Rattle.ncq_engine.specs.History.{History, Subscription, live, source_in, sources, with_items, world}
+use Rattle.ncq_engine.specs.Languages.{language_of}
+use Rattle.ncq_engine.specs.Output.{delta_refusal, first_refusal, trial_refusal}
+use Rattle.ncq_engine.specs.Stands.{EngineState, Follows, Keeps, content_of}
+use Rattle.ncq_engine.specs.Works.{IsPartOf, IsPartOfOne, IsWorkUpTo, delta_rows, entries_in, entries_of, made_rows, unless_refused}
+use Rattle.ncq_engine.proofs.InvariantLaws.{name_is, world_alike, world_committed}
+use Rattle.ncq_engine.proofs.Places.{is_found, moved_by, same_names}
+use Rattle.ncq_engine.proofs.Worlds.{world_is}
+use Rattle.ncq_xmlql.specs.declared.model.Statement.{Statement}
 
 -- a number below another is not that other
 below_differs : (a b : ℕ) → is_lt (nat_cmp a b) ≡ true → a ≢ b
@@ -111,3 +145,100 @@ work_named files grounded f exprs names =
     let sorted : is_sorted nat_cmp (entries files) ≡ true = told _ (entries_sorted files) in
     let at = all_there files grounded (entries files) sorted (λ number file found. get-entries files number ∙ found) in
     apart_total files grounded f (entries files) exprs sorted at (all_named files grounded exprs names (entries files) at)
+
+-- the parts of the members' plans are those of the plans of their subscriptions' queries
+module _ (labels : List Label) (h : History) (expr : Expr) where
+  planned_of_one : (subs : List Subscription) (ms : List Member) → Pairwise (Keeps labels h) subs ms → IsPlanned ms expr → IsPartOfOne subs expr
+  planned_of_one [] [] p planned = absurd planned
+  planned_of_one [] (m ∷ ms) p planned = absurd p
+  planned_of_one (s ∷ subs) [] p planned = absurd p
+  planned_of_one (s ∷ subs) (m ∷ ms) p (inl part) = inl (record { roots = p.0.roots; normal = m.query; binds = p.0.binds; part = part })
+  planned_of_one (s ∷ subs) (m ∷ ms) p (inr others) = inr (planned_of_one subs ms p.1 others)
+
+  -- a query has one normal query
+  one_is_planned : (subs : List Subscription) (ms : List Member) → Pairwise (Keeps labels h) subs ms → IsPartOfOne subs expr → IsPlanned ms expr
+  one_is_planned [] [] p one = absurd one
+  one_is_planned [] (m ∷ ms) p one = absurd p
+  one_is_planned (s ∷ subs) [] p one = absurd p
+  one_is_planned (s ∷ subs) (m ∷ ms) p (inl is) = inl (subst (λ (n : NormalQuery). IsPart expr (plan_of n)) (is.binds.answer ∙ sym p.0.binds.answer) is.part)
+  one_is_planned (s ∷ subs) (m ∷ ms) p (inr others) = inr (one_is_planned subs ms p.1 others)
+
+-- a change that was prepared from the store, and seen from the store with room
+module _ (e : EngineState) (ready : StoreState) (name : List ℕ) (items : List Item) (change : ChangeState) (here : found e.store name ≡ Some change.source.0) (alike : IsAlike e.store ready)
+    (prepares : At e.store change.source (λ s. IsPrepared s items change.entries))
+    (good : (d : Declared) → slice_get e.store.sources change.source.0 ≡ Some d → prepared d.key 1 d.elements items ≡ Good change.entries) where
+  abbrev own : (d : Declared) × (slice_get e.store.sources change.source.0 ≡ Some d) × (bytes_eq name d.name ≡ true)
+  own = found_name e.store name change.source.0 here
+
+  abbrev roomy : (d : Declared) × (slice_get ready.sources change.source.0 ≡ Some d) × (bytes_eq name d.name ≡ true)
+  roomy = found_name ready name change.source.0 (ap (position (bytes_eq name)) (same_names e.store.sources ready.sources alike.sources) ∙ here)
+
+  -- the store as the commit would leave it
+  abbrev changed : Declared → Declared
+  changed d = record d { elements = after d.elements change.entries; last = ready.changes + 1 }
+
+  abbrev committed_store : StoreState
+  committed_store = record { sources = slice_set ready.sources change.source.0 (changed roomy.0); changes = ready.changes + 1 }
+
+  committed : IsCommitted ready change committed_store
+  committed = record {
+    changes = refl;
+    sources = λ d at.
+        let one : Some roomy.0 ≡ Some d = sym roomy.1 ∙ at in
+        let same : roomy.0 ≡ d = cc in
+        (changed roomy.0, refl, subst (λ x. IsChanged x (changed roomy.0) change.entries (ready.changes + 1)) same (record { name = refl; root = refl; key = refl; elements = refl; last = refl }));
+  }
+
+  module _ (h : History) (s : Follows e h) where
+    source_is : source_in name (sources h) ≡ Some (content_of own.0)
+    source_is = ap (source_in name) (sym s.sources) ∙ is_found name e.store.sources change.source.0 own.0 here own.1
+
+    allowed : first_refusal (language_of e.labels) h (Delta name items) ≡ None
+    allowed = ap (delta_refusal items) source_is ∙ ap trial_refusal (good own.0 own.1)
+
+    world_before : world_in ready ≡ world (sources h)
+    world_before = world_alike e.store ready alike.sources ∙ sym (world_is e.store (sources h) s.sources)
+
+    sources_after : map content_of committed_store.sources ≡ sources (Delta name items ∷ h)
+    sources_after =
+        moved_by name items e.store.sources ready.sources committed_store.sources change.source.0 own.0 change.entries committed_store.changes here own.1 alike.sources committed.sources
+        (fold_of_entries own.0.key 1 own.0.elements items change.entries (good own.0 own.1)).0
+        ∙ ap (with_items name items) s.sources
+
+    world_behind : world_after ready change ≡ world (sources (Delta name items ∷ h))
+    world_behind = world_committed e.store ready name items change here alike prepares committed_store committed ∙ sym (world_is committed_store (sources (Delta name items ∷ h)) sources_after)
+
+    entries_are : change.entries ≡ entries_in items (source_in name (sources h))
+    entries_are = sym (ap (entries_in items) source_is ∙ ap entries_of (good own.0 own.1))
+
+    -- what the change makes of an expression is what the delta makes of it
+    delta_is : (expr : Expr) → delta_by ready change expr ≡ delta_rows h name items expr
+    delta_is expr = λ i. delta_of (world_before i) (world_behind i) (scans_of (of_source (name_is e.store ready name items change here alike prepares i) (entries_are i))) expr
+
+    -- To feed an accepted change to the files costs at most the work of the delta: each file has
+    -- the expression of a part of a live subscription's plan.
+    pub change_cost : Shares e.members e.table → (bound : ℕ) → IsWorkUpTo (language_of e.labels) h (Delta name items) bound → feed_work ready change e.table.files ≤ bound
+    change_cost shares bound work =
+        let named : feed_work ready change e.table.files ≤ total_by (λ expr. length (delta_by ready change expr)) work.0 =
+        work_named e.table.files shares.facts.grounded (λ expr. length (delta_by ready change expr)) work.0 (λ number file at.
+        work.1 file.expr (planned_of_one e.labels h file.expr (live h) e.members s.members ((shares.kept file.expr).0 (number, record { file = file; at = at; of = refl })))) in
+        let same : total_by (λ expr. length (delta_by ready change expr)) work.0 ≡ made_rows h (Delta name items) work.0 = total_by-congr _ _ (λ expr. ap length (delta_is expr)) work.0 in
+        let is : bound ≡ made_rows h (Delta name items) work.0 = work.2 ∙ (λ i. unless_refused (allowed i) (made_rows h (Delta name items) work.0)) in
+        omega (arith, named, same, is)
+
+-- To install the plan of an accepted create costs at most the work of the create: there is a list
+-- of expressions that names each part of the plan without a file, and its rows are within the
+-- work. A part without a file is no part of a live subscription's plan.
+pub create_cost : (e : EngineState) (h : History) → Follows e h → Shares e.members e.table → (statement : Statement) (query : NormalQuery) → Binds statement.query (roots_in e.store) (Ok query)
+    → first_refusal (language_of e.labels) h (Create statement) ≡ None → (bound : ℕ) → IsWorkUpTo (language_of e.labels) h (Create statement) bound
+    → (exprs : List Expr) × NamesTheMissing e.table.files (plan_of query) exprs × (rows_of_all (world_in e.store) exprs ≤ bound)
+create_cost e h s shares statement query binds none bound work = (
+  work.0,
+  λ part is missing. work.1 part (
+    record { roots = roots_in e.store; normal = query; binds = binds; part = is },
+    λ one. missing ((shares.kept part).1 (one_is_planned e.labels h part (live h) e.members s.members one)),
+  ),
+  (let same : rows_of_all (world_in e.store) work.0 ≡ made_rows h (Create statement) work.0 = ap (λ (w : World). rows_of_all w work.0) (sym (world_is e.store (sources h) s.sources)) in
+  let is : bound ≡ made_rows h (Create statement) work.0 = work.2 ∙ (λ i. unless_refused (none i) (made_rows h (Create statement) work.0)) in
+  omega (arith, same, is)),
+)
