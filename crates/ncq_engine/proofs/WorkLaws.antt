@@ -1,5 +1,5 @@
 -- What a command costs is at most its work.
-use Rattle.std.proofs.Common.{◌≡◌, ◌≢◌, ℕ, ◌+◌, ◌≤◌, true, cond, List, [], ◌∷◌, length, map, ◌⊎◌, inl, inr, refl, sym, ◌∙◌, ap, subst, arith, true≢false}
+use Rattle.std.proofs.Common.{◌≡◌, ◌≢◌, ℕ, ◌+◌, ◌≤◌, true, false, cond, List, [], ◌∷◌, length, map, ◌⊎◌, inl, inr, refl, sym, ◌∙◌, ap, subst, arith, true≢false}
 use Rattle.std.specs.Prelude.{Some, None, Ok, slice_get, slice_set}
 use Rattle.std.specs.FinMap.{get, entries, entries_sorted, get-entries, find, is_sorted}
 use Rattle.std.specs.FinMap.Entries.{below_all}
@@ -18,12 +18,12 @@ use Rattle.ncq_callback.specs.Labels.{Label}
 use Rattle.ncq_change.specs.Entries.{of_source, scans_of}
 use Rattle.ncq_change.specs.Stores.{world_in}
 use Rattle.ncq_change.proofs.CommitLaws.{found_name}
-use Rattle.ncq_feed.specs.Feeds.{delta_by, feed_work, name_at, world_after}
+use Rattle.ncq_feed.specs.Feeds.{delta_by, feed_work, world_after}
 use Rattle.ncq_group.specs.Installs.{IsNamed, NamesTheMissing, rows_of_all}
 use Rattle.ncq_plan.specs.declared.expr.Expr.{Expr}
 use Rattle.ncq_plan.specs.declared.query.NormalQuery.{NormalQuery}
 use Rattle.ncq_plan.specs.Deltas.{delta_of}
-use Rattle.ncq_plan.specs.Exprs.{World, rows_in}
+use Rattle.ncq_plan.specs.Exprs.{World}
 use Rattle.ncq_plan.specs.Plans.{plan_of}
 use Rattle.ncq_pyx.specs.declared.item.Item.{Item}
 use Rattle.ncq_roll.specs.Shares.{IsPlanned, Shares}
@@ -44,7 +44,11 @@ use Rattle.ncq_engine.specs.History.{History, Subscription, live, source_in, sou
 use Rattle.ncq_engine.specs.Languages.{language_of}
 use Rattle.ncq_engine.specs.Output.{delta_refusal, first_refusal, trial_refusal}
 use Rattle.ncq_engine.specs.Stands.{EngineState, Follows, Keeps, content_of}
-use Rattle.ncq_engine.specs.Works.{IsPartOf, IsPartOfOne, IsWorkUpTo, delta_rows, entries_in, entries_of, made_rows, unless_refused}
+use Rattle.ncq_engine.specs.Works.{IsPartOfOne, IsWorkUpTo, delta_rows, entries_in, entries_of, made_rows, unless_refused}
+use Rattle.ncq_engine.proofs.ChangeAnswers.{mid_engine}
+use Rattle.ncq_engine.proofs.ClockAnswers.{counted_engine}
+use Rattle.ncq_engine.proofs.CreateAnswers.{IsRead}
+use Rattle.ncq_engine.proofs.CreateLaws.{binds_freely, create_refusal}
 use Rattle.ncq_engine.proofs.InvariantLaws.{name_is, world_alike, world_committed}
 use Rattle.ncq_engine.proofs.Places.{is_found, moved_by, same_names}
 use Rattle.ncq_engine.proofs.Worlds.{world_is}
@@ -86,8 +90,7 @@ module _ (files : Files) (grounded : IsGrounded files) where
   apart_exprs : (e : ℕ × KeptFile) (es : List (ℕ × KeptFile)) → IsThere e → below_all nat_cmp e.0 es ≡ true → AllByRecursion IsThere es → AllByRecursion (λ x. e.1.expr ≢ x.1.expr) es
   apart_exprs e [] at low all = tt
   apart_exprs e (x ∷ es) at low all =
-      let b = both_true (is_lt (nat_cmp e.0 x.0)) (below_all nat_cmp e.0 es) low in
-      (
+      let b = both_true (is_lt (nat_cmp e.0 x.0)) (below_all nat_cmp e.0 es) low in (
         λ same. below_differs e.0 x.0 b.0 (grounded.distinct e.0 x.0 e.1.expr (record { file = e.1; at = at; of = refl }) (record { file = x.1; at = all.0; of = sym same })),
         apart_exprs e es at b.1 all.1,
       )
@@ -163,7 +166,7 @@ module _ (labels : List Label) (h : History) (expr : Expr) where
   one_is_planned (s ∷ subs) (m ∷ ms) p (inl is) = inl (subst (λ (n : NormalQuery). IsPart expr (plan_of n)) (is.binds.answer ∙ sym p.0.binds.answer) is.part)
   one_is_planned (s ∷ subs) (m ∷ ms) p (inr others) = inr (one_is_planned subs ms p.1 others)
 
--- a change that was prepared from the store, and seen from the store with room
+-- a change that was prepared from a store, and is fed from that store with room
 module _ (e : EngineState) (ready : StoreState) (name : List ℕ) (items : List Item) (change : ChangeState) (here : found e.store name ≡ Some change.source.0) (alike : IsAlike e.store ready)
     (prepares : At e.store change.source (λ s. IsPrepared s items change.entries))
     (good : (d : Declared) → slice_get e.store.sources change.source.0 ≡ Some d → prepared d.key 1 d.elements items ≡ Good change.entries) where
@@ -226,6 +229,14 @@ module _ (e : EngineState) (ready : StoreState) (name : List ℕ) (items : List 
         let is : bound ≡ made_rows h (Delta name items) work.0 = work.2 ∙ (λ i. unless_refused (allowed i) (made_rows h (Delta name items) work.0)) in
         omega (arith, named, same, is)
 
+    -- The same by the names of the code: the steps that feeding may take, from the store with room
+    -- and the files of the counted engine, are within the work of the delta.
+    pub change_steps : Shares e.members e.table → (inside : EngineState) → inside ≡ mid_engine e ready → (bound : ℕ) → IsWorkUpTo (language_of e.labels) h (Delta name items) bound
+        → (old new : ℕ) → new ≤ old + feed_work inside.store change inside.table.files → new ≤ old + bound
+    change_steps shares inside is bound work old new steps =
+        let few : feed_work inside.store change inside.table.files ≤ bound = subst (λ (x : EngineState). feed_work x.store change x.table.files ≤ bound) (sym is) (change_cost shares bound work) in
+        omega (arith, few, steps)
+
 -- To install the plan of an accepted create costs at most the work of the create: there is a list
 -- of expressions that names each part of the plan without a file, and its rows are within the
 -- work. A part without a file is no part of a live subscription's plan.
@@ -239,6 +250,26 @@ create_cost e h s shares statement query binds none bound work = (
     λ one. missing ((shares.kept part).1 (one_is_planned e.labels h part (live h) e.members s.members one)),
   ),
   (let same : rows_of_all (world_in e.store) work.0 ≡ made_rows h (Create statement) work.0 = ap (λ (w : World). rows_of_all w work.0) (sym (world_is e.store (sources h) s.sources)) in
-  let is : bound ≡ made_rows h (Create statement) work.0 = work.2 ∙ (λ i. unless_refused (none i) (made_rows h (Create statement) work.0)) in
-  omega (arith, same, is)),
+      let is : bound ≡ made_rows h (Create statement) work.0 = work.2 ∙ (λ i. unless_refused (none i) (made_rows h (Create statement) work.0)) in
+      omega (arith, same, is)),
 )
+
+-- A create whose statement was read, bound and found free, fitting and timely is not refused.
+pub create_allowed : (e : EngineState) (h : History) → Follows e h → (statement : Statement) (query : NormalQuery) (action : ℕ) (topics : List ℕ) → IsRead e statement query action topics
+    → first_refusal (language_of e.labels) h (Create statement) ≡ None
+create_allowed e h s statement query action topics read =
+    create_refusal e.store e.clock e.count e.creates e.labels e.members e.table statement false false false None read.free (binds_freely statement.query (roots_in e.store) query read.binds) read.fitting read.timely h s
+
+-- The same by the names of the code: the steps that adding the new member may take are within the
+-- work of the create.
+pub create_steps : (e inside : EngineState) → inside ≡ counted_engine e → (h : History) → Follows e h → Shares e.members e.table
+    → (statement : Statement) (query : NormalQuery) (action : ℕ) (topics : List ℕ) → IsRead e statement query action topics → (plan : Expr) → plan ≡ plan_of query
+    → (bound : ℕ) → IsWorkUpTo (language_of e.labels) h (Create statement) bound
+    → (old new : ℕ) → ((missing : List Expr) → NamesTheMissing inside.table.files plan missing → new ≤ old + rows_of_all (world_in inside.store) missing) → new ≤ old + bound
+create_steps e inside is h s shares statement query action topics read plan planned bound work old new steps =
+    let cost = create_cost e h s shares statement query read.binds (create_allowed e h s statement query action topics read) bound work in
+    let taken : new ≤ old + rows_of_all (world_in e.store) cost.0 =
+    subst (λ (x : EngineState). new ≤ old + rows_of_all (world_in x.store) cost.0) is (steps cost.0 (subst (λ (x : EngineState). NamesTheMissing x.table.files plan cost.0) (sym is)
+    (subst (λ (p : Expr). NamesTheMissing e.table.files p cost.0) (sym planned) cost.1))) in
+    let few = cost.2 in
+    omega (arith, taken, few)
