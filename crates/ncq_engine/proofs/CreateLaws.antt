@@ -62,7 +62,7 @@ use Rattle.ncq_engine.proofs.ToldLaws.{noticed, tells_each, told_list, told_of, 
 use Rattle.ncq_engine.proofs.Worlds.{roots_are, world_is}
 
 -- a query that binds is not refused, and another for the fault that is found
-binds_freely : (query : Query) (roots : Roots) (normal : NormalQuery) → Binds query roots (Ok normal) → binding_refusal query roots ≡ None
+pub binds_freely : (query : Query) (roots : Roots) (normal : NormalQuery) → Binds query roots (Ok normal) → binding_refusal query roots ≡ None
 binds_freely query roots normal b =
     λ i. if b.declared i then (if b.root i then (if b.bound i then None else Some refusal.Unbound) else Some refusal.Root) else Some refusal.NoSource
 
@@ -88,7 +88,7 @@ module _ (store : StoreState) (clock count creates : ℕ) (labels : List Label) 
   this = Create statement
 
   -- the first refusal, by the tests of the code
-  create_refusal : (taken odd late : Bool) (unbound : Option Refusal) → list_any (λ m. bytes_eq statement.name m.name) members ≡ taken → binding_refusal statement.query (roots_in store) ≡ unbound
+  pub create_refusal : (taken odd late : Bool) (unbound : Option Refusal) → list_any (λ m. bytes_eq statement.name m.name) members ≡ taken → binding_refusal statement.query (roots_in store) ≡ unbound
       → is_at_odds (kind_in statement.action labels) statement.argument ≡ odd → is_expired (timed statement clock) (start_of statement.start clock) ≡ late
       → (h : History) → Follows old_engine h
       → first_refusal (language_of labels) h this

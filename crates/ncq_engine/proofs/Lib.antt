@@ -31,3 +31,4 @@ pub mod NewLaws
 pub mod ChangeAnswers
 pub mod ClockAnswers
 pub mod CreateAnswers
+pub mod WorkLaws

@@ -1,5 +1,5 @@
 -- What a command costs: the rows that it makes, each expression of the live queries counted once.
-use Rattle.std.specs.Prelude.{ℕ, List, [], ◌∷◌, length, Option, Some, None, Ok, ◌⊎◌}
+use Rattle.std.specs.Prelude.{◌≡◌, ℕ, List, [], ◌∷◌, length, Option, Some, None, Ok, ◌⊎◌}
 use Rattle.ncq_base.specs.Counts.{total_by}
 use Rattle.ncq_bind.specs.Bindings.{Binds, Roots}
 use Rattle.ncq_change.specs.Entries.{of_source, scans_of}
