@@ -1,7 +1,7 @@
 -- What the engine stands for behind a declaration and behind a delete.
 use Rattle.std.proofs.Common.{◌≡◌, ℕ, ◌+◌, ◌<◌, ◌≤◌, Bool, true, false, not, ◌||◌, cond, List, [], ◌∷◌, ◌++◌, length, slice_get, refl, sym, ◌∙◌, ap, subst, arith, inl, inr, zero-add}
 use Rattle.std.specs.Prelude.{Option, Some, None, Result, Ok, Err, IfOk, OnOk, OnErr, IsSome, is_some, ◌⊎◌}
-use Rattle.std.specs.List.{filter, flat_map, list_any, AllByRecursion}
+use Rattle.std.specs.List.{filter, find, flat_map, list_any, AllByRecursion}
 use Rattle.std.specs.FinMap.{empty}
 use Rattle.std.specs.Str.{bytes_eq}
 use Rattle.std.proofs.lemmas.Option.{slice_get_cases}
@@ -24,8 +24,12 @@ use Rattle.ncq_book.specs.declared.member.Member.{Member}
 use Rattle.ncq_engine.specs.Applies.{Applies, ok_text}
 use Rattle.ncq_group.specs.Tables.{TableState}
 use Rattle.ncq_engine.specs.Engines.{Pairwise}
-use Rattle.ncq_engine.specs.Tellings.{AreOf, without}
-use Rattle.ncq_book.specs.Books.{is_of}
+use Rattle.ncq_engine.specs.Tellings.{AreOf, IsLeftBy, without}
+use Rattle.ncq_book.specs.Books.{is_of, InstallsRise, NamesDiffer}
+use Rattle.ncq_book.specs.Kept.{install_of}
+use Rattle.ncq_book.proofs.MemberLaws.{named_is}
+use Rattle.ncq_roll.specs.Rolls.{RollState}
+use Rattle.std.specs.Option.{option_map}
 use Rattle.ncq_engine.specs.History.{History, Source, Subscription, changes, creates as creates_of, is_named, live, source_in}
 use Rattle.ncq_engine.specs.Output.{is_taken, refused_if}
 use Rattle.ncq_engine.specs.Stands.{EngineState, Keeps}
@@ -165,3 +169,32 @@ without_one install (m ∷ ms) =
 -- an engine with other members
 pub other_members : (a b : EngineState) (f : List Member → List Member) (members : List Member) → a ≡ b → members ≡ f a.members → record a { members = members } ≡ record b { members = f b.members }
 other_members a b f members e m = (λ i. record a { members = m i }) ∙ ap (λ (x : EngineState). record x { members = f x.members }) e
+
+-- a name that is found is that of a member, and one that is not found is that of none
+pub some_named : (name : List ℕ) (ms : List Member) (install : ℕ) → option_map (λ m. m.install) (find (λ m. bytes_eq name m.name) ms) ≡ Some install → list_any (λ m. bytes_eq name m.name) ms ≡ true
+some_named name [] install e = absurd cc
+some_named name (m ∷ ms) install e =
+    elim (bytes_eq name m.name) as (λ t. option_map (λ m. m.install) (cond t (Some m) (find (λ m. bytes_eq name m.name) ms)) ≡ Some install → (t || list_any (λ m. bytes_eq name m.name) ms) ≡ true) [
+      | true ↦ λ q. refl
+      | false ↦ λ q. some_named name ms install q
+    ] e
+
+pub none_named : (name : List ℕ) (ms : List Member) → option_map (λ m. m.install) (find (λ m. bytes_eq name m.name) ms) ≡ None → list_any (λ m. bytes_eq name m.name) ms ≡ false
+none_named name [] e = refl
+none_named name (m ∷ ms) e =
+    elim (bytes_eq name m.name) as (λ t. option_map (λ m. m.install) (cond t (Some m) (find (λ m. bytes_eq name m.name) ms)) ≡ None → (t || list_any (λ m. bytes_eq name m.name) ms) ≡ false) [
+      | true ↦ λ q. absurd cc
+      | false ↦ λ q. none_named name ms q
+    ] e
+
+-- a delete that is accepted, from what the calls give
+pub delete_answers : (e inside : EngineState) → inside ≡ record e { count = e.count + 1 } → (name : List ℕ) (install : ℕ) → install_of name e.members ≡ Some install → InstallsRise inside.members → NamesDiffer inside.members
+    → (roll : RollState) → IsLeftBy (install ∷ []) (record { table = inside.table; members = inside.members; instant = inside.clock }) roll
+    → (out : List ℕ) (result : Result Applied ApplyError) (out' : List ℕ) → OnOk result (out' ≡ out ++ ok_text (e.count + 1)) → IfOk result (λ a. a ≡ record { from = length out'; to = length out'; notices = 0 }) → OnErr result (result ≡ Err OutOfMemory)
+    → Applies e (Delete name) out result (engine inside.store roll.instant inside.count inside.creates inside.labels roll.members roll.table) out'
+delete_answers e inside is name install found rise differ roll left out result out' text places only =
+    subst (λ (x : EngineState). InstallsRise x.members → NamesDiffer x.members → IsLeftBy (install ∷ []) (record { table = x.table; members = x.members; instant = x.clock }) roll
+    → Applies e (Delete name) out result (engine x.store roll.instant x.count x.creates x.labels roll.members roll.table) out') (sym is)
+    (λ r d l. subst (λ (n : ℕ). Applies e (Delete name) out result (engine e.store n (e.count + 1) e.creates e.labels roll.members roll.table) out') (sym l.instant)
+    (delete_accepted e.store e.clock e.count e.creates e.labels e.members e.table out result out' text places only name roll.members roll.table (some_named name e.members install found)
+    (l.members ∙ without_one install e.members ∙ named_is name install e.members r d found) l.files)) rise differ left

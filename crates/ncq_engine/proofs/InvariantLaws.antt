@@ -1,7 +1,7 @@
 -- What holds of an engine whatever was answered, behind each step of the code.
 use Rattle.std.proofs.Common.{◌≡◌, ℕ, zero, suc, ◌+◌, ◌*◌, ◌<◌, ◌≤◌, Bool, true, false, ◌||◌, cond, List, [], ◌∷◌, ◌++◌, map, length, slice_get, get_or, refl, sym, ◌∙◌, ap, subst, arith}
-use Rattle.std.specs.Prelude.{Some, None, if◌then◌else◌}
-use Rattle.std.specs.List.{filter, position, AllByRecursion}
+use Rattle.std.specs.Prelude.{Some, None, not, nat_eq, if◌then◌else◌}
+use Rattle.std.specs.List.{filter, list_any, position, AllByRecursion}
 use Rattle.std.specs.Str.{bytes_eq}
 use Rattle.std.specs.FinMap.{empty}
 use Rattle.ncq_change.specs.Stores.{kept_in, world_in}
@@ -18,7 +18,7 @@ use Rattle.ncq_midfile.specs.Files.{FileState}
 use Rattle.ncq_shelf.specs.KeptFiles.{Files}
 use Rattle.ncq_plan.specs.Plans.{plan_of}
 use Rattle.ncq_pyx.specs.declared.item.Item.{Item}
-use Rattle.ncq_roll.specs.Rolls.{IsRoll}
+use Rattle.ncq_roll.specs.Rolls.{IsRoll, RollState}
 use Rattle.ncq_shelf.specs.Contents.{AreUpTo, Fits}
 use Rattle.ncq_shelf.specs.Stands.{Stands as HasFile}
 use Rattle.ncq_source.specs.ChangeStates.{ChangeState}
@@ -32,7 +32,7 @@ use Rattle.ncq_book.specs.Books.{InstallsRise}
 use Rattle.ncq_engine.specs.Engines.{CanTell, HasTopics, InstallsAreUpTo, IsEngine, fired_if, last_in, noted_at}
 use Rattle.ncq_engine.specs.History.{Source, world}
 use Rattle.ncq_engine.specs.Stands.{EngineState, content_of}
-use Rattle.ncq_engine.specs.Tellings.{AreOf, is_fired, noted_by, without}
+use Rattle.ncq_engine.specs.Tellings.{AreOf, IsLeftBy}
 use Rattle.ncq_engine.proofs.HistoryLaws.{key_is}
 use Rattle.ncq_engine.proofs.Lists.{each_filter, each_more, each_push}
 use Rattle.ncq_engine.proofs.Places.{one_declared, room_is_no_content, same_names}
@@ -298,3 +298,11 @@ invariant_left e keep table i roll left number next = record {
   fits = subst (λ n. Fits n (world_in e.store) table.files) (sym number) (fits_left e.table.files table.files e.table.number (world_in e.store) left i.fits);
   next = (let n = i.next in let l : table.next_file ≤ 256 * e.creates = omega (arith, n, next) in l);
 }
+
+-- one member is gone
+pub left_holds : (e : EngineState) (install : ℕ) (roll : RollState) → Invariant e → IsLeftBy (install ∷ []) (record { table = e.table; members = e.members; instant = e.clock }) roll → IsRoll roll.table roll.members
+    → IsEngine e.store e.count e.creates e.labels roll.members roll.table
+left_holds e install roll holds left owns =
+    let members : roll.members ≡ filter (λ m. not (list_any (nat_eq m.install) (install ∷ []))) e.members = left.members in
+    subst (λ (ms : List Member). IsEngine e.store e.count e.creates e.labels ms roll.table) (sym members)
+    (invariant_left e (λ m. not (list_any (nat_eq m.install) (install ∷ []))) roll.table holds (subst (IsRoll roll.table) members owns) left.files left.number left.next_file)

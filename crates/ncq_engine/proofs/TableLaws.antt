@@ -176,3 +176,25 @@ rolled_back store change old fed after done upto cut = same_map nat_cmp_total na
         ap (option_map (cut_to store.changes)) (f.1 ∙ ap Some f.2.behind)
         ∙ ap (λ (rows : List SignedRow). Some (record was { content = record { base = was.content.base; rows = rows } })) (up_before store.changes was.content.rows f.2.news (upto number was e).last f.2.numbers)
         ∙ sym e
+
+-- and the table is the one before
+pub table_back : (store : StoreState) (change : ChangeState) (old fed after : TableState) → AreFed store change old.files fed.files → AreUpTo old.number old.files → store.changes ≡ old.number
+    → ((number : ℕ) → get after.files number ≡ option_map (cut_to old.number) (get fed.files number)) → after.number ≡ old.number → after.next_file ≡ old.next_file → after ≡ old
+table_back store change old fed after done upto now cut number next =
+    let files : after.files ≡ old.files =
+    rolled_back store change old.files fed.files after.files done (subst (λ n. AreUpTo n old.files) (sym now) upto)
+    (λ at. cut at ∙ ap (λ n. option_map (cut_to n) (get fed.files at)) (sym now)) in
+    λ i. record { files = files i; next_file = next i; number = number i }
+
+-- a fed file was made at the change before the marks or earlier, and its number was given
+pub fed_base : (store : StoreState) (change : ChangeState) (old fed : Files) (mark next : ℕ) → AreFed store change old fed → AreUpTo mark old → ((number : ℕ) (file : KeptFile) → get old number ≡ Some file → number < next)
+    → (number : ℕ) (file : KeptFile) → get fed number ≡ Some file → (file.content.base ≤ mark) × (number < next)
+fed_base store change old fed mark next done upto below number file at = by (get old number) refl
+  where
+    by : (o : Option KeptFile) → get old number ≡ o → (file.content.base ≤ mark) × (number < next)
+    by None e = absurd (let bad : Some file ≡ None = sym at ∙ done.no_other number e in cc)
+    by (Some was) e =
+        let f = done.each number was e in
+        let one : Some f.0 ≡ Some file = sym f.1 ∙ at in
+        let is : f.0 ≡ file = cc in
+        (subst (λ (k : KeptFile). k.content.base ≤ mark) (sym f.2.behind ∙ is) (upto number was e).base, below number was e)

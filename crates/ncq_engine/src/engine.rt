@@ -15,7 +15,6 @@ ghost use Rattle.ncq_engine.specs.Applies.{ok_text, kind_at};
 ghost use Rattle.ncq_engine.specs.Applies.{refused_change, change_refusal, refused_query};
 ghost use Rattle.ncq_engine.specs.Applies.{query_refusal};
 ghost use Rattle.ncq_engine.specs.Engines.{HasTopics, new_member};
-ghost use Rattle.ncq_base.specs.declared.atom.FileId.{FileId as file_id};
 ghost use Rattle.ncq_engine.specs.History.{start_of};
 ghost use Rattle.ncq_engine.specs.Languages.{language_of};
 ghost use Rattle.ncq_engine.specs.Notices.{kind_in};
@@ -363,8 +362,8 @@ impl Engine {
         requires formed { IsWellFormed query }
         requires declared { are_declared (roots_in self.now.store) statement.query.items ≡ true }
         requires few { self.now.creates < 2 ^ 48 }
-        ensures made { IfOk result (λ m. (topics : List ℕ) × (file : file_id)
-            × (m ≡ new_member statement query timing action self.now.creates topics file)) }
+        ensures made { IfOk result (λ m. (topics : List ℕ)
+            × (m ≡ new_member statement query timing action self.now.creates topics m.file)) }
         ensures topics { IfOk result (HasTopics self.now.store) }
     {
         let sources = asked_by(alloc, statement.query.items.as_slice())?;

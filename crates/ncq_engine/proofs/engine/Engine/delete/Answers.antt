@@ -1,1 +1,44 @@
+use Rattle.std.proofs.Common.{◌≡◌, ◌∙◌, ◌+◌, ap, refl, subst, sym, List, Some, None, false}
+use Rattle.std.specs.Prelude.{Result, Ok}
+use Rattle.std.specs.List.{list_any}
+use Rattle.std.specs.Str.{bytes_eq}
+use Rattle.ncq_book.specs.declared.member.Member.{Member}
+use Rattle.ncq_book.specs.Books.{BookState}
+use Rattle.ncq_book.specs.Kept.{install_of}
+use Rattle.ncq_script.specs.declared.command.Command.TheVariants.{Delete}
+use Rattle.ncq_engine.specs.declared.engine.Applied.{Applied}
+use Rattle.ncq_engine.specs.declared.engine.ApplyError.{ApplyError}
+use Rattle.ncq_engine.specs.Applies.{Applies}
+use Rattle.ncq_engine.specs.Stands.{EngineState}
+use Rattle.ncq_engine.proofs.CommandLaws.{delete_answers, delete_refused, engine, none_named, told_as}
+use Rattle.ncq_engine.proofs.InvariantLaws.{left_holds}
 use Rattle.ncq_engine.proofs.engine.Engine.delete.Goals as goal
+
+pub returns-in_default : goal.returns-in_default
+returns-in_default c =
+    let e = c.args.self.now in
+    let absent : install_of c.args.name.now e.members ≡ None =
+    ap (λ (x : EngineState). install_of c.args.name.now x.members) (sym c.self.view_is) ∙ ap (λ (b : BookState). install_of c.args.name.now b.members) (sym c.book.ensures) ∙ sym c.in_default.ensures in
+    record {
+      applies = delete_refused e.store e.clock e.count e.creates e.labels e.members e.table c.args.out.now.items c.refuse.result c.refuse.new.self c.args.out.now.items c.refuse.ensures.counted refl c.args.name.now c.refuse.ensures.refused
+          (none_named c.args.name.now e.members absent);
+    }
+
+pub invariant_of-self : goal.invariant_of-self
+invariant_of-self c =
+    let i = c.self-2.inside in
+    left_holds (engine i.store i.roll.instant i.count i.creates i.labels.items i.roll.members i.roll.table) c.in-Some.install c.take_all.new.roll c.self-2.invariant c.take_all.ensures c.facts-2.ensures.roll
+
+pub returns : goal.returns
+returns c =
+    let e = c.args.self.now in
+    let i = c.self-2.inside in
+    let found : install_of c.args.name.now e.members ≡ Some c.in-Some.install =
+    ap (λ (x : EngineState). install_of c.args.name.now x.members) (sym c.self.view_is) ∙ ap (λ (b : BookState). install_of c.args.name.now b.members) (sym c.book.ensures) ∙ sym c.in-Some.ensures in
+    record {
+      applies =
+          subst (λ (r : Result Applied ApplyError). Applies e (Delete c.args.name.now) c.args.out.now.items r
+          (engine i.store c.take_all.new.roll.instant i.count i.creates i.labels.items c.take_all.new.roll.members c.take_all.new.roll.table) c.accept.new.out.items) c.in_ok-applied.was
+          (delete_answers e (engine i.store i.roll.instant i.count i.creates i.labels.items i.roll.members i.roll.table) (c.self-2.view_is ∙ c.accept.ensures.counted) c.args.name.now c.in-Some.install found c.facts.ensures.rise c.facts.ensures.names
+          c.take_all.new.roll c.take_all.ensures c.args.out.now.items c.accept.result c.accept.new.out.items c.accept.ensures.text c.accept.ensures.places c.accept.ensures.only);
+    }

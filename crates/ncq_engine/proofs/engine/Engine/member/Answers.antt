@@ -19,4 +19,4 @@ returns-clause-topics c =
     (λ i. map (found (sym store i)) (sym c.as_slice-2.ensures i)) ∙ c.in_ok-topics.ensures
 
 pub returns-clause-made : goal.returns-clause-made
-returns-clause-made c = (c.in_ok-topics.topics, _, search rules)
+returns-clause-made c = (c.in_ok-topics.topics, search rules)
