@@ -27,7 +27,7 @@ use Rattle.ncq_engine.specs.Engines.{Pairwise}
 use Rattle.ncq_engine.specs.Tellings.{AreOf, IsLeftBy, without}
 use Rattle.ncq_book.specs.Books.{is_of, InstallsRise, NamesDiffer}
 use Rattle.ncq_book.specs.Kept.{install_of}
-use Rattle.ncq_book.proofs.MemberLaws.{named_is}
+use Rattle.ncq_engine.proofs.NamedLaws.{named_is}
 use Rattle.ncq_roll.specs.Rolls.{RollState}
 use Rattle.std.specs.Option.{option_map}
 use Rattle.ncq_engine.specs.History.{History, Source, Subscription, changes, creates as creates_of, is_named, live, source_in}

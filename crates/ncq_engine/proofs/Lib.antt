@@ -10,6 +10,7 @@ pub mod ToldLaws
 pub mod Places
 pub mod StoreLaws
 pub mod EngineLaws
+pub mod NamedLaws
 pub mod CommandLaws
 pub mod ChangeLaws
 pub mod MemberLaws
