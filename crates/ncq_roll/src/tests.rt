@@ -1,9 +1,11 @@
 //! Members of two plans that come and go, and how many files stand then, worked out by hand.
 //!
 //! Each plan has two parts: the quotes, and those of them whose text is the constant.
-ghost use Rattle.std.specs.Prelude.{◌≡◌, ◌+◌, ◌<◌, IfOk, OnOk};
+ghost use Rattle.std.specs.Prelude.{◌≡◌, ◌+◌, ◌<◌, ◌≤◌, [], length, IfOk, OnOk};
 ghost use Rattle.std.specs.List.{AllByRecursion};
 ghost use Rattle.ncq_row.specs.Widths.{width};
+ghost use Rattle.ncq_plan.specs.Products.{arm_width};
+ghost use Rattle.ncq_plan.specs.WellFormed.{arms_width, equals_in, ranges_in, ArmsFit};
 ghost use Rattle.ncq_plan.specs.WellFormed.{IsWellFormed};
 ghost use Rattle.ncq_change.specs.Stores.{world_in};
 ghost use Rattle.ncq_shelf.specs.Contents.{Fits};
@@ -40,31 +42,49 @@ fn text_shape(alloc: Global) -> Result<Shape, AllocError>
     })
 }
 
-/// The arm of the quotes with this text.
-fn arm(alloc: Global, text: &str) -> Result<Arm, AllocError> {
-    let constant = atom_of(alloc, text.as_bytes())?;
-    let mut equals = EqualTos::new(alloc);
-    equals.push(EqualTo { slot: 0, constant })?;
+/// The arm of all quotes.
+fn quotes(alloc: Global) -> Result<Arm, AllocError>
+    ensures width { IfOk result (λ a. arm_width a ≡ 1) }
+    ensures equals { IfOk result (λ a. a.equals ≡ []) }
+    ensures ranges { IfOk result (λ a. a.ranges ≡ []) }
+    ensures pairs { IfOk result (λ a. a.pairs ≡ []) }
+{
     Ok(Arm {
         source: bytes_of(alloc, b"quotes")?,
         shape: text_shape(alloc)?,
-        equals,
+        equals: EqualTos::new(alloc),
         ranges: Withins::new(alloc),
         pairs: Pairs::new(alloc),
     })
 }
 
-/// The query of the quotes with this text.
-fn query(alloc: Global, text: &str) -> Result<NormalQuery, AllocError>
+/// The query of these arms.
+fn query(alloc: Global, arms: Arms) -> Result<NormalQuery, AllocError>
+    requires some { 1 ≤ length arms }
+    requires few { length arms ≤ 8 }
+    requires slots { arms_width arms ≤ 64 }
+    requires equals { equals_in arms ≤ 96 }
+    requires ranges { ranges_in arms ≤ 32 }
+    requires arms { ArmsFit 0 arms }
     ensures { IfOk result IsWellFormed }
 {
-    let mut arms = Arms::new(alloc);
-    arms.push(arm(alloc, text)?)?;
     Ok(NormalQuery {
         arms,
         residual: Tests::new(alloc),
         template: SlotTemplate::Text(bytes_of(alloc, b"")?),
     })
+}
+
+/// The query of the quotes with this text.
+fn equal_quotes(alloc: Global, text: &str) -> Result<NormalQuery, AllocError>
+    ensures { IfOk result IsWellFormed }
+{
+    let constant = atom_of(alloc, text.as_bytes())?;
+    let mut arm = quotes(alloc)?;
+    arm.equals.push(EqualTo { slot: 0, constant })?;
+    let mut arms = Arms::new(alloc);
+    arms.push(arm)?;
+    query(alloc, arms)
 }
 
 /// A member of this install number, name and query.
@@ -96,12 +116,12 @@ fn member(
     })
 }
 
-/// How many files stand after this member of the quotes with the text came in.
+/// How many files stand after a member came in, by its name and the text of its quotes.
 fn add<L: Ledger>(
     alloc: Global,
     roll: &mut Roll,
     install: u64,
-    (name, text): (&str, &str),
+    words: (&str, &str),
     store: &Store,
     steps: &mut Steps<L>,
 ) -> Result<usize, AllocError>
@@ -110,6 +130,7 @@ fn add<L: Ledger>(
     ensures above { OnOk result (AllByRecursion (λ m. m.install < install + 1) roll.new.members) }
     ensures fits { Fits roll.new.table.number (world_in store.now) roll.new.table.files }
 {
+    let (name, text) = words;
     let name = bytes_of(alloc, name.as_bytes())?;
     if roll.book().has(&name) || roll.book().len() >= 100 {
         return Err(AllocError);
@@ -117,7 +138,7 @@ fn add<L: Ledger>(
     if roll.groups().next_file() >= 100 || store.changes() != roll.groups().number() {
         return Err(AllocError);
     }
-    let query = query(alloc, text)?;
+    let query = equal_quotes(alloc, text)?;
     let plan = plan(alloc, &query)?;
     let member = member(alloc, install, name, query)?;
     roll.add(alloc, member, &plan, store, steps)?;

@@ -8,10 +8,12 @@ use Rattle.ncq_book.specs.Books.{BookState, member_of, timing_of}
 use Rattle.ncq_callback.specs.Labels.{Label, labels}
 use Rattle.ncq_event.specs.Calendars.{due_firings, expired_at}
 use Rattle.ncq_event.specs.declared.firing.Firing.{Firing}
+use Rattle.ncq_group.specs.Tables.{TableState}
 use Rattle.ncq_roll.specs.Rolls.{RollState}
 use Rattle.ncq_script.specs.declared.command.Command.TheVariants.{Clock}
 use Rattle.ncq_engine.specs.declared.engine.Applied.{Applied}
 use Rattle.ncq_engine.specs.Applies.{Applies}
+use Rattle.ncq_engine.specs.Engines.{IsEngine}
 use Rattle.ncq_engine.specs.Stands.{EngineState}
 use Rattle.ncq_engine.specs.Tellings.{IsLeftBy, expired_of, firing_text, is_news_at, noted_by}
 use Rattle.ncq_engine.proofs.ClockAnswers.{AreAsked, IsMoved, IsWritten, clock_answers, clock_can, clock_holds, clock_there, counted_engine}
@@ -61,6 +63,18 @@ tell-requires-clause-there g c =
 
 pub invariant_of-self : goal.invariant_of-self
 invariant_of-self g c =
+    let e = c.args.self.now in
+    let i = c.self-2.inside in
+    let inside : EngineState = engine i.store i.roll.instant i.count i.creates i.labels.items i.roll.members i.roll.table in
+    let holds : Invariant e = subst (λ (x : EngineState). Invariant x) c.self.view_is c.self.invariant in
+    let two : inside ≡ counted_engine e = c.self-2.view_is ∙ c.accept.ensures.counted in
+    let known : List Label = labels c.args.handlers.now.items.items (λ h. h.name) (λ h. h.kind) in
+    let to = c.args.instant in
+    subst (λ (ms : List Member). IsEngine i.store i.count i.creates i.labels.items ms c.move_to.new.self.table) (sym c.move_to.ensures.members)
+    (subst (λ (t : TableState). IsEngine i.store i.count i.creates i.labels.items i.roll.members t) (sym c.move_to.ensures.table) c.self-2.invariant)
+
+pub invariant_of-self-2 : goal.invariant_of-self-2
+invariant_of-self-2 g c =
     let e = c.args.self.now in
     let i = c.self-2.inside in
     let inside : EngineState = engine i.store i.roll.instant i.count i.creates i.labels.items i.roll.members i.roll.table in
