@@ -46,6 +46,7 @@ use Rattle.ncq_engine.specs.Languages.{binding_refusal, language_of}
 use Rattle.ncq_engine.specs.Marks.{first_mark, noted}
 use Rattle.ncq_engine.specs.Notices.{fired_at, firings, kind_in, notice_at, told}
 use Rattle.ncq_engine.specs.Output.{first_refusal, is_at_odds, notices, or_else, refused_if}
+use Rattle.ncq_engine.specs.Joins.{timed}
 use Rattle.ncq_engine.specs.Stands.{AreContents, EngineState, Follows, Keeps}
 use Rattle.ncq_engine.specs.Tellings.{firing_text, has_started, noted_by, started_at}
 use Rattle.ncq_engine.proofs.ByInstall.{firings_of, found_first, found_behind}
@@ -74,10 +75,6 @@ binds_not query roots binding.RootDiffers why e b =
 binds_not query roots binding.Unbound why e b =
     (λ i. if b.declared i then (if b.root i then (if b.bound i then None else Some refusal.Unbound) else Some refusal.Root) else Some refusal.NoSource) ∙ e
 binds_not query roots binding.OutOfMemory why e b = absurd cc
-
--- the timing of a statement that is created at this instant
-abbrev pub timed : Statement → ℕ → Timing
-timed statement clock = record { start = start_of statement.start clock; every = statement.every; expire = statement.expire }
 
 -- the member that a create makes
 module _ (store : StoreState) (clock count creates : ℕ) (labels : List Label) (members : List Member) (table : TableState) (statement : Statement) where

@@ -9,4 +9,5 @@ pub mod Engines
 pub mod Stands
 pub mod Applies
 pub mod Tellings
+pub mod Joins
 pub mod Works

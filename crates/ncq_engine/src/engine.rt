@@ -16,6 +16,7 @@ ghost use Rattle.ncq_engine.specs.Applies.{refused_change, change_refusal, refus
 ghost use Rattle.ncq_engine.specs.Applies.{query_refusal};
 ghost use Rattle.ncq_engine.specs.Engines.{HasTopics, new_member};
 ghost use Rattle.ncq_engine.specs.History.{start_of};
+ghost use Rattle.ncq_engine.specs.Joins.{IsMemberOf};
 ghost use Rattle.ncq_engine.specs.Languages.{language_of};
 ghost use Rattle.ncq_engine.specs.Notices.{kind_in};
 ghost use Rattle.ncq_engine.specs.Output.{is_at_odds, first_refusal, accepted_text};
@@ -23,6 +24,7 @@ ghost use Rattle.ncq_plan.specs.WellFormed.{IsWellFormed};
 ghost use Rattle.ncq_pyx.specs.Canonical.{item_is_proper};
 ghost use Rattle.ncq_script.specs.Proper.{IsProperCommand};
 ghost use Rattle.ncq_source.specs.StoreStates.{found, IsDeclared};
+ghost use Rattle.ncq_xmlql.specs.declared.model.Statement.{Statement as a_statement};
 ghost use Rattle.ncq_xmlql.specs.WellFormed.{IsWellFormed as StatementIsWellFormed};
 
 use crate::expiry::{take_all, write_expired};
@@ -331,8 +333,30 @@ impl Engine {
         if is_expired(&timing, timing.start) {
             return self.refuse(Refusal::Times);
         }
-        let plan = plan(alloc, &query)?;
         let member = self.member(alloc, statement, query, action, timing)?;
+        self.join(alloc, member, handlers, out, steps)
+    }
+
+    /// Takes in a subscription that nothing refuses, and tells its owner the answer where it starts
+    /// now.
+    fn join<L: Ledger>(
+        &mut self,
+        alloc: Global,
+        member: Member,
+        handlers: &Handlers,
+        out: &mut Vec<u8>,
+        steps: &mut Steps<L>,
+    ) -> Result<Applied, ApplyError>
+        requires few { self.old.count < 2 ^ 48 }
+        requires handlers { self.old.labels
+            ≡ (labels handlers.now.items.items (λ h. h.name) (λ h. h.kind)) }
+        requires some { (statement : a_statement) × (IsMemberOf self.old statement member) }
+        ensures applies { (statement : a_statement) → IsMemberOf self.old statement member
+            → Applies self.old (Command.Create statement)
+            out.old.items result self.new out.new.items }
+    {
+        self.roll.facts();
+        let plan = plan(alloc, &member.query)?;
         let applied = self.accept(out)?;
         self.creates += 1;
         self.roll.add(alloc, member, &plan, &self.store, steps)?;
