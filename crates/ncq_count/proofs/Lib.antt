@@ -1,0 +1,6 @@
+pub mod KeyLaws
+pub mod Tallies
+pub mod TellLaws
+pub mod CountLaws
+pub mod LineLaws
+pub mod SameExprs
