@@ -1,5 +1,5 @@
 -- The counts of groups, as a file comes and goes.
-use Rattle.std.proofs.Common.{◌≡◌, ◌≢◌, ℕ, ◌+◌, ◌-◌, ◌<◌, Bool, true, false, cond, List, [], Option, Some, None, inl, inr, refl, sym, ap, ◌∙◌, subst, arith}
+use Rattle.std.proofs.Common.{◌≡◌, ◌≢◌, ℕ, ◌+◌, ◌-◌, ◌<◌, true, false, cond, List, [], Some, None, inl, inr, refl, sym, ap, ◌∙◌, subst, arith}
 use Rattle.std.specs.Map.{lookup}
 use Rattle.std.specs.Option.{unwrap_or}
 use Rattle.std.specs.Ordering.{nat_cmp}
@@ -14,7 +14,7 @@ use Rattle.ncq_shelf.specs.KeptFiles.{KeptFile, Files}
 use Rattle.ncq_shelf.specs.Stands.{Stands, IsGrounded, IsIdle}
 use Rattle.ncq_shelf.specs.Inputs.{AreInputs}
 use Rattle.ncq_shelf.specs.declared.inputs.Inputs.{Inputs}
-use Rattle.ncq_shelf.proofs.CallerLemmas.{put_same, put_other, gone_same, gone_other, there, one_value, rest_stays, are_inputs_more}
+use Rattle.ncq_shelf.proofs.CallerLemmas.{put_same, put_other, gone_other, there, one_value, rest_stays, are_inputs_more}
 use Rattle.ncq_count.specs.declared.key.GroupKey.{GroupKey}
 use Rattle.ncq_count.specs.FileExprs.{exprs_of}
 use Rattle.ncq_count.specs.Keys.{Tells, file_of}

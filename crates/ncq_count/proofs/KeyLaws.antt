@@ -1,5 +1,5 @@
 -- Which keys and which signatures are one.
-use Rattle.std.proofs.Common.{◌≡◌, ◌≢◌, ◌⊎◌, ℕ, Bool, true, false, ◌&&◌, inl, inr, refl, sym, ap, ◌∙◌, subst, true≢false}
+use Rattle.std.proofs.Common.{◌≡◌, Bool, true, false, refl, sym, ap}
 use Rattle.std.proofs.lemmas.Bool.{eqb-true, eq-eqb, and_parts, and_from}
 use Rattle.ncq_base.specs.Exact.{exact_is, exact_itself}
 use Rattle.ncq_signature.specs.declared.signature.Signature.{Signature}

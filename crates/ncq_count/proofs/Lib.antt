@@ -4,3 +4,4 @@ pub mod TellLaws
 pub mod CountLaws
 pub mod LineLaws
 pub mod SameExprs
+pub mod CallerLemmas

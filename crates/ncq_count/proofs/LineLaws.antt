@@ -1,27 +1,26 @@
 -- The lines of the groups that are counted.
-use Rattle.std.proofs.Common.{◌≡◌, ℕ, ◌<◌, Bool, true, false, cond, ◌||◌, List, [], ◌∷◌, ◌++◌, map, Option, Some, None, inl, inr, refl, sym, ap, ◌∙◌, subst, append_assoc, append-nil}
+use Rattle.std.proofs.Common.{◌≡◌, ℕ, ◌<◌, Bool, true, false, cond, ◌||◌, List, [], ◌∷◌, ◌++◌, map, Some, None, refl, sym, ap, ◌∙◌, subst, append_assoc, append-nil}
 use Rattle.std.specs.List.{AllByRecursion, IsDistinct, list_any, filter_map}
 use Rattle.std.specs.Map.{lookup, keys_of}
 use Rattle.std.specs.Option.{option_map}
 use Rattle.std.specs.FinMap.{get}
-use Rattle.std.proofs.lemmas.Map.Keys.{IsDistinct-head, IsDistinct-tail, IsDistinct-cons}
+use Rattle.std.proofs.lemmas.Map.Keys.{IsDistinct-head, IsDistinct-tail}
 use Rattle.ncq_base.specs.Exact.{exact_equiv}
-use Rattle.ncq_plan.specs.declared.expr.Expr.{Expr}
 use Rattle.ncq_signature.specs.declared.signature.Signature.{Signature}
 use Rattle.ncq_signature.specs.contracts.signature.Signature.{the_row as signature_row}
 use Rattle.ncq_signature.specs.declared.group.GroupLine.{GroupLine}
 use Rattle.ncq_signature.specs.Signatures.{signature_of}
 use Rattle.ncq_signature.specs.SignatureTexts.{signature_text}
-use Rattle.ncq_signature.specs.Groups.{is_signature, is_of_selections, count_of, line_of, AreSignaturesOf}
+use Rattle.ncq_signature.specs.Groups.{is_signature, count_of, line_of, AreSignaturesOf}
 use Rattle.ncq_shelf.specs.KeptFiles.{KeptFile, Files}
-use Rattle.ncq_shelf.specs.Stands.{Stands, IsGrounded}
+use Rattle.ncq_shelf.specs.Stands.{IsGrounded}
 use Rattle.ncq_shelf.proofs.CallerLemmas.{there}
 use Rattle.ncq_count.specs.declared.key.GroupKey.{GroupKey}
 use Rattle.ncq_count.specs.FileExprs.{exprs_of}
 use Rattle.ncq_count.specs.Keys.{Tells, file_of, selects, told_by}
 use Rattle.ncq_count.specs.Counted.{is_key, count_at, AreCounted}
-use Rattle.ncq_count.proofs.KeyLaws.{key_is, key_itself, signature_is, signature_itself}
-use Rattle.ncq_count.proofs.Tallies.{HasSignature, signature_counted, any_has, each_expr}
+use Rattle.ncq_count.proofs.KeyLaws.{key_is, key_itself, signature_itself}
+use Rattle.ncq_count.proofs.Tallies.{signature_counted, any_has, each_expr}
 use Rattle.ncq_count.proofs.TellLaws.{tells_one, has_key}
 use Rattle.ncq_count.proofs.CountLaws.{Counts, count_there, there_if_counted, tests_agree}
 

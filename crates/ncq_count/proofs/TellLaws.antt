@@ -1,10 +1,8 @@
 -- The signatures that keys tell: one each, and each file's by one key.
-use Rattle.std.proofs.Common.{◌≡◌, ℕ, ◌<◌, List, Bool, true, false, Some, inl, inr, refl, sym, ap, ◌∙◌, subst, true≢false}
-use Rattle.std.specs.FinMap.{get}
+use Rattle.std.proofs.Common.{◌≡◌, ℕ, List, false, inl, inr, refl, sym, ap, ◌∙◌, subst, true≢false}
 use Rattle.ncq_base.specs.declared.atom.Atom.{Atom}
 use Rattle.ncq_base.specs.declared.interval.Interval.{Interval}
 use Rattle.ncq_row.specs.declared.pair.Pair.{Pair}
-use Rattle.ncq_row.specs.declared.shape.Shape.{Shape}
 use Rattle.ncq_plan.specs.declared.expr.Expr.{Expr}
 use Rattle.ncq_plan.specs.declared.expr.Expr.TheVariants.{Scan, EqSel, RangeSel, Join}
 use Rattle.ncq_plan.proofs.CallerLemmas.{expr_cases}
@@ -22,7 +20,7 @@ use Rattle.ncq_shelf.specs.declared.inputs.Inputs.TheVariants.{Nothing, One, Two
 use Rattle.ncq_shelf.proofs.CallerLemmas.{one_value, equal-input_of, range-input_of, only_told}
 use Rattle.ncq_count.specs.declared.key.GroupKey.{GroupKey}
 use Rattle.ncq_count.specs.declared.key.GroupKey.TheVariants.{Alone, Equals, Ranges}
-use Rattle.ncq_count.specs.Keys.{Tells, file_of, selects, told_by}
+use Rattle.ncq_count.specs.Keys.{Tells, file_of, told_by}
 
 -- each expression has one file at most
 abbrev pub OneEach : Files → Type 0

@@ -3,7 +3,7 @@ use Rattle.std.specs.Prelude.{◌≡◌, ◌≢◌, ◌⊎◌, ℕ, ◌+◌, ◌
 use Rattle.std.specs.FinMap.{get}
 use Rattle.ncq_base.specs.Counts.{total_by}
 use Rattle.ncq_plan.specs.declared.expr.Expr.{Expr}
-use Rattle.ncq_plan.specs.Exprs.{World, rows_in}
+use Rattle.ncq_plan.specs.Exprs.{World, operators, rows_in}
 use Rattle.ncq_shelf.specs.Parts.{IsPart}
 use Rattle.ncq_shelf.specs.KeptFiles.{KeptFile, Files}
 use Rattle.ncq_shelf.specs.Stands.{Stands}
@@ -36,6 +36,7 @@ pub record IsInstalled (expr : Expr) (old new : TableState) (number : ℕ) : Typ
   pub dense : (other : ℕ) → old.next_file ≤ other → other < new.next_file
       → (file : KeptFile) × (get new.files other ≡ Some file)
   pub order : old.next_file ≤ new.next_file
+  pub room : new.next_file ≤ old.next_file + operators expr
   pub same : new.number ≡ old.number
 
 -- the expression stands in the list

@@ -1,4 +1,4 @@
-use Rattle.std.proofs.Common.{◌++◌, map, ap, ◌∙◌, sym, subst}
+use Rattle.std.proofs.Common.{◌++◌, map, sym, subst}
 use Rattle.ncq_signature.specs.Groups.{line_of}
 use Rattle.ncq_count.specs.FileExprs.{exprs_of}
 use Rattle.ncq_count.proofs.LineLaws.{AreRight, signatures_of, all_right, are_signatures, line_is, line_more, lines_all}

@@ -1,4 +1,4 @@
-use Rattle.std.proofs.Common.{[], refl, sym, subst}
+use Rattle.std.proofs.Common.{sym, subst}
 use Rattle.ncq_count.specs.Counted.{AreCounted}
 use Rattle.ncq_count.proofs.CountLaws.{nothing_counted}
 use Rattle.ncq_count.proofs.shelf.CountedShelf.new.Goals as goal
