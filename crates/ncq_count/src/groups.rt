@@ -46,7 +46,7 @@ impl Groups {
         ensures { LosesFile self.old.counts.entries key self.new.counts.entries }
     {
         let Some(count) = self.counts.get_mut(&key) else {
-            return;
+            unreachable!()
         };
         *count -= 1;
         if *count != 0 {

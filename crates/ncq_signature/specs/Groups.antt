@@ -54,5 +54,5 @@ line_cmp a b = ordering_then (slice_cmp nat_cmp a.text b.text) (nat_cmp a.consta
 pub record AreGroupLines (exprs : List Expr) (lines : List GroupLine) : Type 0 where
   pub signatures : List Signature
   pub are : AreSignaturesOf exprs signatures
-  pub each : IsPermutation (map (line_of exprs) signatures) lines
+  pub permutation : IsPermutation (map (line_of exprs) signatures) lines
   pub order : IsSorted line_cmp lines
