@@ -1,5 +1,5 @@
 -- What the removal of an idle file leaves.
-use Rattle.std.proofs.Common.{◌≡◌, ◌≢◌, ℕ, ◌<◌, Some, ◌⊎◌, inl, inr, refl, sym, ap, ◌∙◌, subst, arith}
+use Rattle.std.proofs.Common.{◌≡◌, ◌≢◌, ℕ, ◌<◌, Some, ◌⊎◌, inl, inr, refl, ap, ◌∙◌, subst, arith}
 use Rattle.std.proofs.lemmas.Bool.{cases_eq}
 use Rattle.std.specs.FinMap.{get, remove}
 use Rattle.ncq_plan.specs.declared.expr.Expr.{Expr}
@@ -9,9 +9,10 @@ use Rattle.ncq_shelf.specs.Stands.{Stands, IsReadIn, IsIdle, IsGrounded}
 use Rattle.ncq_group.specs.Closure.{IsNeeded}
 use Rattle.ncq_group.specs.Closure.IsNeeded.{used, read}
 use Rattle.ncq_group.specs.Collected.{IsCollected}
-use Rattle.ncq_shelf.specs.Inputs.{IsOnlyInput, AreSides, AreInputs}
+use Rattle.ncq_shelf.specs.Inputs.{AreInputs}
 use Rattle.ncq_shelf.specs.declared.inputs.Inputs.TheVariants.{Nothing, One, Two}
-use Rattle.ncq_shelf.proofs.CallerLemmas.{gone_same, gone_other, there, one_value, rest_stays, only_told, sides_told, side_reads-left, side_reads-right}
+pub use Rattle.ncq_count.proofs.CallerLemmas.{grounded_rest}
+use Rattle.ncq_shelf.proofs.CallerLemmas.{gone_same, gone_other, there, one_value, rest_stays, only_told, sides_told}
 
 -- an expression that has a file in less files has it in more
 pub stands_more : {less more : Files} {expr : Expr} {number : ℕ} → ((n : ℕ) (f : KeptFile) → get less n ≡ Some f → get more n ≡ Some f) → Stands less expr number → Stands more expr number
@@ -42,19 +43,6 @@ module _ (old : Files) (number : ℕ) (idle : IsIdle old number) where
 
   pub kept_rest : (other : ℕ) → IsNeeded old other → get (remove old number) other ≡ get old other
   kept_rest other needed = gone_other old number other (needed_apart other needed)
-
-  pub grounded_rest : IsGrounded old → IsGrounded (remove old number)
-  grounded_rest g = record {
-    distinct = λ first second expr s t. g.distinct first second expr (stands_more (rest_stays old number) s) (stands_more (rest_stays old number) t);
-    inputs = λ other file input at reads.
-        let before = rest_stays old number other file at in
-        let below = g.inputs other file input before reads in
-        let apart : below.0 ≢ number = λ same.
-        let s : Stands old input number = subst (Stands old input) same below.2 in
-        let e : s.file ≡ idle.file = one_value s.at idle.at in
-        idle.unread (record { reader = other; file = file; at = before; reads = subst (λ x. IsInput x file.expr) (sym s.of ∙ ap (λ f. f.expr) e) reads }) in
-        (below.0, below.1, record { file = below.2.file; at = gone_other old number below.0 apart ∙ below.2.at; of = below.2.of });
-  }
 
   -- what was read is still read, or is an input of what went
   pub read_rest : (other : ℕ) (file : KeptFile) → get (remove old number) other ≡ Some file → IsReadIn old file.expr → IsReadIn (remove old number) file.expr ⊎ IsInput file.expr idle.file.expr

@@ -19,7 +19,8 @@ use Rattle.ncq_shelf.specs.declared.inputs.Inputs.{Inputs}
 use Rattle.ncq_shelf.specs.declared.inputs.Inputs.TheVariants.{Nothing, One, Two}
 use Rattle.ncq_group.specs.Installs.{IsFresh}
 use Rattle.ncq_group.specs.Grown.{IsGrown, OnlyUnread}
-use Rattle.ncq_shelf.proofs.CallerLemmas.{put_same, put_other, one_value, there, only_told, sides_told}
+use Rattle.ncq_shelf.proofs.CallerLemmas.{put_same, put_other, one_value, only_told, sides_told}
+use Rattle.ncq_count.proofs.CallerLemmas.{OneEach, distinct_added}
 use Rattle.ncq_group.proofs.Collects.{stands_more, read_more}
 
 abbrev pub AreBelow : Files → ℕ → Type 0
@@ -103,26 +104,11 @@ module _ (now : ℕ) (world : World) where
       | inr differs ↦ inr (sym (at_other other differs) ∙ at)
     ]
 
-    stands_new : {expr : Expr} {other : ℕ} → Stands new expr other → ((other ≡ number) × (expr ≡ whole)) ⊎ Stands mid expr other
-    stands_new {other = other} s = elim (from_new other s.file s.at) [
-      | inl here ↦ inl (here.0, sym s.of ∙ ap (λ f. f.expr) here.1)
-      | inr at ↦ inr (record { file = s.file; at = at; of = s.of })
-    ]
-
     pub stands_added : Stands new whole number
     stands_added = record { file = added; at = at_number; of = refl }
 
-    distinct_new : (first second : ℕ) (expr : Expr) → Stands new expr first → Stands new expr second → first ≡ second
-    distinct_new first second expr s t = elim (stands_new s) [
-      | inl here ↦ elim (stands_new t) [
-        | inl there ↦ here.0 ∙ sym there.0
-        | inr mid_t ↦ absurd (absent second (subst (λ e. Stands mid e second) here.1 mid_t))
-      ]
-      | inr mid_s ↦ elim (stands_new t) [
-        | inl there ↦ absurd (absent first (subst (λ e. Stands mid e first) there.1 mid_s))
-        | inr mid_t ↦ g.ready.grounded.distinct first second expr mid_s mid_t
-      ]
-    ]
+    distinct_new : OneEach new
+    distinct_new = subst OneEach (sym is) (distinct_added mid g.ready.grounded number added (absent_from mid number number g.below (omega arith)) absent)
 
     module _ (inputs : Inputs) (are : AreInputs mid whole inputs) where
       pub input_stands : (input : Expr) → IsInput input whole → (below : ℕ) × Stands mid input below

@@ -1,5 +1,5 @@
 -- The inputs of each operator, and what is added for them.
-use Rattle.std.proofs.Common.{◌≡◌, ℕ, ◌<◌, ◌≤◌, ◌+◌, ◌^◌, List, ◌⊎◌, inl, inr, Bool, true, false, ◌&&◌, true≢false, refl, ◌∙◌, sym, subst, arith}
+use Rattle.std.proofs.Common.{◌≡◌, ℕ, ◌<◌, ◌≤◌, ◌+◌, ◌^◌, List, ◌⊎◌, Bool, true, false, ◌&&◌, true≢false, refl, ◌∙◌, sym, subst, arith}
 use Rattle.ncq_base.specs.declared.atom.Atom.{Atom}
 use Rattle.ncq_row.specs.declared.pair.Pair.{Pair}
 use Rattle.ncq_plan.specs.declared.expr.Expr.{Expr}

@@ -1,5 +1,5 @@
 -- A table whose files have other rows.
-use Rattle.std.proofs.Common.{◌≡◌, ℕ, ◌<◌, ◌≤◌, true, false, cond, nat_le, List, [], ◌∷◌, length, Some, None, Option, refl, sym, ap, ◌∙◌, subst}
+use Rattle.std.proofs.Common.{◌≡◌, ℕ, ◌<◌, ◌≤◌, true, false, cond, nat_le, List, [], ◌∷◌, length, Some, None, refl, sym, ap, ◌∙◌, subst}
 use Rattle.std.specs.List.{AllByRecursion}
 use Rattle.std.specs.Option.{option_map}
 use Rattle.std.specs.FinMap.{get}
@@ -11,7 +11,7 @@ use Rattle.ncq_midfile.specs.Content.{up_to}
 use Rattle.ncq_midfile.specs.declared.signed.SignedRow.{SignedRow}
 use Rattle.ncq_shelf.specs.Parts.{IsInput}
 use Rattle.ncq_shelf.specs.KeptFiles.{KeptFile, Files}
-use Rattle.ncq_shelf.specs.Stands.{Stands, IsReadIn, IsGrounded}
+use Rattle.ncq_shelf.specs.Stands.{Stands, IsReadIn}
 use Rattle.ncq_shelf.specs.Contents.{IsUpTo, AreUpTo, AreWide, IsWide, cut_to}
 use Rattle.ncq_shelf.proofs.CallerLemmas.{there, one_value}
 use Rattle.ncq_group.specs.Tables.{TableState, Facts}

@@ -1,19 +1,20 @@
 -- What the tests keep about a table: how many uses each file has, and that its expressions are well formed.
-use Rattle.std.proofs.Common.{◌≡◌, ◌≢◌, ℕ, ◌+◌, ◌-◌, ◌<◌, ◌≤◌, ◌^◌, ◌&&◌, Bool, true, false, cond, Option, List, [], ◌∷◌, ◌++◌, length, Some, None, inl, inr, refl, sym, ap, ◌∙◌, subst, arith}
+use Rattle.std.proofs.Common.{◌≡◌, ◌≢◌, ℕ, zero, suc, ◌+◌, ◌-◌, ◌<◌, ◌≤◌, ◌^◌, ◌&&◌, Bool, true, false, cond, Option, List, [], ◌∷◌, ◌++◌, length, get_or, Some, None, inl, inr, refl, sym, ap, ◌∙◌, subst, arith}
 use Rattle.std.specs.Prelude.{nat_eq, nat_lt}
-use Rattle.std.specs.List.{filter}
+use Rattle.std.specs.List.{filter, remove}
 use Rattle.std.specs.Option.{option_map, unwrap_or}
 use Rattle.std.specs.FinMap.{get, empty}
 use Rattle.std.proofs.lemmas.Bool.{cases_eq, cases_lt, eq-eqb, ne_eqb}
 use Rattle.std.proofs.lemmas.Bool.Decides.{nat_tests}
 use Rattle.ncq_base.specs.declared.atom.Atom.{Atom}
+use Rattle.ncq_base.specs.declared.interval.Interval.{Interval}
 use Rattle.ncq_row.specs.declared.shape.Shape.{Shape}
 use Rattle.ncq_row.specs.Widths.{width}
 use Rattle.ncq_plan.specs.declared.expr.Expr.{Expr}
-use Rattle.ncq_plan.specs.declared.expr.Expr.TheVariants.{Scan, EqSel, Join}
+use Rattle.ncq_plan.specs.declared.expr.Expr.TheVariants.{Scan, EqSel, RangeSel, Join}
 use Rattle.ncq_plan.specs.Exprs.{World, expr_width, operators, rows_in}
 use Rattle.ncq_plan.specs.WellFormed.{slots_fit}
-use Rattle.ncq_plan.proofs.CallerLemmas.{width_scan, width_equal, width_join, operators_scan, operators_equal, operators_join, fit_scan, fit_equal, fit_join}
+use Rattle.ncq_plan.proofs.CallerLemmas.{width_scan, width_equal, width_range, width_join, operators_scan, operators_equal, operators_range, operators_join, fit_scan, fit_equal, fit_range, fit_join}
 use Rattle.ncq_midfile.specs.Content.{IsContent}
 use Rattle.ncq_shelf.specs.KeptFiles.{KeptFile, Files}
 use Rattle.ncq_shelf.specs.Stands.{IsThere}
@@ -48,6 +49,14 @@ equal_built most input constant built =
     let f = built.0 in
     let b = built.2 in
     (omega arith, fit_equal input 0 constant ∙ both (slots_fit input) (nat_lt 0 (expr_width input)) built.1 (below 0 (expr_width input) b), omega arith)
+
+pub range_built : (most : ℕ) (input : Expr) (interval : Interval) → IsBuilt most input → IsBuilt (most + 1) (RangeSel input 0 interval)
+range_built most input interval built =
+    let o = operators_range input 0 interval in
+    let w = width_range input 0 interval in
+    let f = built.0 in
+    let b = built.2 in
+    (omega arith, fit_range input 0 interval ∙ both (slots_fit input) (nat_lt 0 (expr_width input)) built.1 (below 0 (expr_width input) b), omega arith)
 
 pub join_built : (most more : ℕ) (left right : Expr) → IsBuilt most left → IsBuilt more right → IsBuilt (most + more + 1) (Join left right [])
 join_built most more left right l r =
@@ -99,6 +108,24 @@ times_other number other (first ∷ list) differs =
     let was = step number first list in
     omega arith
 
+times_push : (number other : ℕ) (list : List ℕ) → times number (list ++ other ∷ []) ≡ one (nat_eq number other) + times number list
+times_push number other [] = step number other []
+times_push number other (first ∷ list) =
+    let rest = times_push number other list in
+    let more = step number first (list ++ other ∷ []) in
+    let was = step number first list in
+    omega arith
+
+-- what is taken out and put behind stands as often
+times_moved : (number other at : ℕ) (list : List ℕ) → at < length list → other ≡ get_or list at other → times number (remove list at ++ other ∷ []) ≡ times number list
+times_moved number other at [] within is = absurd (omega arith)
+times_moved number other zero (first ∷ list) within is = times_push number other list ∙ ap (λ n. one (nat_eq number n) + times number list) is ∙ sym (step number first list)
+times_moved number other (suc at) (first ∷ list) within is =
+    let rest = times_moved number other at list (omega arith) is in
+    let more = step number first (remove list at ++ other ∷ []) in
+    let was = step number first list in
+    omega arith
+
 pub times_few : (number : ℕ) (list : List ℕ) → times number list ≤ length list
 times_few number [] = omega arith
 times_few number (first ∷ list) =
@@ -138,6 +165,10 @@ module _ (files : Files) (list : List ℕ) where
       | inr others ↦ let z = ap uses_in none in omega arith
     ]
   ] refl
+
+-- a use may be taken out and put behind the others
+pub uses_moved : (files : Files) (list : List ℕ) (at other : ℕ) → at < length list → other ≡ get_or list at other → AreUses files list → AreUses files (remove list at ++ other ∷ [])
+uses_moved files list at other within is u number = u number ∙ sym (times_moved number other at list within is)
 
 pub few_uses : (files : Files) (list : List ℕ) → AreUses files list → length list < 100 → (number : ℕ) (file : KeptFile) → get files number ≡ Some file → file.uses < 2 ^ 64 - 1
 few_uses files list u short number file at = let a = (told files list u).uses number file at in let b = times_few number list in omega arith

@@ -2,10 +2,11 @@
 ghost use Rattle.ncq_shelf.specs.Stands.{IsGrounded};
 ghost use Rattle.ncq_group.specs.Collected.{IsCollected};
 
-use ncq_shelf::{Inputs, Shelf};
+use ncq_count::CountedShelf;
+use ncq_shelf::Inputs;
 
 /// Takes the file away if nothing needs it, and then what it alone needed. It takes no memory.
-pub(crate) fn collect(shelf: &mut Shelf, number: u64)
+pub(crate) fn collect(shelf: &mut CountedShelf, number: u64)
     requires { IsGrounded shelf.old }
     ensures grounded { IsGrounded shelf.new }
     ensures collected { IsCollected shelf.old number shelf.new }

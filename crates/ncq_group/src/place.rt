@@ -9,7 +9,7 @@ ghost use Rattle.ncq_plan.specs.Exprs.{operators};
 ghost use Rattle.ncq_plan.specs.WellFormed.{IsWellFormedExpr};
 ghost use Rattle.ncq_shelf.specs.KeptFiles.{KeptFile};
 ghost use Rattle.ncq_shelf.specs.Parts.{IsInput};
-ghost use Rattle.ncq_shelf.specs.Stands.{Stands};
+ghost use Rattle.ncq_shelf.specs.Stands.{IsGrounded, Stands};
 ghost use Rattle.ncq_shelf.specs.Inputs.{AreInputs};
 ghost use Rattle.ncq_feed.specs.Feeds.{AreReady};
 ghost use Rattle.ncq_group.specs.Closure.{IsKept};
@@ -17,7 +17,6 @@ ghost use Rattle.ncq_group.specs.Grown.{HasMade, IsGrown, IsPut, OnlyUnread};
 
 use crate::filed::Filed;
 use ncq_base::Steps;
-use ncq_fill::first_rows;
 use ncq_midfile::MidFile;
 use ncq_plan::Expr;
 use ncq_row::Rows;
@@ -53,7 +52,7 @@ pub(crate) fn place<L: Ledger>(
     if let Some(number) = filed.shelf.find(expr) {
         return Ok(number);
     }
-    let rows = first_rows(alloc, &mut filed.shelf, expr, inputs, store, steps)?;
+    let rows = filed.shelf.first_rows(alloc, expr, inputs, store, steps)?;
     let number = put(alloc, filed, expr, inputs, store.changes(), rows)?;
     Ok(number)
 }
@@ -109,6 +108,7 @@ fn put(
     now: u64,
     rows: Rows,
 ) -> Result<u64, AllocError>
+    requires grounded { IsGrounded filed.old.shelf }
     requires absent { get filed.old.shelf filed.old.next ≡ None }
     requires new { (number : ℕ) → Stands filed.old.shelf expr.now number → ⊥ }
     requires inputs { AreInputs filed.old.shelf expr.now inputs }

@@ -7,10 +7,12 @@ ghost use Rattle.ncq_plan.specs.declared.expr.Expr.{Expr as an_expr};
 ghost use Rattle.ncq_plan.specs.WellFormed.{IsWellFormedExpr};
 ghost use Rattle.ncq_midfile.specs.Content.{IsSoundAt};
 ghost use Rattle.ncq_change.specs.Stores.{world_in};
+ghost use Rattle.ncq_signature.specs.Groups.{AreGroupLines};
 ghost use Rattle.ncq_shelf.specs.KeptFiles.{KeptFile};
 ghost use Rattle.ncq_shelf.specs.Stands.{IsThere};
 ghost use Rattle.ncq_shelf.specs.Contents.{Fits, IsCompacted, cut_to};
 ghost use Rattle.ncq_feed.specs.Feeds.{IsPreparedFrom, AreFed, world_after, feed_work};
+ghost use Rattle.ncq_count.specs.FileExprs.{exprs_of};
 ghost use Rattle.ncq_group.specs.Installs.{IsInstalled, NamesTheMissing, rows_of_all};
 ghost use Rattle.ncq_group.specs.Releases.{HasUse, IsReleased};
 ghost use Rattle.ncq_group.specs.Tables.{Facts};
@@ -21,10 +23,10 @@ use crate::mark::GroupMark;
 use crate::place::place;
 use crate::undo::cut;
 use ncq_base::{FileId, Steps};
-use ncq_feed::feed;
+use ncq_count::CountedShelf;
 use ncq_midfile::MidFile;
 use ncq_plan::Expr;
-use ncq_shelf::Shelf;
+use ncq_signature::GroupLines;
 use ncq_source::{Change, Store};
 use std::alloc::{AllocError, Global};
 use std::marker::Model;
@@ -67,7 +69,7 @@ impl GroupTable {
     {
         GroupTable {
             filed: Filed {
-                shelf: Shelf::new(alloc),
+                shelf: CountedShelf::new(alloc),
                 next: 0,
             },
             number: 0,
@@ -109,6 +111,14 @@ impl GroupTable {
             → result.now ≡ kept.content }
     {
         self.filed.shelf.content(file.0)
+    }
+
+    /// A line for each group of the files' expressions, in the order of a report. The work grows
+    /// with the groups, not with their files. The only error is that memory ran out.
+    pub fn groups(&self, alloc: Global) -> Result<GroupLines, AllocError>
+        ensures { IfOk result (AreGroupLines (exprs_of self.now.files)) }
+    {
+        self.filed.shelf.groups(alloc)
     }
 
     /// How far the table is now. It takes no memory.
@@ -193,7 +203,7 @@ impl GroupTable {
         ensures err { OnErr result (self.new ≡ self.old) }
         ensures cost { steps.new ≤ steps.old + feed_work store.now change.now self.old.files }
     {
-        feed(alloc, &mut self.filed.shelf, change, store, steps)?;
+        self.filed.shelf.feed(alloc, change, store, steps)?;
         self.number += 1;
         Ok(())
     }

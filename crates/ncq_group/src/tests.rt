@@ -1,8 +1,10 @@
-//! Tables that expressions come into and go out of, with the files that stand then, worked out by
-//! hand.
+//! Tables that expressions come into and go out of, with the files and the groups that stand then,
+//! worked out by hand.
 //!
 //! Each letter is an expression. `Q` has the quotes and `C` the companies, `W` and `M` those quotes
-//! whose text is `INTC` and `MSFT`, and `J` each row of `W` followed by each of `C`.
+//! whose text is `INTC` and `MSFT`, `N` and `D` those that are the number 1, spelled `1` and `1.0`,
+//! and `R` those from 1 to below 10. `E` has those of `W` whose text is `INTC`, `J` each row of `W`
+//! followed by each of `C`, and `S` each row of `W` followed by each of `W`.
 ghost use Rattle.std.specs.Prelude.{◌≡◌, ◌<◌, ◌≤◌, ℕ, true, nat_eq, length, IfOk, OnOk};
 ghost use Rattle.std.specs.FinMap.{get};
 ghost use Rattle.std.specs.List.{filter};
@@ -14,8 +16,9 @@ ghost use Rattle.ncq_change.specs.Stores.{world_in};
 ghost use Rattle.ncq_shelf.specs.Contents.{Fits};
 
 use crate::GroupTable;
-use ncq_base::{FileId, Own, Steps, atom_of, bytes_of};
-use ncq_plan::Expr;
+use Turn::{Install, Release};
+use ncq_base::{FileId, Own, Steps, atom_of, bytes_of, write_decimal};
+use ncq_plan::{End, Expr, Interval};
 use ncq_row::{Names, Pairs, Shape, ShapeContent, ShapeSuffix};
 use ncq_source::Store;
 use std::alloc::{AllocError, Global};
@@ -24,57 +27,118 @@ use std::marker::Brand;
 use std::sync::ledger::{Blank, Ledger};
 use std::test::Fail;
 
-/// Turns: the letter of the expression that is installed, or `-` where the last use that is left is
-/// given up; how many files there are then, and the number that the next new one gets.
-const RUNS: [&[(u8, usize, u64)]; 4] = [
+/// What is done to a table.
+#[derive(Clone, Copy)]
+enum Turn {
+    /// One more use of the expression of this letter.
+    Install(u8),
+    /// Of the uses that are left, the oldest first, the one at this place is given up.
+    Release(usize),
+}
+
+/// A turn, how many files there are then, the number that the next new one gets, and the groups in
+/// the order of their lines, each by the letter of one of its expressions and its constants.
+type Row = (Turn, usize, u64, &'static str);
+
+const RUNS: [&[Row]; 6] = [
     // What has a file gets no other.
     &[
-        (b'W', 2, 2),
-        (b'W', 2, 2),
-        (b'M', 3, 3),
-        (b'J', 5, 5),
-        (b'-', 3, 5),
-        (b'-', 2, 5),
-        (b'-', 2, 5),
-        (b'-', 0, 5),
+        (Install(b'W'), 2, 2, "W1 Q0"),
+        (Install(b'W'), 2, 2, "W1 Q0"),
+        (Install(b'M'), 3, 3, "W2 Q0"),
+        (Install(b'J'), 5, 5, "W2 J0 C0 Q0"),
+        (Release(3), 3, 5, "W2 Q0"),
+        (Release(2), 2, 5, "W1 Q0"),
+        (Release(1), 2, 5, "W1 Q0"),
+        (Release(0), 0, 5, ""),
     ],
     // What is a part of another is there already, and stays until the last use of either is gone.
     &[
-        (b'J', 4, 4),
-        (b'W', 4, 4),
-        (b'W', 4, 4),
-        (b'C', 4, 4),
-        (b'M', 5, 5),
-        (b'Q', 5, 5),
-        (b'-', 5, 5),
-        (b'-', 4, 5),
-        (b'-', 4, 5),
-        (b'-', 4, 5),
-        (b'-', 4, 5),
-        (b'-', 0, 5),
+        (Install(b'J'), 4, 4, "W1 J0 C0 Q0"),
+        (Install(b'W'), 4, 4, "W1 J0 C0 Q0"),
+        (Install(b'W'), 4, 4, "W1 J0 C0 Q0"),
+        (Install(b'C'), 4, 4, "W1 J0 C0 Q0"),
+        (Install(b'M'), 5, 5, "W2 J0 C0 Q0"),
+        (Install(b'Q'), 5, 5, "W2 J0 C0 Q0"),
+        (Release(5), 5, 5, "W2 J0 C0 Q0"),
+        (Release(4), 4, 5, "W1 J0 C0 Q0"),
+        (Release(3), 4, 5, "W1 J0 C0 Q0"),
+        (Release(2), 4, 5, "W1 J0 C0 Q0"),
+        (Release(1), 4, 5, "W1 J0 C0 Q0"),
+        (Release(0), 0, 5, ""),
     ],
     // An input that is used stays, and its reader goes.
     &[
-        (b'Q', 1, 1),
-        (b'W', 2, 2),
-        (b'-', 1, 2),
-        (b'C', 2, 3),
-        (b'J', 4, 5),
-        (b'-', 2, 5),
-        (b'-', 1, 5),
-        (b'-', 0, 5),
+        (Install(b'Q'), 1, 1, "Q0"),
+        (Install(b'W'), 2, 2, "W1 Q0"),
+        (Release(1), 1, 2, "Q0"),
+        (Install(b'C'), 2, 3, "C0 Q0"),
+        (Install(b'J'), 4, 5, "W1 J0 C0 Q0"),
+        (Release(2), 2, 5, "C0 Q0"),
+        (Release(1), 1, 5, "Q0"),
+        (Release(0), 0, 5, ""),
     ],
     // A number is not given twice.
     &[
-        (b'W', 2, 2),
-        (b'-', 0, 2),
-        (b'W', 2, 4),
-        (b'M', 3, 5),
-        (b'-', 2, 5),
-        (b'M', 3, 6),
-        (b'-', 2, 6),
-        (b'-', 0, 6),
+        (Install(b'W'), 2, 2, "W1 Q0"),
+        (Release(0), 0, 2, ""),
+        (Install(b'W'), 2, 4, "W1 Q0"),
+        (Install(b'M'), 3, 5, "W2 Q0"),
+        (Release(1), 2, 5, "W1 Q0"),
+        (Install(b'M'), 3, 6, "W2 Q0"),
+        (Release(1), 2, 6, "W1 Q0"),
+        (Release(0), 0, 6, ""),
     ],
+    // The first use of `W` is given up first and the other last: a file stays while one is left.
+    &[
+        (Install(b'W'), 2, 2, "W1 Q0"),
+        (Install(b'W'), 2, 2, "W1 Q0"),
+        (Install(b'M'), 3, 3, "W2 Q0"),
+        (Install(b'J'), 5, 5, "W2 J0 C0 Q0"),
+        (Release(0), 5, 5, "W2 J0 C0 Q0"),
+        (Release(1), 4, 5, "W1 J0 C0 Q0"),
+        (Release(1), 2, 5, "W1 Q0"),
+        (Release(0), 0, 5, ""),
+    ],
+    // Expressions that differ in a constant are one group, and numbers that differ in their
+    // spelling are one constant of it. A group goes with its last file.
+    &[
+        (Install(b'N'), 2, 2, "W1 Q0"),
+        (Install(b'D'), 2, 2, "W1 Q0"),
+        (Install(b'E'), 4, 4, "E1 W2 Q0"),
+        (Install(b'R'), 5, 5, "E1 W2 R1 Q0"),
+        (Install(b'S'), 6, 6, "E1 W2 S0 R1 Q0"),
+        (Install(b'C'), 7, 7, "E1 W2 S0 R1 C0 Q0"),
+        (Install(b'J'), 8, 8, "E1 W2 S0 J0 R1 C0 Q0"),
+        (Install(b'M'), 9, 9, "E1 W3 S0 J0 R1 C0 Q0"),
+        (Release(0), 9, 9, "E1 W3 S0 J0 R1 C0 Q0"),
+        (Release(1), 8, 9, "W3 S0 J0 R1 C0 Q0"),
+        (Release(3), 8, 9, "W3 S0 J0 R1 C0 Q0"),
+        (Release(0), 7, 9, "W2 S0 J0 R1 C0 Q0"),
+        (Release(2), 5, 9, "W2 S0 R1 Q0"),
+        (Release(0), 4, 9, "W2 S0 Q0"),
+        (Release(0), 2, 9, "W1 Q0"),
+        (Install(b'W'), 3, 10, "W2 Q0"),
+        (Release(0), 2, 10, "W1 Q0"),
+        (Release(0), 0, 10, ""),
+    ],
+];
+
+/// The text of the signature of each group, with the letter of one of its expressions.
+const TEXTS: [(&str, u8); 7] = [
+    ("eq(eq(scan(quotes,Symbol=),0,\"INTC\"),0)", b'E'),
+    ("eq(scan(quotes,Symbol=),0)", b'W'),
+    (
+        "join(eq(scan(quotes,Symbol=),0,\"INTC\"),eq(scan(quotes,Symbol=),0,\"INTC\"),)",
+        b'S',
+    ),
+    (
+        "join(eq(scan(quotes,Symbol=),0,\"INTC\"),scan(companies,Symbol=),)",
+        b'J',
+    ),
+    ("range(scan(quotes,Symbol=),0)", b'R'),
+    ("scan(companies,Symbol=)", b'C'),
+    ("scan(quotes,Symbol=)", b'Q'),
 ];
 
 /// A shape whose only place is the text of an element.
@@ -112,6 +176,37 @@ fn quotes_of(alloc: Global, text: &[u8]) -> Result<Expr, AllocError>
     })
 }
 
+/// The quotes from 1 to below 10.
+fn ranged(alloc: Global) -> Result<Expr, AllocError>
+    ensures { IfOk result (λ e. (operators e ≤ 2) × (slots_fit e ≡ true) × (0 < expr_width e)) }
+{
+    let quotes = scan(alloc, b"quotes")?;
+    let input = Own::new(alloc, quotes)?;
+    let interval = Interval {
+        low: End::Included(1_000_000),
+        high: End::Excluded(10_000_000),
+    };
+    Ok(Expr::RangeSel {
+        input,
+        slot: 0,
+        interval,
+    })
+}
+
+/// The quotes of `INTC` with this text.
+fn selected_again(alloc: Global, text: &[u8]) -> Result<Expr, AllocError>
+    ensures { IfOk result (λ e. (operators e ≤ 3) × (slots_fit e ≡ true) × (0 < expr_width e)) }
+{
+    let quotes = quotes_of(alloc, b"INTC")?;
+    let constant = atom_of(alloc, text)?;
+    let input = Own::new(alloc, quotes)?;
+    Ok(Expr::EqSel {
+        input,
+        slot: 0,
+        constant,
+    })
+}
+
 /// Each quote of `INTC` with each company.
 fn joined(alloc: Global) -> Result<Expr, AllocError>
     ensures { IfOk result (λ e. (operators e ≤ 4) × (slots_fit e ≡ true) × (0 < expr_width e)) }
@@ -124,28 +219,34 @@ fn joined(alloc: Global) -> Result<Expr, AllocError>
     Ok(Expr::Join { left, right, pairs })
 }
 
+/// Each quote of `INTC` with each.
+fn squared(alloc: Global) -> Result<Expr, AllocError>
+    ensures { IfOk result (λ e. (operators e ≤ 5) × (slots_fit e ≡ true) × (0 < expr_width e)) }
+{
+    let quotes = quotes_of(alloc, b"INTC")?;
+    let others = quotes_of(alloc, b"INTC")?;
+    let left = Own::new(alloc, quotes)?;
+    let right = Own::new(alloc, others)?;
+    let pairs = Pairs::new(alloc);
+    Ok(Expr::Join { left, right, pairs })
+}
+
 /// The expression of a letter.
 fn expr_of(alloc: Global, letter: u8) -> Result<Expr, AllocError>
     ensures { IfOk result IsWellFormedExpr }
 {
-    if letter == b'J' {
-        let expr = joined(alloc)?;
-        return Ok(expr);
+    match letter {
+        b'W' => Ok(quotes_of(alloc, b"INTC")?),
+        b'M' => Ok(quotes_of(alloc, b"MSFT")?),
+        b'N' => Ok(quotes_of(alloc, b"1")?),
+        b'D' => Ok(quotes_of(alloc, b"1.0")?),
+        b'R' => Ok(ranged(alloc)?),
+        b'E' => Ok(selected_again(alloc, b"INTC")?),
+        b'J' => Ok(joined(alloc)?),
+        b'S' => Ok(squared(alloc)?),
+        b'C' => Ok(scan(alloc, b"companies")?),
+        _ => Ok(scan(alloc, b"quotes")?),
     }
-    if letter == b'W' {
-        let expr = quotes_of(alloc, b"INTC")?;
-        return Ok(expr);
-    }
-    if letter == b'M' {
-        let expr = quotes_of(alloc, b"MSFT")?;
-        return Ok(expr);
-    }
-    if letter == b'C' {
-        let expr = scan(alloc, b"companies")?;
-        return Ok(expr);
-    }
-    let expr = scan(alloc, b"quotes")?;
-    Ok(expr)
 }
 
 /// One more use of the expression; `used` has the number of the file of each use.
@@ -180,9 +281,10 @@ fn install<L: Ledger>(
     Ok(())
 }
 
-/// Gives up the last use.
-fn release(table: &mut GroupTable, used: &mut Vec<u64>)
-    requires { (number : ℕ) →
+/// Gives up the use at this place.
+fn release(table: &mut GroupTable, used: &mut Vec<u64>, at: usize)
+    requires within { at < length used.old.items }
+    requires uses { (number : ℕ) →
         unwrap_or (option_map (λ file. file.uses) (get table.old.files number)) 0
         ≡ length (filter (nat_eq number) used.old.items) }
     ensures fits { (world : World) → Fits table.old.number world table.old.files
@@ -191,18 +293,16 @@ fn release(table: &mut GroupTable, used: &mut Vec<u64>)
         unwrap_or (option_map (λ file. file.uses) (get table.new.files number)) 0
         ≡ length (filter (nat_eq number) used.new.items) }
 {
-    let Some(number) = used.pop() else {
-        return;
-    };
+    let number = used.remove(at);
     table.release(FileId(number));
 }
 
-/// Installs the expression of the letter, or gives up the last use.
+/// Installs the expression of the letter, or gives up the use at the place.
 fn take_turn<L: Ledger>(
     alloc: Global,
     table: &mut GroupTable,
     used: &mut Vec<u64>,
-    letter: u8,
+    turn: Turn,
     store: &Store,
     steps: &mut Steps<L>,
 ) -> Result<(), AllocError>
@@ -215,27 +315,60 @@ fn take_turn<L: Ledger>(
         unwrap_or (option_map (λ file. file.uses) (get table.new.files number)) 0
         ≡ length (filter (nat_eq number) used.new.items)) }
 {
-    if letter == b'-' {
-        release(table, used);
-        return Ok(());
+    match turn {
+        Install(letter) => {
+            let expr = expr_of(alloc, letter)?;
+            install(alloc, table, used, &expr, store, steps)
+        }
+        Release(at) => {
+            if at >= used.len() {
+                return Err(AllocError);
+            }
+            release(table, used, at);
+            Ok(())
+        }
     }
-    let expr = expr_of(alloc, letter)?;
-    install(alloc, table, used, &expr, store, steps)?;
-    Ok(())
 }
 
-/// Whether the table has the files of each turn.
+/// The letter of the group with this text.
+fn letter_of(text: &[u8]) -> u8 {
+    for (known, letter) in TEXTS {
+        if known.as_bytes() == text {
+            return letter;
+        }
+    }
+    b'?'
+}
+
+/// The groups of the table in the order of their lines, as a row tells them.
+fn shown(alloc: Global, table: &GroupTable) -> Result<Vec<u8>, AllocError> {
+    let lines = table.groups(alloc)?;
+    let mut out = Vec::new(alloc);
+    for line in lines.as_slice() {
+        if !out.is_empty() {
+            out.push(b' ')?;
+        }
+        out.push(letter_of(line.text.as_slice()))?;
+        write_decimal(line.constants, &mut out)?;
+    }
+    Ok(out)
+}
+
+/// Whether the table has the files and the groups of each turn.
 fn are_kept<L: Ledger>(
     alloc: Global,
     store: &Store,
-    turns: &[(u8, usize, u64)],
+    rows: &[Row],
     steps: &mut Steps<L>,
 ) -> Result<bool, AllocError> {
     let mut table = GroupTable::new(alloc);
     let mut used = Vec::new(alloc);
-    for (letter, files, next) in turns {
-        take_turn(alloc, &mut table, &mut used, *letter, store, steps)?;
+    for (turn, files, next, groups) in rows {
+        take_turn(alloc, &mut table, &mut used, *turn, store, steps)?;
         if table.files() != *files || table.next_file() != *next {
+            return Ok(false);
+        }
+        if shown(alloc, &table)?.as_slice() != groups.as_bytes() {
             return Ok(false);
         }
     }
@@ -254,8 +387,8 @@ fn are_all_kept<L: Ledger>(
 {
     let mut steps = Steps::<L>::new(blank);
     let store = Store::new(alloc, seed);
-    for turns in RUNS {
-        if !are_kept(alloc, &store, turns, &mut steps)? {
+    for rows in RUNS {
+        if !are_kept(alloc, &store, rows, &mut steps)? {
             return Ok(false);
         }
     }

@@ -5,10 +5,10 @@ ghost use Rattle.ncq_shelf.specs.KeptFiles.{KeptFile};
 ghost use Rattle.ncq_shelf.specs.Stands.{IsGrounded};
 ghost use Rattle.ncq_group.specs.Grown.{IsCut, IsDropped};
 
-use ncq_shelf::Shelf;
+use ncq_count::CountedShelf;
 
 /// Takes away the files from this number on, none of which has a use. It takes no memory.
-pub(crate) fn cut(shelf: &mut Shelf, low: u64, high: u64)
+pub(crate) fn cut(shelf: &mut CountedShelf, low: u64, high: u64)
     requires grounded { IsGrounded shelf.old }
     requires below { (number : ℕ) (file : KeptFile) → get shelf.old number ≡ Some file
         → number < high }
@@ -25,7 +25,7 @@ pub(crate) fn cut(shelf: &mut Shelf, low: u64, high: u64)
 }
 
 /// Takes the file away if it is idle.
-fn drop_idle(shelf: &mut Shelf, number: u64)
+fn drop_idle(shelf: &mut CountedShelf, number: u64)
     requires { IsGrounded shelf.old }
     ensures { IsDropped shelf.old number shelf.new }
 {

@@ -1,3 +1,4 @@
 pub mod ShapeTexts
 pub mod SignatureCases
 pub mod SignatureLaws
+pub mod CallerLemmas

@@ -1,3 +1,4 @@
+pub mod Groups
 pub mod IntervalTexts
 pub mod Signatures
 pub mod SignatureTexts

@@ -1,5 +1,5 @@
-use Rattle.std.proofs.Common.{rules, ◌≡◌, ℕ, ◌+◌, ◌<◌, List, [], ◌∷◌, ◌++◌, map, Some, refl, sym, ap, ◌∙◌, subst, arith}
-use Rattle.std.specs.FinMap.{get, insert}
+use Rattle.std.proofs.Common.{rules, [], ◌∷◌, ◌++◌, map, refl, sym, ◌∙◌, subst, arith}
+use Rattle.std.specs.FinMap.{insert}
 use Rattle.ncq_plan.specs.declared.expr.Expr.{the_lemmas}
 use Rattle.ncq_plan.specs.declared.expr.Expr.TheVariants.{Join}
 use Rattle.ncq_plan.specs.Exprs.{rows_in, expr_width}

@@ -1,4 +1,4 @@
 use Rattle.ncq_group.proofs.tests.are_all_kept.Given as goal
 
-abbrev pub invariant-loop-turns : goal.invariant-loop-turns
-invariant-loop-turns g l = Unit {0}
+abbrev pub invariant-loop-rows : goal.invariant-loop-rows
+invariant-loop-rows g l = Unit {0}

@@ -1,9 +1,8 @@
-use Rattle.std.proofs.Common.{◌≡◌, ℕ, ◌<◌, ◌≤◌, Some, sym, ap, ◌∙◌, subst}
+use Rattle.std.proofs.Common.{◌≡◌, ◌<◌, ◌≤◌, Some, sym, ◌∙◌, subst}
 use Rattle.std.specs.Option.{option_map}
 use Rattle.std.specs.FinMap.{get}
-use Rattle.ncq_shelf.specs.KeptFiles.{KeptFile}
 use Rattle.ncq_shelf.specs.Contents.{AreUpTo, cut_to}
-use Rattle.ncq_group.specs.Tables.{TableState, Facts}
+use Rattle.ncq_group.specs.Tables.{TableState}
 use Rattle.ncq_group.proofs.SameTable.{facts_like, cut_up, cut_back, cut_wide, cut_last}
 use Rattle.ncq_group.proofs.table.GroupTable.roll_back.Goals as goal
 
