@@ -117,7 +117,6 @@ module _ (expr : Expr) (world : World) (old : TableState) (facts : Facts old) (m
           let v : state.uses ≡ uses + 1 = ap (λ f. f.uses) e in
           omega arith;
       dense = λ other above less. let d = g.dense other above less in let a = there_new other d.0 d.1 in (a.file, a.at);
-      room = g.room;
       order = g.order;
       room = g.room;
       same = refl;
