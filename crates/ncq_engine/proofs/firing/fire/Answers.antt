@@ -34,5 +34,7 @@ returns g c =
     let are : c.in_ok-entries.entries ≡ entries_of m.query (news_of c.args.store.now c.args.groups.now.files m) =
     entries_are _ c.args.store.now c.args.groups.now m can c.facts.ensures c.file-file.result.now (c.file-file.ensures can.file can.at) c.mark_of-mark.result c.in_ok-entries.entries c.mark_of-mark.ensures c.in_ok-entries.ensures in
     let count = (λ i. length (sym c.as_slice.ensures i) == 0) ∙ sym c.is_empty.ensures in
-    record { text = text_some _ c.args.store.now c.args.groups.now.files m can.action c.args.instant c.in_ok-entries.entries are
-        c.as_slice-2.result.now c.in_ok-copy.field-0 c.args.out.now.items c.call.new.out.items (count ∙ c.if-is_empty.false) c.as_slice-2.ensures c.in_ok-copy.ensures c.in_ok-call.ensures.ok }
+    record {
+      text = text_some _ c.args.store.now c.args.groups.now.files m can.action c.args.instant c.in_ok-entries.entries are
+          c.as_slice-2.result.now c.in_ok-copy.field-0 c.args.out.now.items c.call.new.out.items (count ∙ c.if-is_empty.false) c.as_slice-2.ensures c.in_ok-copy.ensures c.in_ok-call.ensures.ok;
+    }
