@@ -1,7 +1,8 @@
 -- What a book keeps, with one member more, with one less, and with one changed.
-use Rattle.std.proofs.Common.{◌≡◌, ℕ, ◌<◌, ◌==◌, ◌&&◌, ◌||◌, not, false, List, [], ◌∷◌, ◌++◌, map, refl, sym, ◌∙◌, ap, cond, subst}
-use Rattle.std.specs.Prelude.{Some, None}
+use Rattle.std.proofs.Common.{◌≡◌, ℕ, ◌<◌, ◌&&◌, ◌||◌, not, false, List, [], ◌∷◌, ◌++◌, map, refl, sym, ◌∙◌, ap, cond, subst}
+use Rattle.std.specs.Prelude.{Some, None, nat_eq}
 use Rattle.std.specs.List.{filter, find, list_any, AllByRecursion}
+use Rattle.std.specs.List.Sorted.{IsStrictlySortedBy}
 use Rattle.std.specs.Map.{lookup, remove_entry}
 use Rattle.std.specs.BTreeMap.{is_at, insert_entry}
 use Rattle.std.specs.Ordering.{nat_cmp}
@@ -10,11 +11,10 @@ use Rattle.std.proofs.lemmas.Bool.{eqb-true}
 use Rattle.ncq_book.specs.declared.finders.Finders.{Finders}
 use Rattle.ncq_book.specs.declared.member.Member.{Member}
 use Rattle.ncq_book.specs.Books.{is_named, is_of, timing_of, watches, watchers_of}
-use Rattle.ncq_book.specs.Watches.{AreRisingWatches}
+use Rattle.ncq_book.specs.Watches.{is_watch, is_watched}
 use Rattle.ncq_book.specs.Kept.{Placed, members_in, placed_of, is_watch_of, IsEnrolled, IsStruck, FindsAlike, IsKept}
-use Rattle.ncq_book.proofs.Lists.{found_passes, same_rising}
-use Rattle.ncq_book.proofs.WatchLaws.{nobody_watches, watches_rise, watch_at}
-use Rattle.ncq_book.proofs.MemberLaws.{members_back, pairs_pushed, remove_pair, insert_pair, get_is, others_pushed, found_pushed, rise_more, differ_more, named_more, watched_more, rise_less, differ_less, named_less, watched_less, nobody_found, keys_below, no_watch_yet, members_rise, member_at}
+use Rattle.ncq_book.proofs.Lists.{found_passes, same_rising, any_agree}
+use Rattle.ncq_book.proofs.MemberLaws.{members_back, pairs_pushed, remove_pair, insert_pair, get_is, others_pushed, found_pushed, rise_more, differ_more, named_more, watched_more, rise_less, differ_less, named_less, watched_less, nobody_found, keys_below, members_rise, member_at}
 
 -- members that stand under their numbers are those of the list
 pub shown : (placed : List Placed) (ms : List Member) → placed ≡ map placed_of ms → members_in placed ≡ ms
@@ -30,7 +30,7 @@ kept_alike placed ms old new kept alike = record {
   differ = kept.differ;
   named = λ name. alike.names name ∙ kept.named name;
   timed = (λ i. (alike.calendar i).entries) ∙ kept.timed;
-  watched = λ w. alike.watchers w ∙ kept.watched w;
+  watched = λ w. ap (list_any (is_watch w)) alike.watchers ∙ kept.watched w;
 }
 
 module _ (placed : List Placed) (ms : List Member) (old new : Finders) (kept : IsKept ms placed old) (m : Member) where
@@ -96,7 +96,7 @@ module _ (placed : List Placed) (old mid : Finders) (kept : IsKept (members_in p
       kept_at after new (members_in placed)
       (subst (λ ms. IsKept ms after new) gone (kept_less (map placed_of joined) joined mid new one m m.install after (found_pushed (members_in placed) m above) struck (here ∙ ap (map placed_of) (sym gone))))
 
--- before one more is found: it is above all, its name is free, and it watches nothing
+-- before one more is found: it is above all, and its name is free
 module _ (placed : List Placed) (ms : List Member) (finders : Finders) (kept : IsKept ms placed finders) where
   pub above_all : (i : ℕ) → AllByRecursion (λ n. n.install < i) ms → AllByRecursion (λ e. e.0 < i) finders.calendar.entries
   above_all i above = subst (AllByRecursion (λ e. e.0 < i)) (sym kept.timed) (keys_below (λ n. n.timing) i ms above)
@@ -104,11 +104,11 @@ module _ (placed : List Placed) (ms : List Member) (finders : Finders) (kept : I
   pub free_name : (name : List ℕ) → list_any (is_named name) ms ≡ false → lookup (bytes_eq name) finders.names ≡ None
   free_name name free = kept.named name ∙ nobody_found name ms free
 
-  pub is_idle : (i : ℕ) → AllByRecursion (λ n. n.install < i) ms → list_any (λ w. w.install == i) finders.watchers ≡ false
-  is_idle i above = nobody_watches i finders.watchers (λ w here. kept.watched w ∙ no_watch_yet i w ms here above)
-
-  -- those that watch a topic
-  pub watchers_are : (topic : ℕ) → AreRisingWatches finders.watchers → map (λ w. w.install) (filter (λ w. w.topic == topic) finders.watchers) ≡ watchers_of topic ms
-  watchers_are topic rising =
-      same_rising _ _ (watches_rise topic finders.watchers rising) (members_rise (watches topic) ms kept.rise)
-      (λ n. watch_at topic n finders.watchers ∙ kept.watched (record { topic = topic; install = n }) ∙ sym (member_at topic n ms))
+  -- those that watch some files
+  pub watchers_are : (files installs : List ℕ) → IsStrictlySortedBy nat_cmp installs → ((n : ℕ) → list_any (nat_eq n) installs ≡ is_watched finders.watchers files n) → installs ≡ watchers_of files ms
+  watchers_are files installs rising are =
+      same_rising installs (watchers_of files ms) rising (members_rise (watches files) ms kept.rise)
+      (λ n. are n
+      ∙ any_agree (λ f. list_any (is_watch (record { file = f; install = n })) finders.watchers) (λ f. list_any (is_watch_of (record { file = f; install = n })) ms)
+      (λ f. kept.watched (record { file = f; install = n })) files
+      ∙ sym (member_at files n ms))

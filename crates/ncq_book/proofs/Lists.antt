@@ -1,5 +1,5 @@
 -- Lists by a test, and lists of numbers that rise.
-use Rattle.std.proofs.Common.{◌≡◌, ℕ, ◌<◌, ◌==◌, ◌&&◌, ◌||◌, not, Bool, true, false, List, [], ◌∷◌, ◌++◌, map, refl, sym, ◌∙◌, ap, arith, cond, subst, Less, take, zero, suc}
+use Rattle.std.proofs.Common.{◌≡◌, ℕ, ◌<◌, ◌==◌, ◌&&◌, ◌||◌, Bool, true, false, List, [], ◌∷◌, ◌++◌, map, refl, sym, ◌∙◌, ap, arith, cond, subst, Less}
 use Rattle.std.specs.Prelude.{Option, Some, None, nat_eq, Result, Ok, Err, IfOk, OnOk, OnErr}
 use Rattle.std.specs.Result.{is_err}
 use Rattle.std.specs.List.{filter, find, list_any, AllByRecursion}
@@ -23,9 +23,9 @@ pub at_err : {T E P : Type 0} (r : Result T E) → is_err r ≡ true → OnErr r
 at_err (Ok x) h p = cc
 at_err (Err e) h p = p
 
-pub if_ok_leads : {T E : Type 0} {P Q : T → Type 0} (r : Result T E) → ((x : T) → P x → Q x) → IfOk r P → IfOk r Q
-if_ok_leads (Ok x) leads p = leads x p
-if_ok_leads (Err e) leads p = tt
+pub if_ok_both : {T E : Type 0} {P Q R : T → Type 0} (r : Result T E) → ((x : T) → P x → Q x → R x) → IfOk r P → IfOk r Q → IfOk r R
+if_ok_both (Ok x) leads p q = leads x p q
+if_ok_both (Err e) leads p q = tt
 
 pub or_left : (a b : Bool) → (a || b) ≡ false → a ≡ false
 or_left true b h = cc
@@ -75,12 +75,6 @@ module _ {A : Type 0} (test : A → Bool) where
   all_pass [] h = refl
   all_pass (x ∷ xs) h = λ i. cond (h.0 i) (x ∷ all_pass xs h.1 i) (all_pass xs h.1 i)
 
-  -- what passes in front passes in the whole
-  pub front_passes : (i : ℕ) (xs : List A) → (list_any test (take i xs) && not (list_any test xs)) ≡ false
-  front_passes zero xs = refl
-  front_passes (suc i) [] = refl
-  front_passes (suc i) (x ∷ xs) = elim (test x) as (λ t. ((t || list_any test (take i xs)) && not (t || list_any test xs)) ≡ false) [ true ↦ refl | false ↦ front_passes i xs ]
-
   pub none_passes : (xs : List A) → AllByRecursion (λ x. test x ≡ false) xs → list_any test xs ≡ false
   none_passes [] h = refl
   none_passes (x ∷ xs) h = λ i. h.0 i || none_passes xs h.1 i
@@ -112,6 +106,27 @@ any_mapped p f q (x ∷ xs) =
       | false ↦ any_mapped p f q xs
     ]
 
+-- whether one passes one of two tests
+any_or : {A : Type 0} (p q : A → Bool) (xs : List A) → list_any (λ x. p x || q x) xs ≡ (list_any p xs || list_any q xs)
+any_or p q [] = refl
+any_or p q (x ∷ xs) =
+    elim (p x) as (λ t. ((t || q x) || list_any (λ y. p y || q y) xs) ≡ ((t || list_any p xs) || (q x || list_any q xs))) [
+      | true ↦ refl
+      | false ↦ elim (q x) as (λ t. (t || list_any (λ y. p y || q y) xs) ≡ (list_any p xs || (t || list_any q xs))) [
+        | true ↦ elim (list_any p xs) as (λ b. true ≡ (b || true)) [ true ↦ refl | false ↦ refl ]
+        | false ↦ any_or p q xs
+      ]
+    ]
+
+any_never : {A : Type 0} (xs : List A) → list_any (λ x. false) xs ≡ false
+any_never [] = refl
+any_never (x ∷ xs) = any_never xs
+
+-- which of two lists is asked first is the same
+pub any_swap : {A B : Type 0} (p : A → B → Bool) (xs : List A) (ys : List B) → list_any (λ y. list_any (λ x. p x y) xs) ys ≡ list_any (λ x. list_any (p x) ys) xs
+any_swap p xs [] = sym (any_never xs)
+any_swap p xs (y ∷ ys) = (λ i. list_any (λ x. p x y) xs || any_swap p xs ys i) ∙ sym (any_or (λ x. p x y) (λ x. list_any (p x) ys) xs)
+
 pub any_agree : {A : Type 0} (p q : A → Bool) → ((x : A) → p x ≡ q x) → (xs : List A) → list_any p xs ≡ list_any q xs
 any_agree p q h [] = refl
 any_agree p q h (x ∷ xs) = λ i. h x i || any_agree p q h xs i
@@ -127,8 +142,8 @@ sorted_rising [] h = tt
 sorted_rising (x ∷ xs) h = (each_leads (λ y. x < y) (λ y. nat_cmp x y ≡ Less) (λ y l. grind (arith, nat_tests)) xs h.0, sorted_rising xs h.1)
 
 -- numbers that rise are told by which they are
-pub same_rising : (xs ys : List ℕ) → NumbersRise xs → NumbersRise ys → ((n : ℕ) → list_any (nat_eq n) xs ≡ list_any (nat_eq n) ys) → xs ≡ ys
+pub same_rising : (xs ys : List ℕ) → IsStrictlySortedBy nat_cmp xs → NumbersRise ys → ((n : ℕ) → list_any (nat_eq n) xs ≡ list_any (nat_eq n) ys) → xs ≡ ys
 same_rising xs ys rise rises same =
     let at : (n : ℕ) (zs : List ℕ) → list_any (is_at (nat_cmp n)) zs ≡ list_any (nat_eq n) zs = λ n zs. any_agree (is_at (nat_cmp n)) (nat_eq n) (λ k. grind (arith, nat_tests)) zs in
-    btree_set_from_contains nat_cmp_total (record { keys = xs }) (record { keys = ys }) (sorted_rising xs rise) (sorted_rising ys rises)
+    btree_set_from_contains nat_cmp_total (record { keys = xs }) (record { keys = ys }) rise (sorted_rising ys rises)
     (λ n. at n xs ∙ same n ∙ sym (at n ys)) exact_unsigned

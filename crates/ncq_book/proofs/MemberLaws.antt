@@ -1,5 +1,5 @@
 -- Members whose install numbers rise and whose names differ: one more, one less, one changed.
-use Rattle.std.proofs.Common.{◌≡◌, ℕ, ◌<◌, ◌==◌, ◌&&◌, ◌||◌, not, Bool, true, false, List, [], ◌∷◌, ◌++◌, map, refl, sym, ◌∙◌, ap, arith, cond, subst, inl, inr}
+use Rattle.std.proofs.Common.{◌≡◌, ◌≢◌, ℕ, ◌<◌, ◌==◌, ◌&&◌, ◌||◌, not, Bool, true, false, List, [], ◌∷◌, ◌++◌, map, refl, sym, ◌∙◌, ap, arith, cond, subst, inl, inr}
 use Rattle.std.specs.Prelude.{Some, None, nat_eq}
 use Rattle.std.specs.List.{filter, find, list_any, AllByRecursion}
 use Rattle.std.specs.Option.{option_map}
@@ -7,16 +7,17 @@ use Rattle.std.specs.Map.{lookup, remove_entry}
 use Rattle.std.specs.BTreeMap.{is_at, insert_entry}
 use Rattle.std.specs.Ordering.{nat_cmp, match_ordering}
 use Rattle.std.specs.Str.{bytes_eq}
-use Rattle.std.proofs.lemmas.Bool.{cases_Bool, true≢false, eqb-true, eq-eqb, ne_eqb, and_parts, and_left}
+use Rattle.std.proofs.lemmas.Bool.{cases_Bool, true≢false, eqb-true, eq-eqb, ne_eqb, and_parts}
 use Rattle.std.proofs.lemmas.List.Folds.{list_any-append}
-use mathlib.Core.Bool.{or-false, and-true, and_comm}
+use mathlib.Core.Bool.{or-false, and-true, and-false}
 use Rattle.std.proofs.lemmas.Bool.Decides.{nat_tests}
 use Rattle.std.proofs.lemmas.Slice.Eq.{bytes_eq-Decides}
 use Rattle.ncq_book.specs.declared.member.Member.{Member}
 use Rattle.ncq_book.specs.declared.watchers.Watch.{Watch}
 use Rattle.ncq_book.specs.Books.{is_named, is_of, member_of, watches, watchers_of, InstallsRise, NamesDiffer}
-use Rattle.ncq_book.specs.Kept.{Placed, members_in, placed_of, install_of, is_watch_of}
-use Rattle.ncq_book.proofs.Lists.{number_at, found_has, each_leads, each_filtered, each_pushed, none_is_found, none_passes, all_pass, or_left, or_right, cond_map, map_itself, NumbersRise, any_mapped, any_agree}
+use Rattle.ncq_book.specs.Kept.{Placed, members_in, placed_of, install_of, watch_of, is_watch_of}
+use Rattle.ncq_book.specs.Watches.{is_watch}
+use Rattle.ncq_book.proofs.Lists.{number_at, found_has, each_leads, each_filtered, each_pushed, none_is_found, none_passes, all_pass, or_left, or_right, cond_map, map_itself, NumbersRise, any_mapped, any_agree, any_swap}
 
 -- members under their numbers, and back
 pub members_back : (ms : List Member) → members_in (map placed_of ms) ≡ ms
@@ -128,11 +129,19 @@ named_more (n ∷ ms) m name free =
 pub watched_more : (ms : List Member) (m : Member) (w : Watch) → list_any (is_watch_of w) (ms ++ m ∷ []) ≡ (list_any (is_watch_of w) ms || is_watch_of w m)
 watched_more ms m w = list_any-append (is_watch_of w) ms (m ∷ []) ∙ ap (λ b. list_any (is_watch_of w) ms || b) (or-false (is_watch_of w m))
 
+-- a watch of another install number is not the member's
+other_install : (w : Watch) (m : Member) → w.install ≢ m.install → is_watch_of w m ≡ false
+other_install w m other =
+    (λ i. m.timing.every == 0 && (w.file == m.file.0 && ne_eqb w.install m.install other i))
+    ∙ (λ i. m.timing.every == 0 && and-false (w.file == m.file.0) i)
+    ∙ and-false (m.timing.every == 0)
+
 -- behind the member that watches, nobody has its install number
 no_watch : (w : Watch) (n : Member) (ms : List Member) → is_watch_of w n ≡ true → AllByRecursion (λ k. n.install < k.install) ms → AllByRecursion (λ k. is_watch_of w k ≡ false) ms
 no_watch w n ms h above =
-    let here : n.install ≡ w.install = eqb-true n.install w.install (and_parts (n.install == w.install) (watches w.topic n) h).0 in
-    each_leads (λ k. n.install < k.install) (λ k. is_watch_of w k ≡ false) (λ k up. and_left (k.install == w.install) (watches w.topic k) (ne_eqb k.install w.install (λ e. absurd (omega (arith, e))))) ms above
+    let is = (and_parts (n.timing.every == 0) (is_watch w (watch_of n)) h).1 in
+    let here : w.install ≡ n.install = eqb-true w.install n.install (and_parts (w.file == n.file.0) (w.install == n.install) is).1 in
+    each_leads (λ k. n.install < k.install) (λ k. is_watch_of w k ≡ false) (λ k up. other_install w k (λ e. omega (arith, e, here, up))) ms above
 
 -- one less
 pub rise_less : (test : Member → Bool) (ms : List Member) → InstallsRise ms → InstallsRise (filter test ms)
@@ -212,12 +221,6 @@ module _ (i : ℕ) where
 pub nobody_found : (name : List ℕ) (ms : List Member) → list_any (is_named name) ms ≡ false → install_of name ms ≡ None
 nobody_found name ms free = ap (option_map (λ (m : Member). m.install)) (none_is_found (is_named name) ms (nobody_named name ms free))
 
--- a number above all has no watch yet
-pub no_watch_yet : (i : ℕ) (w : Watch) (ms : List Member) → w.install ≡ i → AllByRecursion (λ n. n.install < i) ms → list_any (is_watch_of w) ms ≡ false
-no_watch_yet i w ms here above =
-    none_passes (is_watch_of w) ms
-    (each_leads (λ n. n.install < i) (λ n. is_watch_of w n ≡ false) (λ n up. and_left (n.install == w.install) (watches w.topic n) (ne_eqb n.install w.install (λ e. absurd (omega (arith, e, here))))) ms above)
-
 numbers_above : (i : ℕ) (ms : List Member) → AllByRecursion (λ n. i < n.install) ms → AllByRecursion (λ n. i < n) (map (λ m. m.install) ms)
 numbers_above i [] above = tt
 numbers_above i (m ∷ ms) above = (above.0, numbers_above i ms above.1)
@@ -226,20 +229,31 @@ installs_rise : (ms : List Member) → InstallsRise ms → NumbersRise (map (λ 
 installs_rise [] rise = tt
 installs_rise (m ∷ ms) rise = (numbers_above m.install ms rise.0, installs_rise ms rise.1)
 
-and_swap : (a : Bool) (k n : ℕ) → (a && nat_eq n k) ≡ (k == n && a)
-and_swap a k n =
-    let turned : nat_eq n k ≡ (k == n) = grind (arith, nat_tests) in
-    (λ i. a && turned i) ∙ and_comm a (k == n)
-
 -- the install numbers of a part rise
 pub members_rise : (test : Member → Bool) (ms : List Member) → InstallsRise ms → NumbersRise (map (λ m. m.install) (filter test ms))
 members_rise test ms rise = installs_rise (filter test ms) (rise_less test ms rise)
 
--- whether an install number is among those of a topic
-pub member_at : (topic n : ℕ) (ms : List Member) → list_any (nat_eq n) (watchers_of topic ms) ≡ list_any (is_watch_of (record { topic = topic; install = n })) ms
-member_at topic n ms =
-    any_mapped (nat_eq n) (λ (m : Member). m.install) (watches topic) ms
-    ∙ any_agree (λ m. watches topic m && nat_eq n m.install) (is_watch_of (record { topic = topic; install = n })) (λ m. and_swap (watches topic m) (m.install) n) ms
+step_of : (e a x i : Bool) → ((e && (a || x)) && i) ≡ ((e && (a && i)) || ((e && x) && i))
+step_of false a x i = refl
+step_of true true x true = refl
+step_of true true x false = elim x as (λ x. false ≡ (x && false)) [ true ↦ refl | false ↦ refl ]
+step_of true false x i = refl
+
+-- whether a member watches one of the files, asked at each of them
+one_by_one : (e i : Bool) (file : ℕ) (files : List ℕ) → ((e && list_any (nat_eq file) files) && i) ≡ list_any (λ f. e && (f == file && i)) files
+one_by_one e i file [] = elim e as (λ e. ((e && false) && i) ≡ false) [ true ↦ refl | false ↦ refl ]
+one_by_one e i file (f ∷ files) =
+    let turned : nat_eq file f ≡ (f == file) = grind (arith, nat_tests) in
+    step_of e (nat_eq file f) (list_any (nat_eq file) files) i
+    ∙ (λ j. (e && (turned j && i)) || one_by_one e i file files j)
+
+-- whether an install number is among those of some files
+pub member_at : (files : List ℕ) (n : ℕ) (ms : List Member) → list_any (nat_eq n) (watchers_of files ms) ≡ list_any (λ file. list_any (is_watch_of (record { file = file; install = n })) ms) files
+member_at files n ms =
+    any_mapped (nat_eq n) (λ (m : Member). m.install) (watches files) ms
+    ∙ any_agree (λ m. watches files m && nat_eq n m.install) (λ m. list_any (λ f. is_watch_of (record { file = f; install = n }) m) files)
+    (λ m. one_by_one (m.timing.every == 0) (nat_eq n m.install) m.file.0 files) ms
+    ∙ any_swap (λ f m. is_watch_of (record { file = f; install = n }) m) files ms
 
 -- a member above all others is found behind them, and without it they are left
 pub found_pushed : (ms : List Member) (m : Member) → AllByRecursion (λ n. n.install < m.install) ms → find (is_of m.install) (ms ++ m ∷ []) ≡ Some m

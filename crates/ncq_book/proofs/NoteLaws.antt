@@ -1,6 +1,6 @@
 -- Members of whom one is noted to have fired: they are found as before.
 use Rattle.std.proofs.Common.{◌≡◌, ℕ, ◌<◌, ◌==◌, ◌&&◌, ◌||◌, true, false, List, [], ◌∷◌, map, refl, sym, ◌∙◌, ap, cond, subst}
-use Rattle.std.specs.Prelude.{Some, None, if◌then◌else◌}
+use Rattle.std.specs.Prelude.{Some, None}
 use Rattle.std.specs.List.{find, list_any, AllByRecursion}
 use Rattle.std.specs.Option.{option_map}
 use Rattle.std.specs.Map.{lookup, set_value}
@@ -10,7 +10,7 @@ use Rattle.std.specs.Str.{bytes_eq}
 use Rattle.ncq_book.specs.declared.finders.Finders.{Finders}
 use Rattle.ncq_book.specs.declared.member.Member.{Member}
 use Rattle.ncq_book.specs.declared.watchers.Watch.{Watch}
-use Rattle.ncq_book.specs.Books.{is_named, is_of, timing_of, InstallsRise, NamesDiffer}
+use Rattle.ncq_book.specs.Books.{is_named, is_of, timing_of, with_note, InstallsRise, NamesDiffer}
 use Rattle.ncq_book.specs.Kept.{Placed, members_in, placed_of, install_of, is_watch_of, IsKept}
 use Rattle.ncq_book.proofs.Lists.{number_at}
 use Rattle.ncq_book.proofs.MemberLaws.{NoneOf, none_above, get_is}
@@ -18,7 +18,7 @@ use Rattle.ncq_book.proofs.KeptLaws.{shown, kept_at}
 use Rattle.std.proofs.Common.{arith}
 
 -- members that a map gives another note at most
-module _ (g : Member → Member) (names : (m : Member) → (g m).name ≡ m.name) (installs : (m : Member) → (g m).install ≡ m.install) (timings : (m : Member) → (g m).timing ≡ m.timing) (topics : (m : Member) → (g m).topics ≡ m.topics) where
+module _ (g : Member → Member) (names : (m : Member) → (g m).name ≡ m.name) (installs : (m : Member) → (g m).install ≡ m.install) (timings : (m : Member) → (g m).timing ≡ m.timing) (files : (m : Member) → (g m).file ≡ m.file) where
   above_mapped : (m : Member) (ms : List Member) → AllByRecursion (λ n. m.install < n.install) ms → AllByRecursion (λ n. (g m).install < n.install) (map g ms)
   above_mapped m [] above = tt
   above_mapped m (n ∷ ms) above = (subst (λ k. k < (g n).install) (sym (installs m)) (subst (λ k. m.install < k) (sym (installs n)) above.0), above_mapped m ms above.1)
@@ -50,7 +50,7 @@ module _ (g : Member → Member) (names : (m : Member) → (g m).name ≡ m.name
 
   watched_mapped : (w : Watch) (ms : List Member) → list_any (is_watch_of w) ms ≡ list_any (is_watch_of w) (map g ms)
   watched_mapped w [] = refl
-  watched_mapped w (m ∷ ms) = λ i. (sym (installs m) i == w.install && ((sym (timings m) i).every == 0 && list_any (λ t. w.topic == t) (sym (topics m) i))) || watched_mapped w ms i
+  watched_mapped w (m ∷ ms) = λ i. ((sym (timings m) i).every == 0 && (w.file == (sym (files m) i).0 && w.install == sym (installs m) i)) || watched_mapped w ms i
 
   pub kept_mapped : (placed after : List Placed) (ms : List Member) (finders : Finders) → IsKept ms placed finders → after ≡ map placed_of (map g ms) → IsKept (map g ms) after finders
   kept_mapped placed after ms finders kept numbered = record {
@@ -62,16 +62,21 @@ module _ (g : Member → Member) (names : (m : Member) → (g m).name ≡ m.name
     watched = λ w. kept.watched w ∙ watched_mapped w ms;
   }
 
--- the member of one install number is changed by a map that leaves what finds it
-module _ (i : ℕ) (fired : Member → Member) (names : (m : Member) → (fired m).name ≡ m.name) (installs : (m : Member) → (fired m).install ≡ m.install) (timings : (m : Member) → (fired m).timing ≡ m.timing) (topics : (m : Member) → (fired m).topics ≡ m.topics) where
-  abbrev pub changed : Member → Member
-  changed m = if is_of i m then fired m else m
+-- a number is noted for the member of an install number
+module _ (i number : ℕ) where
+  -- the member with the number noted
+  abbrev fired : Member → Member
+  fired m = record m { noted = Some number }
+
+  -- and that only where it is the member of the install number
+  abbrev changed : Member → Member
+  changed = with_note i number
 
   -- a field that noting leaves
   left : {X : Type 0} (field : Member → X) → ((m : Member) → field (fired m) ≡ field m) → (m : Member) → field (changed m) ≡ field m
   left field same m = elim (is_of i m) as (λ t. field (cond t (fired m) m) ≡ field m) [ true ↦ same m | false ↦ refl ]
 
-  noted_none : (ms : List Member) → NoneOf i ms → map (changed) ms ≡ ms
+  noted_none : (ms : List Member) → NoneOf i ms → map changed ms ≡ ms
   noted_none [] none = refl
   noted_none (m ∷ ms) none = λ j. cond (none.0 j) (fired m) m ∷ noted_none ms none.1 j
 
@@ -83,33 +88,33 @@ module _ (i : ℕ) (fired : Member → Member) (names : (m : Member) → (fired 
         | false ↦ λ h q. (h, nobody_of ms q)
       ] refl none
 
-  noted_pairs : (ms : List Member) (m : Member) → InstallsRise ms → find (is_of i) ms ≡ Some m → set_value (is_at (nat_cmp i)) (map placed_of ms) (fired m) ≡ map placed_of (map (changed) ms)
+  noted_pairs : (ms : List Member) (m : Member) → InstallsRise ms → find (is_of i) ms ≡ Some m → set_value (is_at (nat_cmp i)) (map placed_of ms) (fired m) ≡ map placed_of (map changed ms)
   noted_pairs [] m rise found = cc
   noted_pairs (n ∷ ms) m rise found =
       (λ j. cond (number_at i n.install j) ((n.install, fired m) ∷ map placed_of ms) (placed_of n ∷ set_value (is_at (nat_cmp i)) (map placed_of ms) (fired m)))
       ∙ elim (is_of i n) as (λ t. is_of i n ≡ t → cond t (Some n) (find (is_of i) ms) ≡ Some m
-      → cond t ((n.install, fired m) ∷ map placed_of ms) (placed_of n ∷ set_value (is_at (nat_cmp i)) (map placed_of ms) (fired m)) ≡ placed_of (cond t (fired n) n) ∷ map placed_of (map (changed) ms)) [
+      → cond t ((n.install, fired m) ∷ map placed_of ms) (placed_of n ∷ set_value (is_at (nat_cmp i)) (map placed_of ms) (fired m)) ≡ placed_of (cond t (fired n) n) ∷ map placed_of (map changed ms)) [
         | true ↦ λ h q.
             let same : n ≡ m = grind arith in
-            λ j. (sym (installs n) j, fired (sym same j)) ∷ map placed_of (sym (noted_none ms (none_above i n ms h rise.0)) j)
+            λ j. (n.install, fired (sym same j)) ∷ map placed_of (sym (noted_none ms (none_above i n ms h rise.0)) j)
         | false ↦ λ h q. ap (λ r. placed_of n ∷ r) (noted_pairs ms m rise.1 q)
       ] refl found
 
   module _ (placed : List Placed) (finders : Finders) (kept : IsKept (members_in placed) placed finders) where
     module _ (after : List Placed) (m : Member) (found : lookup (is_at (nat_cmp i)) placed ≡ Some m) (written : after ≡ set_value (is_at (nat_cmp i)) placed (fired m)) where
-      noted_numbered : after ≡ map placed_of (map (changed) (members_in placed))
+      noted_numbered : after ≡ map placed_of (map changed (members_in placed))
       noted_numbered =
           written ∙ ap (λ es. set_value (is_at (nat_cmp i)) es (fired m)) kept.numbered
           ∙ noted_pairs (members_in placed) m kept.rise (sym (get_is placed (members_in placed) i kept.numbered) ∙ found)
 
-      pub noted_shown : members_in after ≡ map (changed) (members_in placed)
-      noted_shown = shown after (map (changed) (members_in placed)) noted_numbered
+      pub noted_shown : members_in after ≡ map changed (members_in placed)
+      noted_shown = shown after (map changed (members_in placed)) noted_numbered
 
       pub noted_kept : IsKept (members_in after) after finders
       noted_kept =
-          kept_at after finders (map (changed) (members_in placed))
-          (kept_mapped (changed) (left (λ m. m.name) names) (left (λ m. m.install) installs) (left (λ m. m.timing) timings) (left (λ m. m.topics) topics)
+          kept_at after finders (map changed (members_in placed))
+          (kept_mapped changed (left (λ m. m.name) (λ m. refl)) (left (λ m. m.install) (λ m. refl)) (left (λ m. m.timing) (λ m. refl)) (left (λ m. m.file) (λ m. refl))
           placed after (members_in placed) finders kept noted_numbered)
 
-    pub noted_nobody : lookup (is_at (nat_cmp i)) placed ≡ None → members_in placed ≡ map (changed) (members_in placed)
+    pub noted_nobody : lookup (is_at (nat_cmp i)) placed ≡ None → members_in placed ≡ map changed (members_in placed)
     noted_nobody none = sym (noted_none (members_in placed) (nobody_of (members_in placed) (sym (get_is placed (members_in placed) i kept.numbered) ∙ none)))

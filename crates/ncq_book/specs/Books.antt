@@ -5,7 +5,6 @@ use Rattle.std.specs.Prelude.{Option, Some, if◌then◌else◌}
 use Rattle.std.specs.List.{find, list_any, AllByRecursion}
 use Rattle.std.specs.Str.{bytes_eq}
 use Rattle.std.specs.Coded.{Coded, code_by, coded×, coded_ℕ, coded_list}
-use Rattle.ncq_base.specs.declared.atom.FileId.{FileId}
 use Rattle.ncq_event.specs.Calendars.{Entry}
 use Rattle.ncq_book.specs.declared.member.Member.{Member}
 use Rattle.ncq_book.specs.contracts.member.Member.{the_row as member_row}
@@ -36,21 +35,17 @@ member_of install members = find (is_of install) members
 abbrev pub timing_of : Member → Entry
 timing_of m = (m.install, m.timing)
 
--- whether the member fires at changes, and watches this topic
-abbrev pub watches : ℕ → Member → Bool
-watches topic m = m.timing.every == 0 && list_any (nat_eq topic) m.topics
+-- whether the member fires at changes, and the file of its plan is one of these
+abbrev pub watches : List ℕ → Member → Bool
+watches files m = m.timing.every == 0 && list_any (nat_eq m.file.0) files
 
--- the install numbers of those that fire at changes and watch this topic
-abbrev pub watchers_of : ℕ → List Member → List ℕ
-watchers_of topic members = map (λ m. m.install) (filter (watches topic) members)
+-- the install numbers of those that fire at changes and have one of these files
+abbrev pub watchers_of : List ℕ → List Member → List ℕ
+watchers_of files members = map (λ m. m.install) (filter (watches files) members)
 
 -- the member with this number noted, if it is that of the install number
 abbrev pub with_note : ℕ → ℕ → Member → Member
 with_note install number m = if is_of install m then record m { noted = Some number } else m
-
--- the member with this file, if it is that of the install number
-abbrev pub with_file : ℕ → FileId → Member → Member
-with_file install file m = if is_of install m then record m { file = file } else m
 
 -- no two have one name
 abbrev pub NamesDiffer : List Member → Type 0

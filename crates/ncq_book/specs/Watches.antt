@@ -1,18 +1,17 @@
--- Who watches what, in order. Only the crate's private clauses cite it.
-use Rattle.std.specs.Prelude.{◌≡◌, ◌==◌, ◌&&◌, ◌||◌, Bool, true, nat_lt, List, [], ◌∷◌}
-use Rattle.std.specs.List.{AllByRecursion}
+-- Who watches what. Only the crate's private clauses cite it.
+use Rattle.std.specs.Prelude.{ℕ, ◌==◌, ◌&&◌, ◌<◌, ◌^◌, Bool, List}
+use Rattle.std.specs.List.{list_any, AllByRecursion}
 pub use Rattle.ncq_book.specs.declared.watchers.Watch.{Watch}
 
 -- whether two watches are one
 abbrev pub is_watch : Watch → Watch → Bool
-is_watch a b = a.topic == b.topic && a.install == b.install
+is_watch a b = a.file == b.file && a.install == b.install
 
--- whether a watch stands before another: by topic, then by install number
-abbrev pub is_earlier : Watch → Watch → Bool
-is_earlier a b = nat_lt a.topic b.topic || (a.topic == b.topic && nat_lt a.install b.install)
+-- whether one of the watches is that of the install number and one of the files
+abbrev pub is_watched : List Watch → List ℕ → ℕ → Bool
+is_watched watches files install =
+    list_any (λ file. list_any (is_watch (record { file = file; install = install })) watches) files
 
--- each watch stands before all behind it
-abbrev pub AreRisingWatches : List Watch → Type 0
-AreRisingWatches [] = Unit {0}
-AreRisingWatches (w ∷ more) =
-    AllByRecursion (λ v. is_earlier w v ≡ true) more × AreRisingWatches more
+-- each install number is one of 64 bits
+abbrev pub InstallsFit : List Watch → Type 0
+InstallsFit watches = AllByRecursion (λ w. w.install < 2 ^ 64) watches

@@ -1,15 +1,15 @@
 //! The book: live subscriptions in the order of their creates, and what finds them.
-ghost use Rattle.std.specs.Prelude.{◌≡◌, ◌<◌, ◌≤◌, ◌-◌, ◌^◌, ◌++◌, ◌∷◌, [], not, map, filter};
+ghost use Rattle.std.specs.Prelude.{◌≡◌, ◌<◌, ◌≤◌, ◌++◌, ◌∷◌, [], not, map, filter};
 ghost use Rattle.std.specs.Prelude.{length, nat_eq, Some, false, IfOk, OnOk, OnErr, IsSome};
 ghost use Rattle.std.specs.List.{find, list_any, AllByRecursion};
 ghost use Rattle.std.specs.Option.{option_copied, option_map};
 ghost use Rattle.ncq_event.specs.Calendars.{due_firings, expired_at};
 ghost use Rattle.ncq_book.specs.Books.{is_named, is_of, member_of, timing_of, watchers_of};
-ghost use Rattle.ncq_book.specs.Books.{with_file, with_note, InstallsRise, NamesDiffer};
+ghost use Rattle.ncq_book.specs.Books.{with_note, InstallsRise, NamesDiffer};
 
 use crate::finders::Finders;
 use crate::member::Member;
-use ncq_base::{Bytes, FileId};
+use ncq_base::Bytes;
 use ncq_event::{Firings, Installs};
 use std::alloc::{AllocError, Global};
 use std::collections::BTreeMap;
@@ -89,13 +89,12 @@ impl Book {
         self.members.get(&install)
     }
 
-    /// The install numbers of those that fire at changes and watch this topic, rising: also of
-    /// those that have not started. Nobody else is looked at.
-    pub fn watchers(&self, alloc: Global, topic: u64) -> Result<Installs, AllocError>
-        requires { topic < 2 ^ 64 - 1 }
-        ensures { IfOk result (λ installs. installs ≡ watchers_of topic self.now.members) }
+    /// The install numbers of those that fire at changes and have one of these files, rising, each
+    /// once: also of those that have not started. Nobody else is looked at.
+    pub fn watchers(&self, alloc: Global, files: &[u64]) -> Result<Installs, AllocError>
+        ensures { IfOk result (λ installs. installs ≡ watchers_of files.now self.now.members) }
     {
-        self.finders.watchers.of(alloc, topic)
+        self.finders.watchers.of(alloc, files)
     }
 
     /// The firings that a move of the clock to this instant makes due, in the order in which they
@@ -156,17 +155,6 @@ impl Book {
     {
         if let Some(member) = self.members.get_mut(&install) {
             member.noted = Some(number);
-        }
-    }
-
-    /// Gives the member of this install number another file, if it is there. It takes no memory.
-    pub fn set_file(&mut self, install: u64, file: FileId)
-        ensures { self.new ≡ record self.old {
-          members = map (with_file install file) self.old.members;
-        } }
-    {
-        if let Some(member) = self.members.get_mut(&install) {
-            member.file = file;
         }
     }
 

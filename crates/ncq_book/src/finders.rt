@@ -1,6 +1,6 @@
 //! What finds members.
-ghost use Rattle.std.specs.Prelude.{◌≡◌, ◌<◌, ◌==◌, [], None, false, OnOk, OnErr};
-ghost use Rattle.std.specs.List.{list_any, AllByRecursion};
+ghost use Rattle.std.specs.Prelude.{◌≡◌, ◌<◌, [], None, OnOk, OnErr};
+ghost use Rattle.std.specs.List.{AllByRecursion};
 ghost use Rattle.std.specs.Map.{lookup};
 ghost use Rattle.std.specs.Str.{bytes_eq};
 ghost use Rattle.ncq_book.specs.Kept.{IsEnrolled, IsStruck, FindsAlike};
@@ -12,7 +12,7 @@ use ncq_event::Calendar;
 use std::alloc::{AllocError, Global};
 use std::hash::RandomState;
 
-/// What finds members: their names, their instants, and what they watch.
+/// What finds members: their names, their instants, and the files of those that fire at changes.
 #[derive(Drop)]
 pub(crate) struct Finders {
     pub names: Names,
@@ -39,8 +39,6 @@ impl Finders {
         requires above { AllByRecursion (λ e. e.0 < member.now.install)
             self.old.calendar.entries }
         requires free { lookup (bytes_eq member.now.name) self.old.names ≡ None }
-        requires idle { list_any (λ w. w.install == member.now.install)
-            self.old.watchers ≡ false }
         ensures ok { OnOk result (IsEnrolled member.now self.old self.new) }
         ensures err { OnErr result (FindsAlike self.old self.new) }
     {
@@ -49,8 +47,8 @@ impl Finders {
             self.names.free(&member.name);
             return Err(AllocError);
         }
-        let topics = member.topics.as_slice();
-        if member.timing.every == 0 && self.watchers.add(topics, member.install).is_err() {
+        let file = member.file.0;
+        if member.timing.every == 0 && self.watchers.add(file, member.install).is_err() {
             self.names.free(&member.name);
             self.calendar.remove(member.install);
             return Err(AllocError);
@@ -65,8 +63,7 @@ impl Finders {
         self.names.free(&member.name);
         self.calendar.remove(member.install);
         if member.timing.every == 0 {
-            let topics = member.topics.as_slice();
-            self.watchers.remove(topics, member.install);
+            self.watchers.remove(member.file.0, member.install);
         }
     }
 }

@@ -1,6 +1,6 @@
 //! The book of live subscriptions: who they are, whom a change concerns, and who is due.
 //! Members come in one by one, in the order of their creates, and go out by name or by expiry. A
-//! name is found by its hash, and an install number, the watchers of a topic, the next firings and
+//! name is found by its hash, and an install number, the watchers of a file, the next firings and
 //! the expiries by their order: nobody is looked at whom a question does not concern.
 #![tactic(auto)]
 
@@ -13,4 +13,4 @@ mod tests;
 mod watchers;
 
 pub use book::Book;
-pub use member::{Member, Topics};
+pub use member::Member;

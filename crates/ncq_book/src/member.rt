@@ -3,9 +3,6 @@ use ncq_base::{Bytes, FileId, Sequence};
 use ncq_event::Timing;
 use ncq_plan::NormalQuery;
 
-/// Numbers of what members watch.
-pub type Topics = Sequence<u64>;
-
 /// A live subscription: what it asks, where the rows of that stand, and when it fires.
 #[derive(Drop)]
 pub struct Member {
@@ -13,11 +10,9 @@ pub struct Member {
     pub name: Bytes,
     /// The names of the sources that it asks.
     pub sources: Sequence<Bytes>,
-    /// The numbers of what it watches: a change there concerns it.
-    pub topics: Topics,
     /// Its query in normal form.
     pub query: NormalQuery,
-    /// The file of its plan.
+    /// The file of its plan: a change that feeds it concerns the member.
     pub file: FileId,
     /// When it fires and when it ends.
     pub timing: Timing,

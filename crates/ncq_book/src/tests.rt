@@ -2,38 +2,45 @@
 ghost use Rattle.std.specs.Prelude.{◌≡◌, ◌<◌, ◌+◌, [], IfOk};
 ghost use Rattle.std.specs.List.{AllByRecursion};
 
-use crate::{Book, Member, Topics};
+use crate::{Book, Member};
 use ncq_base::{Bytes, FileId, Sequence, bytes_of};
-use ncq_event::{Firing, Firings, Timing};
+use ncq_event::{Firing, Firings, Installs, Timing};
 use ncq_plan::{Arms, NormalQuery, SlotTemplate, Tests};
 use std::alloc::{AllocError, Global};
 use std::hash::RandomState;
 use std::process::Abort;
 use std::test::Fail;
 
-/// What members differ in: name; start, every, expiry; topics.
-type Row = (&'static str, (u64, u64, Option<u64>), &'static [u64]);
+/// What members differ in: name; start, every, expiry; the number of the file.
+type Row = (&'static str, (u64, u64, Option<u64>), u64);
 
-/// It fires from 10 on, each 10, and its topics do not matter.
-const TIMER: Row = ("timer", (10, 10, None), &[7]);
+/// It fires from 10 on, each 10, and changes of its file do not matter.
+const TIMER: Row = ("timer", (10, 10, None), 7);
 
-/// It fires at changes, up to 50, and names a topic twice.
-const CHANGES: Row = ("changes", (0, 0, Some(50)), &[7, 9, 7]);
+/// It fires at changes, up to 50.
+const CHANGES: Row = ("changes", (0, 0, Some(50)), 9);
 
 /// It fires at changes from 30 on, up to 40.
-const PENDING: Row = ("pending", (30, 0, Some(40)), &[9, 3]);
+const PENDING: Row = ("pending", (30, 0, Some(40)), 7);
 
-/// The last instant, and the last two topics.
+/// It fires at changes of the same file.
+const SHARER: Row = ("sharer", (0, 0, None), 7);
+
+/// The last instant, and the last file.
 const LAST: Row = (
     "last",
     (18446744073709551615, 0, Some(18446744073709551615)),
-    &[18446744073709551614, 18446744073709551615],
+    18446744073709551615,
 );
 
-/// Topics, and whether the last member watches them.
-const LAST_WATCHERS: [(u64, &[u64]); 2] = [
-    (18446744073709551613, &[]),
-    (18446744073709551614, &[18446744073709551615]),
+/// Files, and whether the last member watches one of them.
+const LAST_WATCHERS: [(&[u64], &[u64]); 3] = [
+    (&[18446744073709551614], &[]),
+    (&[18446744073709551615], &[18446744073709551615]),
+    (
+        &[18446744073709551614, 18446744073709551615],
+        &[18446744073709551615],
+    ),
 ];
 
 /// The last firing of the last member.
@@ -45,15 +52,20 @@ const LAST_DUE: [(u64, &[(u64, u64)]); 2] = [
     ),
 ];
 
-/// A topic, and who watches it.
-const WATCHERS: [(u64, &[u64]); 7] = [
-    (7, &[2]),
-    (9, &[2, 3]),
-    (3, &[3]),
-    (8, &[]),
-    (0, &[]),
-    (10, &[]),
-    (18446744073709551614, &[]),
+/// Files, and who watches one of them: install numbers rise whatever the order of the files, a file
+/// that is named twice counts once, and the timer is not told.
+const WATCHERS: [(&[u64], &[u64]); 11] = [
+    (&[7], &[3]),
+    (&[9], &[2]),
+    (&[7, 9], &[2, 3]),
+    (&[9, 7], &[2, 3]),
+    (&[9, 9], &[2]),
+    (&[7, 9, 7], &[2, 3]),
+    (&[8, 9], &[2]),
+    (&[], &[]),
+    (&[8], &[]),
+    (&[0, 10], &[]),
+    (&[18446744073709551615], &[]),
 ];
 
 /// The instant that the clock is moved to, from 0, and who is due.
@@ -97,14 +109,12 @@ fn member(alloc: Global, install: u64, name: Bytes, row: &Row) -> Result<Member,
     ensures install { IfOk result (λ m. m.install ≡ install) }
     ensures name { IfOk result (λ m. m.name ≡ name) }
 {
-    let (_, (start, every, expire), topics) = *row;
-    let topics = numbers(alloc, topics)?;
+    let (_, (start, every, expire), file) = *row;
     Ok(Member {
         name,
         sources: Sequence::new(alloc),
-        topics,
         query: any_query(alloc),
-        file: FileId(0),
+        file: FileId(file),
         timing: Timing {
             start,
             every,
@@ -142,8 +152,8 @@ fn three(alloc: Global, seed: RandomState) -> Result<Book, AllocError>
     Ok(book)
 }
 
-fn numbers(alloc: Global, from: &[u64]) -> Result<Topics, AllocError> {
-    let mut numbers = Topics::new(alloc);
+fn numbers(alloc: Global, from: &[u64]) -> Result<Installs, AllocError> {
+    let mut numbers = Installs::new(alloc);
     for number in from {
         numbers.push(*number)?;
     }
@@ -167,17 +177,16 @@ fn note_of(book: &Book, install: u64) -> Option<u64> {
     member.noted
 }
 
-/// Each topic of the rows is watched by those of its row.
+/// The files of each row are watched by those of the row.
 fn expect_watchers(
     rt: &impl Abort,
     alloc: Global,
     book: &Book,
-    rows: &[(u64, &[u64])],
+    rows: &[(&[u64], &[u64])],
 ) -> Result<(), AllocError> {
-    for (topic, want) in rows {
-        assert!(rt; *topic < u64::MAX);
-        let told = book.watchers(alloc, *topic)?;
-        assert!(rt; told == numbers(alloc, want)?, "{topic}");
+    for (files, want) in rows {
+        let told = book.watchers(alloc, files)?;
+        assert!(rt; told == numbers(alloc, want)?, "{files:?}");
     }
     Ok(())
 }
@@ -259,20 +268,26 @@ fn expect_removed(rt: &impl Abort, alloc: Global, book: &mut Book) -> Result<(),
     assert!(rt; take(alloc, book, "changes")?);
     assert!(rt; !take(alloc, book, "changes")?);
     assert!(rt; book.len() == 2);
-    expect_watchers(rt, alloc, book, &[(7, &[]), (9, &[3])])?;
+    expect_watchers(
+        rt,
+        alloc,
+        book,
+        &[(&[7], &[3]), (&[9, 7], &[3]), (&[9], &[])],
+    )?;
     expect_expired(rt, alloc, book, &[(51, &[3])])?;
     assert!(rt; put(alloc, book, 4, &CHANGES)?);
     assert!(rt; !put(alloc, book, 5, &CHANGES)?);
-    expect_watchers(rt, alloc, book, &[(7, &[4]), (9, &[3, 4])])
+    assert!(rt; put(alloc, book, 6, &SHARER)?);
+    expect_watchers(rt, alloc, book, &[(&[7], &[3, 6]), (&[9, 7], &[3, 4, 6])])
 }
 
 fn expect_left(rt: &impl Abort, alloc: Global, book: &mut Book) -> Result<(), AllocError> {
-    for install in [4, 1] {
+    for install in [4, 6, 1] {
         assert!(rt; book.take(install).is_some());
     }
     assert!(rt; book.take(2).is_none());
     assert!(rt; book.len() == 1 && book.get(3).is_some());
-    expect_watchers(rt, alloc, book, &[(9, &[3])])?;
+    expect_watchers(rt, alloc, book, &[(&[7, 9], &[3])])?;
     expect_due(rt, alloc, book, &[(99, &[(30, 3)])])
 }
 

@@ -1,24 +1,25 @@
 //! Who watches what.
-ghost use Rattle.std.specs.Prelude.{◌≡◌, ◌==◌, ◌&&◌, ◌||◌, ◌-◌, ◌<◌, ◌^◌, [], not, map, filter};
-ghost use Rattle.std.specs.Prelude.{false, nat_eq, IfOk, OnOk, OnErr};
+ghost use Rattle.std.specs.Prelude.{◌≡◌, ℕ, ◌&&◌, ◌||◌, [], not, nat_eq, IfOk, OnOk, OnErr};
 ghost use Rattle.std.specs.List.{list_any};
-ghost use Rattle.ncq_book.specs.Watches.{is_watch, Watch as a_watch, AreRisingWatches};
+ghost use Rattle.std.specs.List.Sorted.{IsStrictlySortedBy};
+ghost use Rattle.std.specs.Ordering.{nat_cmp};
+ghost use Rattle.ncq_book.specs.Watches.{is_watch, is_watched, Watch as a_watch};
 
 use ncq_event::Installs;
 use std::alloc::{AllocError, Global};
 use std::collections::BTreeSet;
 use std::marker::Model;
 
-/// That a member watches a topic. The derived order is by topic, then by install number.
+/// That a member fires at changes of a file. The derived order is by file, then by install number.
 #[derive(Clone, Copy, PartialEq, Eq, PartialOrd, Ord)]
 pub(crate) struct Watch {
-    /// The number of what is watched.
-    pub topic: u64,
+    /// The number of the file.
+    pub file: u64,
     /// The install number of the member.
     pub install: u64,
 }
 
-/// Watches, each once, by topic and then by install number. Contracts see them as that list.
+/// Watches, each once, by file and then by install number. Contracts see them as that list.
 #[derive(Drop)]
 pub(crate) struct Watchers {
     watches: BTreeSet<Watch>,
@@ -29,12 +30,15 @@ impl Model for Watchers {
     ghost use Rattle.std.specs.Coded.{coded_list};
     ghost use Rattle.ncq_book.specs.declared.watchers.Watch.{Watch};
     ghost use Rattle.ncq_book.specs.contracts.watchers.Watch.{the_row};
+    ghost use Rattle.ncq_book.specs.Watches.{InstallsFit};
 
     ghost Value = { List Watch };
 
     ghost coded = { coded_list the_row.coded };
 
     ghost view = { λ w. w.watches.keys };
+
+    ghost invariant = { λ w. InstallsFit w.watches.keys };
 }
 
 impl Watchers {
@@ -47,60 +51,47 @@ impl Watchers {
         }
     }
 
-    /// The install numbers of those that watch the topic, rising. Others are not looked at.
-    pub(crate) fn of(&self, alloc: Global, topic: u64) -> Result<Installs, AllocError>
-        requires { topic < 2 ^ 64 - 1 }
-        ensures watchers { IfOk result (λ installs. installs
-            ≡ map (λ w. w.install) (filter (λ w. w.topic == topic) self.now)) }
-        ensures rising { AreRisingWatches self.now }
+    /// The install numbers of those that watch one of the files, rising, each once. Others are not
+    /// looked at.
+    pub(crate) fn of(&self, alloc: Global, files: &[u64]) -> Result<Installs, AllocError>
+        ensures watchers { IfOk result (λ installs. (install : ℕ)
+            → list_any (nat_eq install) installs ≡ is_watched self.now files.now install) }
+        ensures rising { IfOk result (IsStrictlySortedBy nat_cmp) }
     {
-        let from = Watch { topic, install: 0 };
-        let to = Watch {
-            topic: topic + 1,
-            install: 0,
-        };
-        let installs = self
-            .watches
-            .range(from..to)
-            .map(|watch| watch.install)
-            .collect(alloc)?;
+        let mut installs = BTreeSet::new(alloc);
+        for file in files {
+            let first = Watch {
+                file: *file,
+                install: 0,
+            };
+            let last = Watch {
+                file: *file,
+                install: u64::MAX,
+            };
+            let watches = self.watches.range(first..=last);
+            installs.extend(watches.map(|watch| watch.install))?;
+        }
+        let installs = installs.into_iter().collect(alloc)?;
         Ok(Installs::from_vec(installs))
     }
 
-    /// The member, which watches nothing yet, watches these topics. Where memory runs out, it
-    /// watches nothing.
-    pub(crate) fn add(&mut self, topics: &[u64], install: u64) -> Result<(), AllocError>
-        requires { list_any (λ w. w.install == install) self.old ≡ false }
+    /// The member watches the file from now on. Where memory runs out, all is as before.
+    pub(crate) fn add(&mut self, file: u64, install: u64) -> Result<(), AllocError>
         ensures ok { OnOk result ((w : a_watch) → list_any (is_watch w) self.new
             ≡ (list_any (is_watch w) self.old
-            || w.install == install && list_any (nat_eq w.topic) topics.now)) }
-        ensures err { OnErr result ((w : a_watch) → list_any (is_watch w) self.new
-            ≡ list_any (is_watch w) self.old) }
+            || is_watch w (record { file = file; install = install }))) }
+        ensures err { OnErr result (self.new ≡ self.old) }
     {
-        for topic in topics {
-            let watch = Watch {
-                topic: *topic,
-                install,
-            };
-            if self.watches.insert(watch).is_err() {
-                self.remove(topics, install);
-                return Err(AllocError);
-            }
-        }
+        self.watches.insert(Watch { file, install })?;
         Ok(())
     }
 
-    /// The member watches none of these topics any more. It takes no memory.
-    pub(crate) fn remove(&mut self, topics: &[u64], install: u64)
+    /// The member does not watch the file any more. It takes no memory.
+    pub(crate) fn remove(&mut self, file: u64, install: u64)
         ensures { (w : a_watch) → list_any (is_watch w) self.new
             ≡ (list_any (is_watch w) self.old
-            && not (w.install == install && list_any (nat_eq w.topic) topics.now)) }
+            && not (is_watch w (record { file = file; install = install }))) }
     {
-        for topic in topics {
-            self.watches.remove(&Watch {
-                topic: *topic,
-                install,
-            });
-        }
+        self.watches.remove(&Watch { file, install });
     }
 }

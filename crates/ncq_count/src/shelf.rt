@@ -15,12 +15,13 @@ ghost use Rattle.ncq_shelf.specs.Inputs.{AreInputs};
 ghost use Rattle.ncq_shelf.specs.KeptFiles.{KeptFile};
 ghost use Rattle.ncq_shelf.specs.Stands.{Finds, IsGrounded, IsIdle, IsThere, Stands, TellsIdle};
 ghost use Rattle.ncq_feed.specs.Feeds.{IsPreparedFrom, AreReady, AreFed, world_after, feed_work};
+ghost use Rattle.ncq_feed.specs.Feeds.{NamesTheFed};
 ghost use Rattle.ncq_count.specs.FileExprs.{exprs_of};
 
 use crate::groups::Groups;
 use crate::key::key_of;
 use crate::lines::lines_of;
-use ncq_base::Steps;
+use ncq_base::{Sequence, Steps};
 use ncq_midfile::MidFile;
 use ncq_plan::Expr;
 use ncq_row::Rows;
@@ -203,21 +204,23 @@ impl CountedShelf {
     }
 
     /// Gives each file the signed rows that the change makes of its expression, under the number of
-    /// the change. After an error the files are as before. Each signed row is one step, whatever it
-    /// answers. The only error is that memory ran out.
+    /// the change. The answer names each file that got rows. After an error the files are as
+    /// before. Each signed row is one step, whatever it answers. The only error is that memory ran
+    /// out.
     pub fn feed<L: Ledger>(
         &mut self,
         alloc: Global,
         change: &Change,
         store: &Store,
         steps: &mut Steps<L>,
-    ) -> Result<(), AllocError>
+    ) -> Result<Sequence<u64>, AllocError>
         requires change { IsPreparedFrom store.now change.now }
         requires more { store.now.changes < 2 ^ 64 - 1 }
         requires ready { AreReady store.now.changes (world_in store.now) self.old }
         ensures fed { OnOk result (AreFed store.now change.now self.old self.new) }
         ensures ready { OnOk result (AreReady (store.now.changes + 1)
             (world_after store.now change.now) self.new) }
+        ensures named { IfOk result (NamesTheFed store.now.changes self.new) }
         ensures err { OnErr result (self.new ≡ self.old) }
         ensures cost { steps.new ≤ steps.old + feed_work store.now change.now self.old }
     {

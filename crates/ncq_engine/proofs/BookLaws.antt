@@ -4,23 +4,21 @@ use Rattle.std.specs.Prelude.{Option, Some, None, nat_le, nat_lt, is_some, IsSom
 use Rattle.std.specs.List.{filter, flat_map, list_any, AllByRecursion}
 use Rattle.ncq_base.specs.Keys.{times}
 use Rattle.ncq_book.specs.declared.member.Member.{Member}
-use Rattle.ncq_book.specs.Books.{InstallsRise, member_of, timing_of, watchers_of}
+use Rattle.ncq_book.specs.Books.{InstallsRise, member_of, timing_of}
 use Rattle.ncq_callback.specs.Labels.{Label}
 use Rattle.ncq_event.specs.declared.firing.Firing.{Firing}
 use Rattle.ncq_event.specs.Calendars.{due_firings}
 use Rattle.ncq_event.specs.Orders.{ordered, ordered_by, placed_by, is_before}
 use Rattle.ncq_shelf.specs.KeptFiles.{Files}
-use Rattle.ncq_source.specs.StoreStates.{StoreState, found}
-use Rattle.ncq_engine.specs.Engines.{HasTopics, Told, fired_if, moved_instant}
+use Rattle.ncq_source.specs.StoreStates.{StoreState}
+use Rattle.ncq_engine.specs.Engines.{Told, fired_if, moved_instant}
 use Rattle.ncq_engine.specs.Tellings.{firing_text, has_started, is_news_at, noted_by, started_at}
 use Rattle.ncq_engine.proofs.ByInstall.{fires_each, fires_found, firings_of, found_each}
-use Rattle.ncq_engine.proofs.ChangeLaws.{changed_instant}
 use Rattle.ncq_engine.proofs.CreateLaws.{created_firings, created_instant}
-use Rattle.ncq_engine.proofs.FiringLaws.{change_firings, move_firings, move_texts, move_times, told_texts, told_times}
+use Rattle.ncq_engine.proofs.FiringLaws.{move_firings, move_texts, move_times, told_texts, told_times}
 use Rattle.ncq_engine.proofs.Lists.{each_more}
 use Rattle.ncq_engine.proofs.NotedLaws.{fired_members}
 use Rattle.ncq_engine.proofs.ToldLaws.{told_of}
-use Rattle.ncq_engine.proofs.TopicLaws.{watch_all}
 
 -- each firing of one that has started is that of a member
 pub started_there : (now : ℕ) (members : List Member) (installs : List ℕ) → AllByRecursion (λ f. IsSome (member_of f.install members)) (flat_map (started_at now members) installs)
@@ -35,21 +33,6 @@ started_there now members (n ∷ more) = by (started_there now members more) (me
           | true ↦ (subst IsSome (sym e) refl, rest)
           | false ↦ rest
         ]
-
--- a change of the source at a place
-module _ (store : StoreState) (topic now : ℕ) (name : List ℕ) (members : List Member) (here : found store name ≡ Some topic) (rise : InstallsRise members) (watch : AllByRecursion (HasTopics store) members) where
-  abbrev started : List Firing
-  started = flat_map (started_at now members) (watchers_of topic members)
-
-  change_is : started ≡ firings_of (changed_instant name now) members
-  change_is = change_firings topic now name members rise (watch_all store name topic here now members members watch) (watchers_of topic members) started refl refl
-
-  pub change_text : (labels : List Label) (files : Files) → flat_map (firing_text labels store files members) started ≡ flat_map (λ (t : Told). t.text) (told_of labels store files (changed_instant name now) members)
-  change_text labels files = told_texts labels store files members (changed_instant name now) rise started change_is
-
-  pub change_time : (labels : List Label) (files : Files) → times (λ f. nat_lt 0 (length (firing_text labels store files members f))) started
-      ≡ times (λ (t : Told). nat_lt 0 (length t.text)) (told_of labels store files (changed_instant name now) members)
-  change_time labels files = told_times labels store files members (changed_instant name now) rise started change_is
 
 any_placed : (test : Firing → Bool) (x : Firing) (xs : List Firing) → list_any test (placed_by (λ f. f) x xs) ≡ (test x || list_any test xs)
 any_placed test x [] = refl

@@ -8,7 +8,7 @@ use Rattle.ncq_book.specs.declared.member.Member.{Member}
 use Rattle.ncq_book.specs.Books.{watchers_of}
 use Rattle.ncq_callback.specs.Labels.{Label}
 use Rattle.ncq_change.specs.Stores.{world_in}
-use Rattle.ncq_feed.specs.Feeds.{AreFed, world_after}
+use Rattle.ncq_feed.specs.Feeds.{AreFed, NamesTheFed, world_after}
 use Rattle.ncq_group.specs.Tables.{TableState, Facts}
 use Rattle.ncq_pyx.specs.declared.item.Item.{Item}
 use Rattle.ncq_roll.specs.Rolls.{RollState}
@@ -25,13 +25,14 @@ use Rattle.ncq_engine.specs.Applies.{Applies, ok_text}
 use Rattle.ncq_engine.specs.Engines.{CanTell, Told, last_in}
 use Rattle.ncq_engine.specs.Stands.{EngineState}
 use Rattle.ncq_engine.specs.Tellings.{firing_text, started_at}
-use Rattle.ncq_engine.proofs.BookLaws.{change_text, change_time}
 use Rattle.ncq_engine.proofs.ChangeLaws.{change_accepted, changed_instant, last_either}
 use Rattle.ncq_engine.proofs.CommandLaws.{engine}
 use Rattle.ncq_engine.proofs.InvariantLaws.{Invariant, can_fed, invariant_alike, invariant_changed, invariant_counted, world_committed}
 use Rattle.ncq_engine.proofs.Places.{same_names}
+use Rattle.ncq_engine.proofs.FedTexts.{asks_enough, fed_text, fed_time}
+use Rattle.ncq_engine.proofs.StoreLaws.{last_alike}
+use Rattle.ncq_engine.specs.History.{last_change}
 use Rattle.ncq_engine.proofs.ToldLaws.{told_of}
-use Rattle.ncq_engine.proofs.TopicLaws.{names_changed}
 
 -- the engine with room for the change, and the command counted
 abbrev pub mid_engine : EngineState → StoreState → EngineState
@@ -48,9 +49,10 @@ pub record IsFed (inside : EngineState) (change : ChangeState) (roll : RollState
   pub instant : roll.instant ≡ inside.clock
 
 -- and those that are concerned were told
-pub record IsTold (inside : EngineState) (known : List Label) (topic : ℕ) (roll : RollState) (line out' : List ℕ) (many : ℕ) : Type 0 where
-  pub text : out' ≡ line ++ flat_map (firing_text known inside.store roll.table.files roll.members) (flat_map (started_at roll.instant roll.members) (watchers_of topic roll.members))
-  pub times_are : many ≡ times (λ f. nat_lt 0 (length (firing_text known inside.store roll.table.files roll.members f))) (flat_map (started_at roll.instant roll.members) (watchers_of topic roll.members))
+pub record IsTold (inside : EngineState) (known : List Label) (fed : List ℕ) (roll : RollState) (line out' : List ℕ) (many : ℕ) : Type 0 where
+  pub named : NamesTheFed inside.store.changes roll.table.files fed
+  pub text : out' ≡ line ++ flat_map (firing_text known inside.store roll.table.files roll.members) (flat_map (started_at roll.instant roll.members) (watchers_of fed roll.members))
+  pub times_are : many ≡ times (λ f. nat_lt 0 (length (firing_text known inside.store roll.table.files roll.members f))) (flat_map (started_at roll.instant roll.members) (watchers_of fed roll.members))
 
 module _ (e : EngineState) (ready : StoreState) (name : List ℕ) (items : List Item) (change : ChangeState) (here : found e.store name ≡ Some change.source.0) (alike : IsAlike e.store ready)
     (prepares : At e.store change.source (λ s. IsPrepared s items change.entries))
@@ -88,24 +90,25 @@ module _ (e : EngineState) (ready : StoreState) (name : List ℕ) (items : List 
             | inr same ↦ omega (arith, low, more, same)
           ]
 
-      same_after : names after ≡ names ready
-      same_after = names_changed e.store ready after change name here alike.sources committed ∙ sym (same_names e.store.sources ready.sources alike.sources)
-
       changed_holds : Invariant (engine after e.clock (e.count + 1) e.creates e.labels e.members table)
       changed_holds =
           let few = holds.changes in let same = alike.changes in
-          invariant_changed (mid_engine e ready) change after table holds_mid committed.changes (let l : ready.changes + 1 ≤ e.count + 1 = omega (arith, few, same) in l) same_after last_more lasts_after fed fits_after number next
+          invariant_changed (mid_engine e ready) change after table holds_mid committed.changes (let l : ready.changes + 1 ≤ e.count + 1 = omega (arith, few, same) in l) last_more lasts_after fed fits_after number next
 
-      changed_applies : (out line out' : List ℕ) (many : ℕ) (applied first : Applied) → line ≡ out ++ ok_text (e.count + 1)
-          → IsTold (mid_engine e ready) e.labels change.source.0 (record { table = table; members = e.members; instant = e.clock }) line out' many
+      changed_applies : (list out line out' : List ℕ) (many : ℕ) (applied first : Applied) → line ≡ out ++ ok_text (e.count + 1)
+          → IsTold (mid_engine e ready) e.labels list (record { table = table; members = e.members; instant = e.clock }) line out' many
           → first ≡ record { from = length line; to = length line; notices = 0 } → applied ≡ record { from = first.from; to = length out'; notices = many }
           → Applies e (Delta name items) out (Ok applied) (engine after e.clock (e.count + 1) e.creates e.labels e.members table) out'
-      changed_applies out line out' many applied first line_is told first_is applied_is =
+      changed_applies list out line out' many applied first line_is told first_is applied_is =
           change_accepted e.store ready after e.clock e.count e.creates e.labels e.members e.table table name items change here alike.sources alike.changes good committed fed
-          (subst (λ n. Fits n (world_in after) table.files) number_is fits_after) (subst (λ n. AreUpTo n table.files) number_is facts.up_to) can out line out' many applied first line_is
-          (told.text ∙ ap (λ text. line ++ text) (change_text ready change.source.0 e.clock name e.members here_ready holds.rise holds_mid.watch e.labels table.files))
-          (told.times_are ∙ change_time ready change.source.0 e.clock name e.members here_ready holds.rise holds_mid.watch e.labels table.files)
-          first_is applied_is
+          (subst (λ n. Fits n (world_in after) table.files) number_is fits_after) (subst (λ n. AreUpTo n table.files) number_is facts.up_to) can
+          (flat_map (firing_text e.labels ready table.files e.members) (flat_map (started_at e.clock e.members) (watchers_of list e.members))) many
+          (λ h s contents upto.
+          let last : (asked : List ℕ) → last_in ready asked ≡ last_change asked h = λ asked. last_alike e.store ready asked alike.sources ∙ s.last asked in
+          let named = subst (λ n. NamesTheFed n table.files list) (alike.changes ∙ s.changes) told.named in
+          let enough = asks_enough e.labels h name items e.clock s.clock ready table last s.rising contents upto list named e.members s.members can in
+          (fed_text e.labels ready table.files list name e.clock e.members holds.rise enough, told.times_are ∙ fed_time e.labels ready table.files list name e.clock e.members holds.rise enough))
+          out line out' applied first line_is told.text first_is applied_is
 
   -- the members can be told of the files as they are fed
   pub can_tell : (inside : EngineState) → inside ≡ mid_engine e ready → (known : List Label) → e.labels ≡ known → (roll : RollState) → IsFed inside change roll → AllByRecursion (CanTell known inside.store roll.table) roll.members
@@ -123,14 +126,14 @@ module _ (e : EngineState) (ready : StoreState) (name : List ℕ) (items : List 
       (changed_holds roll.table f.fed f.fits f.number f.next_file f.facts after d)) fed done
 
   pub change_answers : (inside : EngineState) → inside ≡ mid_engine e ready → (known : List Label) → e.labels ≡ known → (roll : RollState) → IsFed inside change roll → (after : StoreState) → IsCommitted inside.store change after
-      → (out line out' : List ℕ) (many : ℕ) (applied first : Applied) → line ≡ out ++ ok_text (e.count + 1) → IsTold inside known change.source.0 roll line out' many
+      → (list out line out' : List ℕ) (many : ℕ) (applied first : Applied) → line ≡ out ++ ok_text (e.count + 1) → IsTold inside known list roll line out' many
       → first ≡ record { from = length line; to = length line; notices = 0 } → applied ≡ record { from = first.from; to = length out'; notices = many }
       → Applies e (Delta name items) out (Ok applied) (engine after roll.instant inside.count inside.creates inside.labels roll.members roll.table) out'
-  change_answers inside is known handled roll fed after done out line out' many applied first line_is told first_is applied_is =
-      subst (λ (x : EngineState). IsFed x change roll → IsCommitted x.store change after → IsTold x known change.source.0 roll line out' many
+  change_answers inside is known handled roll fed after done list out line out' many applied first line_is told first_is applied_is =
+      subst (λ (x : EngineState). IsFed x change roll → IsCommitted x.store change after → IsTold x known list roll line out' many
       → Applies e (Delta name items) out (Ok applied) (engine after roll.instant x.count x.creates x.labels roll.members roll.table) out') (sym is)
       (λ f d t. subst (λ (p : List Member × ℕ). Applies e (Delta name items) out (Ok applied) (engine after p.1 (e.count + 1) e.creates e.labels p.0 roll.table) out') (λ i. (sym f.members i, sym f.instant i))
-      (changed_applies roll.table f.fed f.fits f.number f.next_file f.facts after d out line out' many applied first line_is
-      (subst (λ (p : List Member × ℕ). IsTold (mid_engine e ready) e.labels change.source.0 (record { table = roll.table; members = p.0; instant = p.1 }) line out' many) (λ i. (f.members i, f.instant i))
-      (subst (λ (l : List Label). IsTold (mid_engine e ready) l change.source.0 roll line out' many) (sym handled) t))
+      (changed_applies roll.table f.fed f.fits f.number f.next_file f.facts after d list out line out' many applied first line_is
+      (subst (λ (p : List Member × ℕ). IsTold (mid_engine e ready) e.labels list (record { table = roll.table; members = p.0; instant = p.1 }) line out' many) (λ i. (f.members i, f.instant i))
+      (subst (λ (l : List Label). IsTold (mid_engine e ready) l list roll line out' many) (sym handled) t))
       first_is applied_is)) fed done told

@@ -235,19 +235,24 @@ module _ (store ready after_store : StoreState) (clock count creates : ℕ) (lab
         ∙ times_of labels h (Delta name items) ready fed.files (firings h (Delta name items))
         ∙ ap (times (λ f. nat_lt 0 (length (notice_at (language_of labels) h (Delta name items) f)))) (sym (told_in_order h name items))
 
+  -- the texts and how many are not empty are those of the members that the change concerns
+  abbrev pub AreOfConcerned : List ℕ → ℕ → Type 0
+  AreOfConcerned texts n = (h : History) → Follows old_engine h → AreContents fed.files (Delta name items ∷ h) → AreUpTo (changes (Delta name items ∷ h)) fed.files
+      → (texts ≡ flat_map (λ (t : Told). t.text) (told_of labels ready fed.files (changed_instant name clock) members))
+      × (n ≡ times (λ (t : Told). nat_lt 0 (length t.text)) (told_of labels ready fed.files (changed_instant name clock) members))
+
   -- an accepted change, from what the calls give
   pub change_accepted : AreFed ready change table.files fed.files → Fits (store.changes + 1) (world_in after_store) fed.files → AreUpTo (store.changes + 1) fed.files → AllByRecursion (CanTell labels ready fed) members
-      → (out out1 out' : List ℕ) (n : ℕ) (applied first : Applied)
-      → out1 ≡ out ++ ok_text (count + 1) → out' ≡ out1 ++ flat_map (λ (t : Told). t.text) (told_of labels ready fed.files (changed_instant name clock) members)
-      → n ≡ times (λ (t : Told). nat_lt 0 (length t.text)) (told_of labels ready fed.files (changed_instant name clock) members)
+      → (texts : List ℕ) (n : ℕ) → AreOfConcerned texts n → (out out1 out' : List ℕ) (applied first : Applied)
+      → out1 ≡ out ++ ok_text (count + 1) → out' ≡ out1 ++ texts
       → first ≡ record { from = length out1; to = length out1; notices = 0 } → applied ≡ record { from = first.from; to = length out'; notices = n }
       → Applies old_engine (Delta name items) out (Ok applied) (engine after_store clock (count + 1) creates labels members fed) out'
-  change_accepted done fits upto can out out1 out' n applied first line text counted first_is applied_is =
+  change_accepted done fits upto can texts n concerned out out1 out' applied first line text first_is applied_is =
       accepts old_engine (Delta name items) out applied (engine after_store clock (count + 1) creates labels members fed) out' texts []
       (record {
         accepted = λ h s. (delta_allowed h s, delta_follows h s (contents_are h s done fits));
-        tells = λ h s. delta_texts h s (contents_are h s done fits) (upto_now h s) can;
-        counts = λ h s. ap (λ (a : Applied). a.notices) applied_is ∙ counted ∙ delta_times h s (contents_are h s done fits) (upto_now h s) can;
+        tells = λ h s. (concerned h s (contents_are h s done fits) (upto_now h s)).0 ∙ delta_texts h s (contents_are h s done fits) (upto_now h s) can;
+        counts = λ h s. ap (λ (a : Applied). a.notices) applied_is ∙ (concerned h s (contents_are h s done fits) (upto_now h s)).1 ∙ delta_times h s (contents_are h s done fits) (upto_now h s) can;
         ends = λ h s. refl;
         counted = refl;
         named = refl;
@@ -256,9 +261,6 @@ module _ (store ready after_store : StoreState) (clock count creates : ℕ) (lab
       (ap (λ (a : Applied). a.from) applied_is ∙ ap (λ (a : Applied). a.from) first_is ∙ ap length line)
       (ap (λ (a : Applied). a.to) applied_is ∙ ap length whole)
     where
-      texts : List ℕ
-      texts = flat_map (λ (t : Told). t.text) (told_of labels ready fed.files (changed_instant name clock) members)
-
       upto_now : (h : History) → Follows old_engine h → AreUpTo (changes (Delta name items ∷ h)) fed.files
       upto_now h s = subst (λ n. AreUpTo n fed.files) (let e = s.changes in (let q : store.changes + 1 ≡ changes (Delta name items ∷ h) = omega (arith, e) in q)) upto
 

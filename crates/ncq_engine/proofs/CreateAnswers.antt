@@ -30,7 +30,7 @@ use Rattle.ncq_xmlql.specs.declared.model.Statement.{Statement}
 use Rattle.ncq_xmlql.specs.WellFormed.{IsWellFormed as IsWhole}
 use Rattle.ncq_engine.specs.declared.engine.Applied.{Applied}
 use Rattle.ncq_engine.specs.Applies.{Applies, kind_at, ok_text}
-use Rattle.ncq_engine.specs.Engines.{CanTell, HasTopics, InstallsAreUpTo, fired_if, new_member}
+use Rattle.ncq_engine.specs.Engines.{CanTell, InstallsAreUpTo, fired_if, new_member}
 use Rattle.ncq_engine.specs.Notices.{kind_in}
 use Rattle.ncq_engine.specs.Output.{is_at_odds}
 use Rattle.ncq_engine.specs.Joins.{IsMemberOf, timed}
@@ -66,7 +66,7 @@ pub record IsToldFirst (inside : EngineState) (known : List Label) (roll : RollS
   pub times_are : many ≡ times (λ f. nat_lt 0 (length (firing_text known inside.store roll.table.files roll.members f))) firings
 
 -- the statement and what was found of it
-pub record IsRead (e : EngineState) (statement : Statement) (query : NormalQuery) (action : ℕ) (topics : List ℕ) : Type 0 where
+pub record IsRead (e : EngineState) (statement : Statement) (query : NormalQuery) (action : ℕ) : Type 0 where
   pub whole : IsWhole statement
   pub binds : Binds statement.query (roots_in e.store) (Ok query)
   pub formed : IsWellFormed query
@@ -75,15 +75,14 @@ pub record IsRead (e : EngineState) (statement : Statement) (query : NormalQuery
   pub fitting : is_at_odds (kind_in statement.action e.labels) statement.argument ≡ false
   pub free : list_any (λ m. bytes_eq statement.name m.name) e.members ≡ false
   pub timely : is_expired (timed statement e.clock) (timed statement e.clock).start ≡ false
-  pub watched : map (found e.store) (sources_of statement) ≡ map Some topics
 
 -- the member that comes of them, with this file
-abbrev pub made : EngineState → Statement → NormalQuery → ℕ → List ℕ → FileId → Member
-made e statement query action topics file = new_member statement query (timed statement e.clock) action e.creates topics file
+abbrev pub made : EngineState → Statement → NormalQuery → ℕ → FileId → Member
+made e statement query action file = new_member statement query (timed statement e.clock) action e.creates file
 
-module _ (e : EngineState) (statement : Statement) (query : NormalQuery) (action : ℕ) (topics : List ℕ) (holds : Invariant e) (read : IsRead e statement query action topics) where
+module _ (e : EngineState) (statement : Statement) (query : NormalQuery) (action : ℕ) (holds : Invariant e) (read : IsRead e statement query action) where
   abbrev own : FileId → Member
-  own = made e statement query action topics
+  own = made e statement query action
 
   few : e.creates + 1 ≤ e.count + 1
   few = let c = holds.creates_too in omega (arith, c)
@@ -105,7 +104,7 @@ module _ (e : EngineState) (statement : Statement) (query : NormalQuery) (action
     own_can = can_new e.labels e.store roll.table (world_in e.store) fits_now (own inn.file) read.formed read.within refl inn.installed.stands
 
     added : Invariant (engine e.store e.clock (e.count + 1) (e.creates + 1) e.labels all roll.table)
-    added = invariant_added (counted_engine e) (plan_of query) roll.table inn.file.0 (own inn.file) (invariant_counted e holds) inn.installed fits_now (plan_is_well_formed query read.formed).small own_can read.watched refl few
+    added = invariant_added (counted_engine e) (plan_of query) roll.table inn.file.0 (own inn.file) (invariant_counted e holds) inn.installed fits_now (plan_is_well_formed query read.formed).small own_can refl few
 
     rise : InstallsRise all
     rise = added.rise
@@ -133,7 +132,7 @@ module _ (e : EngineState) (statement : Statement) (query : NormalQuery) (action
           → applied.from ≡ length line → applied.to ≡ length out' → applied.notices ≡ many
           → Applies e (Create statement) out (Ok applied) (engine e.store e.clock (e.count + 1) (e.creates + 1) e.labels (noted_by e.store.changes firings all) roll.table) out'
       applies out line out' many applied line_is told from to notices =
-          create_accepted e.store e.clock e.count e.creates e.labels e.members e.table roll.table statement query action topics inn.file read.whole read.binds read.kind inn.installed holds.number inn.fits upto
+          create_accepted e.store e.clock e.count e.creates e.labels e.members e.table roll.table statement query action inn.file read.whole read.binds read.kind inn.installed holds.number inn.fits upto
           read.fitting read.free read.timely can holds.installed out line out' applied (noted_by e.store.changes firings all) line_is
           (told.text ∙ ap (λ text. line ++ text) (create_text e.store e.clock e.members (own inn.file) rise (below inn.file) starting.installs starting.kept firings starting.installs_is starting.kept_is starting.slice_is e.labels roll.table.files))
           from to
@@ -141,23 +140,23 @@ module _ (e : EngineState) (statement : Statement) (query : NormalQuery) (action
           noted_is
 
 -- by the names of the code
-module _ (e inside : EngineState) (is : inside ≡ counted_engine e) (known : List Label) (handled : e.labels ≡ known) (statement : Statement) (query : NormalQuery) (action : ℕ) (topics : List ℕ) (holds : Invariant e) (read : IsRead e statement query action topics)
-    (roll : RollState) (inn : IsIn inside query (made e statement query action topics) roll) where
-  here : IsIn (counted_engine e) query (made e statement query action topics) roll
-  here = subst (λ (x : EngineState). IsIn x query (made e statement query action topics) roll) is inn
+module _ (e inside : EngineState) (is : inside ≡ counted_engine e) (known : List Label) (handled : e.labels ≡ known) (statement : Statement) (query : NormalQuery) (action : ℕ) (holds : Invariant e) (read : IsRead e statement query action)
+    (roll : RollState) (inn : IsIn inside query (made e statement query action) roll) where
+  here : IsIn (counted_engine e) query (made e statement query action) roll
+  here = subst (λ (x : EngineState). IsIn x query (made e statement query action) roll) is inn
 
   abbrev full : List Member
-  full = e.members ++ made e statement query action topics here.file ∷ []
+  full = e.members ++ made e statement query action here.file ∷ []
 
   pub create_can : AllByRecursion (CanTell known inside.store roll.table) roll.members
   create_can = subst (λ (ms : List Member). AllByRecursion (CanTell known inside.store roll.table) ms) (sym here.members)
       (subst (λ (l : List Label). AllByRecursion (CanTell l inside.store roll.table) full) handled
-      (subst (λ (x : EngineState). AllByRecursion (CanTell e.labels x.store roll.table) full) (sym is) (can e statement query action topics holds read roll here)))
+      (subst (λ (x : EngineState). AllByRecursion (CanTell e.labels x.store roll.table) full) (sym is) (can e statement query action holds read roll here)))
 
   pub added_holds : Invariant (engine inside.store roll.instant inside.count (inside.creates + 1) inside.labels roll.members roll.table)
   added_holds = subst (λ (x : EngineState). Invariant (engine x.store roll.instant x.count (x.creates + 1) x.labels roll.members roll.table)) (sym is)
       (subst (λ (p : List Member × ℕ). Invariant (engine e.store p.1 (e.count + 1) (e.creates + 1) e.labels p.0 roll.table)) (λ i. (sym here.members i, sym here.instant i))
-      (added e statement query action topics holds read roll here))
+      (added e statement query action holds read roll here))
 
   module _ (firings : List Firing) (starting : IsStarting roll (inside.creates + 1) firings) where
     start : IsStarting (record { table = roll.table; members = full; instant = e.clock }) (e.creates + 1) firings
@@ -165,12 +164,12 @@ module _ (e inside : EngineState) (is : inside ≡ counted_engine e) (known : Li
         (subst (λ (x : EngineState). IsStarting roll (x.creates + 1) firings) is starting)
 
     pub there_first : AllByRecursion (λ f. IsSome (member_of f.install roll.members)) firings
-    there_first = subst (λ (ms : List Member). AllByRecursion (λ f. IsSome (member_of f.install ms)) firings) (sym here.members) (there e statement query action topics holds read roll here firings start)
+    there_first = subst (λ (ms : List Member). AllByRecursion (λ f. IsSome (member_of f.install ms)) firings) (sym here.members) (there e statement query action holds read roll here firings start)
 
     pub told_holds : Invariant (engine inside.store roll.instant inside.count (inside.creates + 1) inside.labels (noted_by inside.store.changes firings roll.members) roll.table)
     told_holds = subst (λ (x : EngineState). Invariant (engine x.store roll.instant x.count (x.creates + 1) x.labels (noted_by x.store.changes firings roll.members) roll.table)) (sym is)
         (subst (λ (p : List Member × ℕ). Invariant (engine e.store p.1 (e.count + 1) (e.creates + 1) e.labels (noted_by e.store.changes firings p.0) roll.table)) (λ i. (sym here.members i, sym here.instant i))
-        (noted_holds e statement query action topics holds read roll here firings start))
+        (noted_holds e statement query action holds read roll here firings start))
 
     pub create_answers : (out line out' : List ℕ) (many : ℕ) (applied : Applied) → line ≡ out ++ ok_text (e.count + 1) → IsToldFirst inside known roll firings line out' many
         → applied.from ≡ length line → applied.to ≡ length out' → applied.notices ≡ many
@@ -178,14 +177,14 @@ module _ (e inside : EngineState) (is : inside ≡ counted_engine e) (known : Li
     create_answers out line out' many applied line_is told from to notices =
         subst (λ (x : EngineState). Applies e (Create statement) out (Ok applied) (engine x.store roll.instant x.count (x.creates + 1) x.labels (noted_by x.store.changes firings roll.members) roll.table) out') (sym is)
         (subst (λ (p : List Member × ℕ). Applies e (Create statement) out (Ok applied) (engine e.store p.1 (e.count + 1) (e.creates + 1) e.labels (noted_by e.store.changes firings p.0) roll.table) out') (λ i. (sym here.members i, sym here.instant i))
-        (applies e statement query action topics holds read roll here firings start out line out' many applied line_is
+        (applies e statement query action holds read roll here firings start out line out' many applied line_is
         (subst (λ (p : List Member × ℕ). IsToldFirst (counted_engine e) e.labels (record { table = roll.table; members = p.0; instant = p.1 }) firings line out' many) (λ i. (here.members i, here.instant i))
         (subst (λ (l : List Label). IsToldFirst (counted_engine e) l roll firings line out' many) (sym handled)
         (subst (λ (x : EngineState). IsToldFirst x known roll firings line out' many) is told)))
         from to notices))
 
 -- what was read of a member's statement
-pub read_in : (e : EngineState) (statement : Statement) (m : Member) → IsMemberOf e statement m → IsRead e statement m.query m.action m.topics
+pub read_in : (e : EngineState) (statement : Statement) (m : Member) → IsMemberOf e statement m → IsRead e statement m.query m.action
 read_in e statement m i = record {
   whole = i.whole;
   binds = i.binds;
@@ -195,7 +194,6 @@ read_in e statement m i = record {
   fitting = i.fitting;
   free = i.free;
   timely = i.timely;
-  watched = i.watched;
 }
 
 pub free_is : (e : EngineState) (statement : Statement) (m : Member) → IsMemberOf e statement m → list_any (λ n. bytes_eq m.name n.name) e.members ≡ false
@@ -206,11 +204,11 @@ above_is e statement m i holds = above_all e.creates e.members m.install holds.i
 
 -- it is one, from what the calls tell
 pub member_of_it : (first e : EngineState) → first ≡ e → (known : List Label) → e.labels ≡ known → (statement : Statement) (query : NormalQuery) (action : ℕ) (timing : Timing) (member : Member) → timing ≡ timed statement first.clock
-    → (topics : List ℕ) × (member ≡ new_member statement query timing action e.creates topics member.file)
+    → member ≡ new_member statement query timing action e.creates member.file
     → IsWhole statement → Binds statement.query (roots_in first.store) (Ok query) → IsWellFormed query → action < length known → kind_at known action ≡ kind_in statement.action known
-    → is_at_odds (kind_at known action) statement.argument ≡ false → list_any (λ m. bytes_eq statement.name m.name) first.members ≡ false → is_expired timing timing.start ≡ false → HasTopics e.store member
+    → is_at_odds (kind_at known action) statement.argument ≡ false → list_any (λ m. bytes_eq statement.name m.name) first.members ≡ false → is_expired timing timing.start ≡ false
     → IsMemberOf e statement member
-member_of_it first e is known handled statement query action timing member timed_is one whole binds formed within kind fits free late watched =
+member_of_it first e is known handled statement query action timing member timed_is one whole binds formed within kind fits free late =
     subst (IsMemberOf e statement) (sym member_is) (record {
       whole = whole;
       binds = subst (λ (s : StoreState). Binds statement.query (roots_in s) (Ok query)) (ap (λ (x : EngineState). x.store) is) binds;
@@ -220,21 +218,20 @@ member_of_it first e is known handled statement query action timing member timed
       fitting = subst (λ (l : List Label). is_at_odds (kind_in statement.action l) statement.argument ≡ false) (sym handled) (ap (λ k. is_at_odds k statement.argument) (sym kind) ∙ fits);
       free = ap (λ (x : EngineState). list_any (λ (m : Member). bytes_eq statement.name m.name) x.members) (sym is) ∙ free;
       timely = subst (λ (t : Timing). is_expired t t.start ≡ false) now late;
-      watched = subst (HasTopics e.store) member_is watched;
       made = refl;
     })
   where
     now : timing ≡ timed statement e.clock
     now = timed_is ∙ ap (λ (x : EngineState). timed statement x.clock) is
 
-    member_is : member ≡ new_member statement query (timed statement e.clock) action e.creates one.0 member.file
-    member_is = one.1 ∙ ap (λ t. new_member statement query t action e.creates one.0 member.file) now
+    member_is : member ≡ new_member statement query (timed statement e.clock) action e.creates member.file
+    member_is = one ∙ ap (λ t. new_member statement query t action e.creates member.file) now
 
 -- the member came in, from what the roll tells
-pub joined_in : (store : StoreState) (count creates : ℕ) (labels : List Label) (old roll : RollState) (e : EngineState) (statement : Statement) (query : NormalQuery) (action : ℕ) (topics : List ℕ) (plan : Expr) (member : Member)
-    → plan ≡ plan_of query → member ≡ made e statement query action topics member.file → HasJoined plan member old roll → Fits old.table.number (world_in store) roll.table.files → roll.instant ≡ old.instant → Facts roll.table
-    → IsIn (engine store old.instant count creates labels old.members old.table) query (made e statement query action topics) roll
-joined_in store count creates labels old roll e statement query action topics plan member plan_is member_is joined fits instant facts = record {
+pub joined_in : (store : StoreState) (count creates : ℕ) (labels : List Label) (old roll : RollState) (e : EngineState) (statement : Statement) (query : NormalQuery) (action : ℕ) (plan : Expr) (member : Member)
+    → plan ≡ plan_of query → member ≡ made e statement query action member.file → HasJoined plan member old roll → Fits old.table.number (world_in store) roll.table.files → roll.instant ≡ old.instant → Facts roll.table
+    → IsIn (engine store old.instant count creates labels old.members old.table) query (made e statement query action) roll
+joined_in store count creates labels old roll e statement query action plan member plan_is member_is joined fits instant facts = record {
   file = joined.file;
   installed = subst (λ p. IsInstalled p old.table roll.table joined.file.0) plan_is joined.installed;
   members = joined.members ∙ ap (λ (m : Member). old.members ++ record m { file = joined.file } ∷ []) member_is;

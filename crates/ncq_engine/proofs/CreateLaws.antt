@@ -168,10 +168,10 @@ created_firings clock ms m less =
     by false = refl
 
 -- the new subscription is kept, as it has not fired
-keeps_new : (store : StoreState) (clock count creates : ℕ) (labels : List Label) (members : List Member) (table : TableState) (statement : Statement) (query : NormalQuery) (action : ℕ) (topics : List ℕ) (file : FileId)
+keeps_new : (store : StoreState) (clock count creates : ℕ) (labels : List Label) (members : List Member) (table : TableState) (statement : Statement) (query : NormalQuery) (action : ℕ) (file : FileId)
     → IsWhole statement → Binds statement.query (roots_in store) (Ok query) → kind_at labels action ≡ kind_in statement.action labels
-    → (h : History) → Follows (engine store clock count creates labels members table) h → Keeps labels h (created statement h) (new_member statement query (timed statement clock) action creates topics file)
-keeps_new store clock count creates labels members table statement query action topics file whole binds kind h s = record {
+    → (h : History) → Follows (engine store clock count creates labels members table) h → Keeps labels h (created statement h) (new_member statement query (timed statement clock) action creates file)
+keeps_new store clock count creates labels members table statement query action file whole binds kind h s = record {
   name = refl;
   sources = refl;
   whole = whole;
@@ -194,11 +194,11 @@ keeps_new store clock count creates labels members table statement query action 
         both true = refl
         both false = refl
 
-module _ (store : StoreState) (clock count creates : ℕ) (labels : List Label) (members : List Member) (old table : TableState) (statement : Statement) (query : NormalQuery) (action : ℕ) (topics : List ℕ) (file : FileId)
+module _ (store : StoreState) (clock count creates : ℕ) (labels : List Label) (members : List Member) (old table : TableState) (statement : Statement) (query : NormalQuery) (action : ℕ) (file : FileId)
     (whole : IsWhole statement) (binds : Binds statement.query (roots_in store) (Ok query)) (kind : kind_at labels action ≡ kind_in statement.action labels)
     (done : IsInstalled (plan_of query) old table file.0) (number : old.number ≡ store.changes) (fits : Fits old.number (world_in store) table.files) (upto : AreUpTo store.changes table.files) where
   abbrev made : Member
-  made = new_member statement query (timed statement clock) action creates topics file
+  made = new_member statement query (timed statement clock) action creates file
 
   abbrev all : List Member
   all = members ++ made ∷ []
@@ -208,10 +208,10 @@ module _ (store : StoreState) (clock count creates : ℕ) (labels : List Label) 
 
   -- the members behind the create
   abbrev pub created_members : List Member
-  created_members = map (λ m. fired_if (is_some (created_instant clock (creates + 1) m)) store m) (members ++ new_member statement query (timed statement clock) action creates topics file ∷ [])
+  created_members = map (λ m. fired_if (is_some (created_instant clock (creates + 1) m)) store m) (members ++ new_member statement query (timed statement clock) action creates file ∷ [])
 
   abbrev pub created_list : List Told
-  created_list = told_of labels store table.files (created_instant clock (creates + 1)) (members ++ new_member statement query (timed statement clock) action creates topics file ∷ [])
+  created_list = told_of labels store table.files (created_instant clock (creates + 1)) (members ++ new_member statement query (timed statement clock) action creates file ∷ [])
 
   module _ (can : AllByRecursion (CanTell labels store table) all) (few : InstallsAreUpTo creates members) (h : History) (s : Follows (engine store clock count creates labels members old) h) where
     abbrev own : Subscription
@@ -248,7 +248,7 @@ module _ (store : StoreState) (clock count creates : ℕ) (labels : List Label) 
     olds_fire (x ∷ subs) (m ∷ ms) p i b = ((p.0, quiet_one clock made.install m b.0 ∙ sym (old_quiet statement h x i.0)), olds_fire subs ms p.1 i.1 b.1)
 
     own_keeps : Keeps labels h own made
-    own_keeps = keeps_new store clock count creates labels members old statement query action topics file whole binds kind h s
+    own_keeps = keeps_new store clock count creates labels members old statement query action file whole binds kind h s
 
     firing : Pairwise (λ s m. Keeps labels h s m × (instant m ≡ fires s h (Create statement))) (live h ++ own ∷ []) all
     firing = pairwise_push (λ s m. Keeps labels h s m × (instant m ≡ fires s h (Create statement))) (live h) members own made (olds_fire (live h) members s.members (installed h) below) (own_keeps, own_fires)

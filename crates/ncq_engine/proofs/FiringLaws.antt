@@ -18,7 +18,6 @@ use Rattle.ncq_source.specs.StoreStates.{StoreState}
 use Rattle.ncq_engine.specs.Engines.{Told, has_news_in, mark_in, moved_instant, told_at, told_text}
 use Rattle.ncq_engine.specs.Tellings.{firing_text, has_started, has_its_news, is_news_at, started_at, text_of}
 use Rattle.ncq_engine.proofs.ByInstall.{AreFound, firings_of, found_each}
-use Rattle.ncq_engine.proofs.ChangeLaws.{changed_instant}
 use Rattle.ncq_engine.proofs.Lists.{filter_append}
 use Rattle.ncq_engine.proofs.ToldLaws.{order_made, times_ordered, told_of}
 use Rattle.ncq_shelf.specs.KeptFiles.{Files}
@@ -117,37 +116,3 @@ module _ (store : StoreState) (now to : ℕ) (all : List Member) where
   move_firings rise due firings d f =
       f ∙ ap (filter (is_news_at store all)) d ∙ kept_in_order (is_news_at store all) (flat_map (due_of now to) (map timing_of all))
       ∙ ap ordered (due_kept all (found_each all rise))
-
--- the watchers of a source that have started are the members that its change fires
-module _ (topic now : ℕ) (name : List ℕ) (all : List Member) where
-  -- what is watched is the source
-  abbrev pub Watch : Member → Type 0
-  Watch m = list_any (nat_eq topic) m.topics ≡ list_any (bytes_eq name) m.sources
-
-  one_now : (m : Member) → member_of m.install all ≡ Some m
-      → started_at now all m.install ≡ (if nat_le m.timing.start now then record { instant = now; install = m.install } ∷ [] else [])
-  one_now m e = λ i. if has_started now (e i) then record { instant = now; install = m.install } ∷ [] else []
-
-  by_tests : (install : ℕ) (here : List Firing) (every start asks : Bool) (xs : List ℕ) (rest : List Firing) → flat_map (started_at now all) xs ≡ rest
-      → here ≡ started_at now all install → here ≡ (if start then record { instant = now; install = install } ∷ [] else [])
-      → flat_map (started_at now all) (cond (every && asks) (install ∷ xs) xs) ≡ firing_at install (if every && start && asks then Some now else None) ++ rest
-  by_tests install here true true true xs rest e h s = (λ i. (sym h ∙ s) i ++ e i)
-  by_tests install here true false true xs rest e h s = (λ i. (sym h ∙ s) i ++ e i)
-  by_tests install here true true false xs rest e h s = e
-  by_tests install here true false false xs rest e h s = e
-  by_tests install here false start asks xs rest e h s = e
-
-  chosen_map : (t : Bool) (m : Member) (ms : List Member) → map (λ m. m.install) (cond t (m ∷ ms) ms) ≡ cond t (m.install ∷ map (λ m. m.install) ms) (map (λ m. m.install) ms)
-  chosen_map true m ms = refl
-  chosen_map false m ms = refl
-
-  change_started : (ms : List Member) → AreFound all ms → AllByRecursion Watch ms → flat_map (started_at now all) (watchers_of topic ms) ≡ firings_of (changed_instant name now) ms
-  change_started [] h w = refl
-  change_started (m ∷ ms) h w =
-      ap (flat_map (started_at now all)) (chosen_map (watches topic m) m (filter (watches topic) ms) ∙ (λ i. cond (m.timing.every == 0 && w.0 i) (m.install ∷ watchers_of topic ms) (watchers_of topic ms)))
-      ∙ by_tests m.install (started_at now all m.install) (m.timing.every == 0) (nat_le m.timing.start now) (list_any (bytes_eq name) m.sources) (watchers_of topic ms) (firings_of (changed_instant name now) ms)
-      (change_started ms h.1 w.1) refl (one_now m h.0)
-
-  pub change_firings : InstallsRise all → AllByRecursion Watch all → (watchers : List ℕ) (firings : List Firing) → watchers ≡ watchers_of topic all → firings ≡ flat_map (started_at now all) watchers
-      → firings ≡ firings_of (changed_instant name now) all
-  change_firings rise watch watchers firings w f = f ∙ ap (flat_map (started_at now all)) w ∙ change_started all (found_each all rise) watch

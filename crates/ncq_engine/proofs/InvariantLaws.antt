@@ -29,7 +29,7 @@ use Rattle.ncq_source.specs.Stores.{Source as Declared, without_room}
 use Rattle.ncq_source.specs.StoreStates.{StoreState, At, Declares, IsAlike, IsCommitted, found, names}
 use Rattle.ncq_book.specs.declared.member.Member.{Member}
 use Rattle.ncq_book.specs.Books.{InstallsRise}
-use Rattle.ncq_engine.specs.Engines.{CanTell, HasTopics, InstallsAreUpTo, IsEngine, fired_if, last_in, noted_at}
+use Rattle.ncq_engine.specs.Engines.{CanTell, InstallsAreUpTo, IsEngine, fired_if, last_in, noted_at}
 use Rattle.ncq_engine.specs.History.{Source, world}
 use Rattle.ncq_engine.specs.Stands.{EngineState, content_of}
 use Rattle.ncq_engine.specs.Tellings.{AreOf, IsLeftBy}
@@ -38,7 +38,6 @@ use Rattle.ncq_engine.proofs.Lists.{each_filter, each_more, each_push}
 use Rattle.ncq_engine.proofs.Places.{one_declared, room_is_no_content, same_names}
 use Rattle.ncq_engine.proofs.StoreLaws.{last_alike, last_declared}
 use Rattle.ncq_engine.proofs.TableLaws.{can_left, can_noted, can_store, can_table, fed_still, installed_still}
-use Rattle.ncq_engine.proofs.TopicLaws.{names_declared, topics_behind, topics_stay}
 use Rattle.ncq_engine.proofs.Worlds.{new_is_empty, world_is}
 
 abbrev pub Invariant : EngineState → Type 0
@@ -65,7 +64,6 @@ invariant_counted e i =
       creates_too = (let l : e.creates ≤ e.count + 1 = omega (arith, b) in l);
       lasts = i.lasts;
       can = i.can;
-      watch = i.watch;
       rise = i.rise;
       installed = i.installed;
       number = i.number;
@@ -85,7 +83,6 @@ invariant_declared e store name root key d i =
       lasts = λ asked. (let a = last asked in let b = i.lasts asked in let l : last_in store asked ≤ store.changes = omega (arith, a, b, same) in l);
       can = each_more (CanTell e.labels e.store e.table) (CanTell e.labels store e.table)
           (can_store e.labels e.store store e.table (λ asked. let a = last asked in let l : last_in e.store asked ≤ last_in store asked = omega (arith, a) in l)) e.members i.can;
-      watch = topics_behind e.store store name (names_declared e.store store name root key d) e.members i.watch;
       rise = i.rise;
       installed = i.installed;
       number = i.number ∙ sym same;
@@ -105,7 +102,6 @@ invariant_alike e store alike i =
       lasts = λ asked. (let a = last asked in let b = i.lasts asked in let l : last_in store asked ≤ store.changes = omega (arith, a, b, same) in l);
       can = each_more (CanTell e.labels e.store e.table) (CanTell e.labels store e.table)
           (can_store e.labels e.store store e.table (λ asked. let a = last asked in let l : last_in e.store asked ≤ last_in store asked = omega (arith, a) in l)) e.members i.can;
-      watch = topics_stay e.store store (same_names e.store.sources store.sources alike.sources) e.members i.watch;
       rise = i.rise;
       installed = i.installed;
       number = i.number ∙ sym same;
@@ -155,16 +151,15 @@ module _ (store ready : StoreState) (name : List ℕ) (items : List Item) (chang
 
 -- the files were fed, and the change was committed
 pub invariant_changed : (e : EngineState) (change : ChangeState) (store : StoreState) (table : TableState) → Invariant e → store.changes ≡ e.store.changes + 1 → e.store.changes + 1 ≤ e.count
-    → names store ≡ names e.store → ((name : List ℕ) → last_in e.store name ≤ last_in store name) → ((name : List ℕ) → last_in store name ≤ store.changes)
+    → ((name : List ℕ) → last_in e.store name ≤ last_in store name) → ((name : List ℕ) → last_in store name ≤ store.changes)
     → AreFed e.store change e.table.files table.files → Fits table.number (world_in store) table.files → table.number ≡ e.table.number + 1 → table.next_file ≡ e.table.next_file
     → Invariant (record e { store = store; table = table })
-invariant_changed e change store table i more few same last lasts fed fits number next = record {
+invariant_changed e change store table i more few last lasts fed fits number next = record {
   changes = (let l : store.changes ≤ e.count = omega (arith, more, few) in l);
   creates_too = i.creates_too;
   lasts = lasts;
   can = each_more (CanTell e.labels e.store e.table) (CanTell e.labels store table)
       (λ m can. can_store e.labels e.store store table last m (can_table e.labels e.store e.table table (fed_still e.store change e.table table (world_in store) fed fits) m can)) e.members i.can;
-  watch = topics_stay e.store store same e.members i.watch;
   rise = i.rise;
   installed = i.installed;
   number = number ∙ ap (λ n. n + 1) i.number ∙ sym more;
@@ -195,7 +190,6 @@ invariant_created e i few =
       creates_too = few;
       lasts = i.lasts;
       can = i.can;
-      watch = i.watch;
       rise = i.rise;
       installed = few_more e.creates e.members i.installed;
       number = i.number;
@@ -205,9 +199,9 @@ invariant_created e i few =
 
 -- the member is there, with the file of its plan
 pub invariant_added : (e : EngineState) (expr : Expr) (table : TableState) (file : ℕ) (m : Member) → Invariant e → IsInstalled expr e.table table file → Fits table.number (world_in e.store) table.files → operators expr ≤ 256
-    → CanTell e.labels e.store table m → HasTopics e.store m → m.install ≡ e.creates + 1
+    → CanTell e.labels e.store table m → m.install ≡ e.creates + 1
     → e.creates + 1 ≤ e.count → Invariant (record e { creates = e.creates + 1; members = e.members ++ m ∷ []; table = table })
-invariant_added e expr table file m i done fits small can has install few =
+invariant_added e expr table file m i done fits small can install few =
     let n = i.next in let room = done.room in
     record {
       changes = i.changes;
@@ -215,7 +209,6 @@ invariant_added e expr table file m i done fits small can has install few =
       lasts = i.lasts;
       can = each_push (CanTell e.labels e.store table) e.members m
           (each_more (CanTell e.labels e.store e.table) (CanTell e.labels e.store table) (can_table e.labels e.store e.table table (installed_still expr e.table table file (world_in e.store) done fits)) e.members i.can) can;
-      watch = each_push (HasTopics e.store) e.members m i.watch has;
       rise = rise_push e.creates e.members m i.rise i.installed (let l : e.creates < m.install = omega (arith, install) in l);
       installed = each_push (λ (x : Member). x.install ≤ e.creates + 1) e.members m (few_more e.creates e.members i.installed) (let l : m.install ≤ e.creates + 1 = omega (arith, install) in l);
       number = done.same ∙ i.number;
@@ -227,16 +220,13 @@ each_map : (P Q : Member → Type 0) (f : Member → Member) → ((m : Member) �
 each_map P Q f g [] h = tt
 each_map P Q f g (m ∷ ms) h = (g m h.0, each_map P Q f g ms h.1)
 
--- what is written down changes no number and nothing that is watched
+-- what is written down changes no number
 module _ (store : StoreState) (test : Member → Bool) where
   abbrev noted_one : Member → Member
   noted_one m = fired_if (test m) store m
 
   pub one_install : (m : Member) → (noted_one m).install ≡ m.install
   one_install m = elim (test m) as (λ t. (fired_if t store m).install ≡ m.install) [ true ↦ refl | false ↦ refl ]
-
-  one_watch : (before : StoreState) (m : Member) → HasTopics before m → HasTopics before (noted_one m)
-  one_watch before m has = elim (test m) as (λ t. HasTopics before (fired_if t store m)) [ true ↦ has | false ↦ has ]
 
   pub rise_noted : (ms : List Member) → InstallsRise ms → InstallsRise (map noted_one ms)
   rise_noted [] r = tt
@@ -256,7 +246,6 @@ module _ (store : StoreState) (test : Member → Bool) where
         can = subst (λ (s : StoreState). AllByRecursion (CanTell e.labels s e.table) (map noted_one e.members)) (sym same)
             (each_map (CanTell e.labels store e.table) (CanTell e.labels store e.table) noted_one (λ m can. can_noted e.labels store e.table up (test m) m can) e.members
             (subst (λ (s : StoreState). AllByRecursion (CanTell e.labels s e.table) e.members) same i.can));
-        watch = each_map (HasTopics e.store) (HasTopics e.store) noted_one (λ m has. one_watch e.store m has) e.members i.watch;
         rise = rise_noted e.members i.rise;
         installed = each_map (λ n. n.install ≤ e.creates) (λ n. n.install ≤ e.creates) noted_one (λ n few. let a = one_install n in (let l : (noted_one n).install ≤ e.creates = omega (arith, few, a) in l)) e.members i.installed;
         number = i.number;
@@ -291,7 +280,6 @@ invariant_left e keep table i roll left number next = record {
   creates_too = i.creates_too;
   lasts = i.lasts;
   can = can_all e table left number (filter keep e.members) roll.files (each_filter (CanTell e.labels e.store e.table) keep e.members i.can);
-  watch = each_filter (HasTopics e.store) keep e.members i.watch;
   rise = rise_filter keep e.members i.rise;
   installed = each_filter (λ (m : Member). m.install ≤ e.creates) keep e.members i.installed;
   number = number ∙ i.number;

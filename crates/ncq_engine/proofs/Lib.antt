@@ -4,6 +4,7 @@ pub mod AloneLaws
 pub mod AppliesLaws
 pub mod MarkLaws
 pub mod Worlds
+pub mod AskedLaws
 pub mod NoticeLaws
 pub mod Keeping
 pub mod ToldLaws
@@ -26,10 +27,12 @@ pub mod ByInstall
 pub mod FiringLaws
 pub mod NotedLaws
 pub mod ExpiryLaws
-pub mod TopicLaws
+pub mod UndoLaws
 pub mod BookLaws
 pub mod NewLaws
 pub mod ChangeAnswers
 pub mod ClockAnswers
 pub mod CreateAnswers
 pub mod WorkLaws
+pub mod QuietLaws
+pub mod FedTexts

@@ -25,7 +25,6 @@ module _ (labels : List Label) (table : TableState) (files : table.files ≡ emp
     creates_too = (let z : 0 ≤ 0 = omega arith in z);
     lasts = λ name. (let n = no_change name in let z : last_in nothing name ≤ 0 = omega (arith, n) in z);
     can = tt;
-    watch = tt;
     rise = tt;
     installed = tt;
     number = number;

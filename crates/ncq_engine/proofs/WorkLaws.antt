@@ -255,19 +255,19 @@ create_cost e h s shares statement query binds none bound work = (
 )
 
 -- A create whose statement was read, bound and found free, fitting and timely is not refused.
-pub create_allowed : (e : EngineState) (h : History) → Follows e h → (statement : Statement) (query : NormalQuery) (action : ℕ) (topics : List ℕ) → IsRead e statement query action topics
+pub create_allowed : (e : EngineState) (h : History) → Follows e h → (statement : Statement) (query : NormalQuery) (action : ℕ) → IsRead e statement query action
     → first_refusal (language_of e.labels) h (Create statement) ≡ None
-create_allowed e h s statement query action topics read =
+create_allowed e h s statement query action read =
     create_refusal e.store e.clock e.count e.creates e.labels e.members e.table statement false false false None read.free (binds_freely statement.query (roots_in e.store) query read.binds) read.fitting read.timely h s
 
 -- The same by the names of the code: the steps that adding the new member may take are within the
 -- work of the create.
 pub create_steps : (e inside : EngineState) → inside ≡ counted_engine e → (h : History) → Follows e h → Shares e.members e.table
-    → (statement : Statement) (query : NormalQuery) (action : ℕ) (topics : List ℕ) → IsRead e statement query action topics → (plan : Expr) → plan ≡ plan_of query
+    → (statement : Statement) (query : NormalQuery) (action : ℕ) → IsRead e statement query action → (plan : Expr) → plan ≡ plan_of query
     → (bound : ℕ) → IsWorkUpTo (language_of e.labels) h (Create statement) bound
     → (old new : ℕ) → ((missing : List Expr) → NamesTheMissing inside.table.files plan missing → new ≤ old + rows_of_all (world_in inside.store) missing) → new ≤ old + bound
-create_steps e inside is h s shares statement query action topics read plan planned bound work old new steps =
-    let cost = create_cost e h s shares statement query read.binds (create_allowed e h s statement query action topics read) bound work in
+create_steps e inside is h s shares statement query action read plan planned bound work old new steps =
+    let cost = create_cost e h s shares statement query read.binds (create_allowed e h s statement query action read) bound work in
     let taken : new ≤ old + rows_of_all (world_in e.store) cost.0 =
     subst (λ (x : EngineState). new ≤ old + rows_of_all (world_in x.store) cost.0) is (steps cost.0 (subst (λ (x : EngineState). NamesTheMissing x.table.files plan cost.0) (sym is)
     (subst (λ (p : Expr). NamesTheMissing e.table.files p cost.0) (sym planned) cost.1))) in

@@ -128,16 +128,11 @@ told_at labels store files m (Some instant) =
 abbrev pub InstallsAreUpTo : ℕ → List Member → Type 0
 InstallsAreUpTo most members = AllByRecursion (λ m. m.install ≤ most) members
 
--- what the member watches are the places of its sources in the store
-abbrev pub HasTopics : StoreState → Member → Type 0
-HasTopics store m = map (found store) m.sources ≡ map Some m.topics
-
 -- the subscription that a create makes, before its first firing
-abbrev pub new_member : Statement → NormalQuery → Timing → ℕ → ℕ → List ℕ → FileId → Member
-new_member statement query timing action creates topics file = record {
+abbrev pub new_member : Statement → NormalQuery → Timing → ℕ → ℕ → FileId → Member
+new_member statement query timing action creates file = record {
   name = statement.name;
   sources = sources_of statement;
-  topics = topics;
   query = query;
   file = file;
   timing = timing;
@@ -148,7 +143,7 @@ new_member statement query timing action creates topics file = record {
 }
 
 -- what holds of an engine whatever was answered: there are no more changes and creates than
--- commands, and no source has changed later; its members can be told, watch their sources and rise
+-- commands, and no source has changed later; its members can be told and rise
 -- by install number; its files have the rows of the sources as they stand, and no more numbers were
 -- given than creates can take
 pub record IsEngine (store : StoreState) (count creates : ℕ) (labels : List Label)
@@ -157,7 +152,6 @@ pub record IsEngine (store : StoreState) (count creates : ℕ) (labels : List La
   pub creates_too : creates ≤ count
   pub lasts : (name : List ℕ) → last_in store name ≤ store.changes
   pub can : AllByRecursion (CanTell labels store table) members
-  pub watch : AllByRecursion (HasTopics store) members
   pub rise : InstallsRise members
   pub installed : InstallsAreUpTo creates members
   pub number : table.number ≡ store.changes

@@ -38,6 +38,5 @@ pub record IsMemberOf (e : EngineState) (statement : Statement) (m : Member) : T
   pub fitting : is_at_odds (kind_in statement.action e.labels) statement.argument ≡ false
   pub free : list_any (λ n. bytes_eq statement.name n.name) e.members ≡ false
   pub timely : is_expired (timed statement e.clock) (timed statement e.clock).start ≡ false
-  pub watched : map (found e.store) (sources_of statement) ≡ map Some m.topics
   pub made : m
-      ≡ new_member statement m.query (timed statement e.clock) m.action e.creates m.topics m.file
+      ≡ new_member statement m.query (timed statement e.clock) m.action e.creates m.file

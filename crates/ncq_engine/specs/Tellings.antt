@@ -1,8 +1,10 @@
 -- Who fires and what they are told, by install numbers. Only the crate's private clauses cite it.
-use Rattle.std.specs.Prelude.{◌≡◌, ◌&&◌, ◌==◌, ℕ, Bool, true, false, nat_le, nat_eq, List, [], ◌∷◌}
+use Rattle.std.specs.Prelude.{◌≡◌, ◌&&◌, ◌==◌, ◌++◌, ℕ, Bool, true, false, nat_le, nat_lt, nat_eq}
+use Rattle.std.specs.Prelude.{List, [], ◌∷◌, length}
 use Rattle.std.specs.Prelude.{Option, Some, None, if◌then◌else◌, map, not}
 use Rattle.std.specs.FinMap.{get}
-use Rattle.std.specs.List.{filter, list_any}
+use Rattle.std.specs.List.{filter, flat_map, list_any}
+use Rattle.ncq_base.specs.Keys.{times}
 use Rattle.ncq_book.specs.declared.member.Member.{Member}
 use Rattle.ncq_book.specs.Books.{member_of, is_of}
 use Rattle.ncq_callback.specs.Labels.{Label}
@@ -10,7 +12,8 @@ use Rattle.ncq_event.specs.declared.firing.Firing.{Firing}
 use Rattle.ncq_roll.specs.Rolls.{RollState}
 use Rattle.ncq_shelf.specs.KeptFiles.{KeptFile, Files}
 use Rattle.ncq_source.specs.StoreStates.{StoreState}
-use Rattle.ncq_engine.specs.Applies.{expired_name}
+use Rattle.ncq_engine.specs.declared.engine.Applied.{Applied}
+use Rattle.ncq_engine.specs.Applies.{expired_name, ok_text}
 use Rattle.ncq_engine.specs.Engines.{has_news_in, mark_in, told_text, noted_at}
 
 -- the line of a member that expires
@@ -76,3 +79,12 @@ pub record IsLeftBy (installs : List ℕ) (old new : RollState) : Type 0 where
   pub number : new.table.number ≡ old.table.number
   pub next_file : new.table.next_file ≡ old.table.next_file
   pub files : AreOf old.table.files new.table.files
+
+-- the answer to the command of this number was appended: its first line, and the texts of these
+-- firings
+pub record IsAnswered (number : ℕ) (text : Firing → List ℕ) (firings : List Firing)
+    (old new : List ℕ) (applied : Applied) : Type 0 where
+  pub written : new ≡ (old ++ ok_text number) ++ flat_map text firings
+  pub from : applied.from ≡ length (old ++ ok_text number)
+  pub to : applied.to ≡ length new
+  pub notices : applied.notices ≡ times (λ firing. nat_lt 0 (length (text firing))) firings

@@ -1,5 +1,5 @@
 -- What a command costs: the rows that it makes, each expression of the live queries counted once.
-use Rattle.std.specs.Prelude.{◌≡◌, ℕ, List, [], ◌∷◌, length, Option, Some, None, Ok, ◌⊎◌}
+use Rattle.std.specs.Prelude.{◌≡◌, ◌+◌, ◌≤◌, ℕ, List, [], ◌∷◌, length, Option, Some, None, Ok, ◌⊎◌}
 use Rattle.ncq_base.specs.Counts.{total_by}
 use Rattle.ncq_bind.specs.Bindings.{Binds, Roots}
 use Rattle.ncq_change.specs.Entries.{of_source, scans_of}
@@ -19,9 +19,11 @@ use Rattle.ncq_source.specs.Changes.{Trial, prepared}
 use Rattle.ncq_source.specs.Changes.Trial.{Good}
 use Rattle.ncq_source.specs.declared.change.Entry.{Entry}
 use Rattle.ncq_engine.specs.History.{History, Source, Subscription, live, source_in, sources, world}
-use Rattle.ncq_engine.specs.Languages.{roots_of}
+use Rattle.ncq_engine.specs.Applies.{OfEach}
+use Rattle.ncq_engine.specs.Languages.{language_of}
 use Rattle.ncq_engine.specs.Notices.{Language}
-use Rattle.ncq_engine.specs.Output.{first_refusal}
+use Rattle.ncq_engine.specs.Output.{after, first_refusal}
+use Rattle.ncq_engine.specs.Stands.{EngineState}
 use Rattle.ncq_xmlql.specs.declared.model.Query.{Query}
 
 -- the expression is a part of the plan of the query
@@ -80,3 +82,16 @@ IsWorkUpTo language history command bound =
     (exprs : List Expr) × ((expr : Expr) → IsMade history command expr → IsNamed expr exprs)
     × (bound ≡ unless_refused (first_refusal language history command)
     (made_rows history command exprs))
+
+-- the work of these commands, one after another from a history on, is at most this number
+abbrev pub AreWorkUpTo : Language → History → List Command → ℕ → Type 0
+AreWorkUpTo language history [] bound = bound ≡ 0
+AreWorkUpTo language history (command ∷ more) bound =
+    (first : ℕ) × (rest : ℕ) × IsWorkUpTo language history command first
+    × AreWorkUpTo language (after language history command) more rest × (bound ≡ first + rest)
+
+-- the steps are within the work of the command, for each history that the engine stands for
+abbrev pub IsWithinWork : EngineState → Command → ℕ → ℕ → Type 0
+IsWithinWork engine command old new =
+    OfEach engine (λ history. (bound : ℕ)
+    → IsWorkUpTo (language_of engine.labels) history command bound → new ≤ old + bound)

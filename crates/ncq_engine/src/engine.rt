@@ -9,12 +9,13 @@ ghost use Rattle.ncq_bind.specs.Bindings.{are_declared, roots_in};
 ghost use Rattle.ncq_callback.specs.Labels.{labels};
 ghost use Rattle.ncq_engine.specs.Firing.{source_of};
 ghost use Rattle.ncq_engine.specs.Stands.{EngineState, Stands};
+ghost use Rattle.ncq_engine.specs.Works.{IsWithinWork};
 ghost use Rattle.ncq_roll.specs.Shares.{Shares};
 ghost use Rattle.ncq_engine.specs.Applies.{Applies, WritesNotices, IfAnswered, IfRefused, OfEach};
 ghost use Rattle.ncq_engine.specs.Applies.{ok_text, kind_at};
 ghost use Rattle.ncq_engine.specs.Applies.{refused_change, change_refusal, refused_query};
 ghost use Rattle.ncq_engine.specs.Applies.{query_refusal};
-ghost use Rattle.ncq_engine.specs.Engines.{HasTopics, new_member};
+ghost use Rattle.ncq_engine.specs.Engines.{new_member};
 ghost use Rattle.ncq_engine.specs.History.{start_of};
 ghost use Rattle.ncq_engine.specs.Joins.{IsMemberOf};
 ghost use Rattle.ncq_engine.specs.Languages.{language_of};
@@ -28,18 +29,18 @@ ghost use Rattle.ncq_xmlql.specs.declared.model.Statement.{Statement as a_statem
 ghost use Rattle.ncq_xmlql.specs.WellFormed.{IsWellFormed as StatementIsWellFormed};
 
 use crate::expiry::{take_all, write_expired};
-use crate::telling::{note_all, tell, tell_change};
-use crate::who::{started, with_news};
+use crate::telling::{answer_change, answer_create, note_all, tell};
+use crate::who::with_news;
 use ncq_base::{Bytes, Copied, FileId, Sequence, Steps, write_decimal};
 use ncq_bind::{BindError, bind};
-use ncq_book::{Member, Topics};
+use ncq_book::Member;
 use ncq_callback::{Handlers, Kind};
 use ncq_event::{Timing, is_expired};
 use ncq_plan::{NormalQuery, plan};
 use ncq_pyx::Items;
 use ncq_roll::Roll;
 use ncq_script::{Command, Refusal};
-use ncq_source::{ChangeError, DeclareError, Key, SourceId, Store};
+use ncq_source::{ChangeError, DeclareError, Key, Store};
 use ncq_xmlql::{QueryItem, Statement};
 use std::alloc::{AllocError, Global};
 use std::hash::RandomState;
@@ -195,10 +196,21 @@ impl Engine {
         // Either is counted, and the handlers' names and kinds stay.
         ensures counted { IfAnswered result (self.new.count ≡ self.old.count + 1) }
         ensures labels { IfAnswered result (self.new.labels ≡ self.old.labels) }
+
+        // Each row that is made is one step: whatever is answered, they are within the work of the
+        // command.
+        ensures work { IsWithinWork self.old command steps.old steps.new }
     {
+        let before = out.len();
         let result = self.answer(alloc, command, handlers, out, steps);
         self.shares();
-        result
+        match result {
+            Err(ApplyError::OutOfMemory) => {
+                out.truncate(before);
+                Err(ApplyError::OutOfMemory)
+            }
+            answered => answered,
+        }
     }
 
     /// The files are those of the parts of the plans of the live subscriptions, one each: this call
@@ -229,6 +241,7 @@ impl Engine {
         requires handlers { self.old.labels
             ≡ (labels handlers.now.items.items (λ h. h.name) (λ h. h.kind)) }
         ensures applies { Applies self.old command out.old.items result self.new out.new.items }
+        ensures work { IsWithinWork self.old command steps.old steps.new }
     {
         match command {
             Command::Declare { name, root, key } => self.declare(alloc, name, root, key, out),
@@ -237,7 +250,7 @@ impl Engine {
             }
             Command::Create { statement } => self.create(alloc, statement, handlers, out, steps),
             Command::Delete { name } => self.delete(&name, out),
-            Command::Clock { instant } => self.move_clock(alloc, instant, handlers, out, steps),
+            Command::Clock { instant } => self.move_clock(alloc, instant, handlers, out),
             Command::Report => self.refuse(Refusal::Unbuilt),
             Command::Malformed { refusal } => self.refuse(refusal),
         }
@@ -256,9 +269,17 @@ impl Engine {
         ensures applies { Applies self.old (Command.Declare name root key)
             out.old.items result self.new out.new.items }
     {
+        let before = out.len();
+        let applied = write_accepted(self.count + 1, out)?;
         match self.store.declare(alloc, name, root, key) {
-            Ok(_) => self.accept(out),
-            Err(DeclareError::Exists) => self.refuse(Refusal::SourceExists),
+            Ok(_) => {
+                self.count += 1;
+                Ok(applied)
+            }
+            Err(DeclareError::Exists) => {
+                out.truncate(before);
+                self.refuse(Refusal::SourceExists)
+            }
             Err(DeclareError::OutOfMemory) => Err(ApplyError::OutOfMemory),
         }
     }
@@ -279,22 +300,24 @@ impl Engine {
             ≡ (labels handlers.now.items.items (λ h. h.name) (λ h. h.kind)) }
         ensures applies { Applies self.old (Command.Delta source.now items)
             out.old.items result self.new out.new.items }
+        ensures work { IsWithinWork self.old (Command.Delta source.now items) steps.old steps.new }
     {
         let change = match self.store.prepare(alloc, source.as_slice(), items) {
             Ok(change) => change,
             Err(error) => return self.refuse_change(error),
         };
-        let topic = place_of(&self.store, change.source());
         self.store.reserve(&change)?;
-        let applied = self.accept(out)?;
         self.roll.facts();
         let mark = self.roll.mark();
-        self.roll.feed(alloc, &change, &self.store, steps)?;
+        let fed = self.roll.feed(alloc, &change, &self.store, steps)?;
         self.roll.facts();
-        match tell_change(alloc, &self.roll, topic, &self.store, handlers, out) {
-            Ok(notices) => {
+        let number = self.count + 1;
+        let (roll, store) = (&self.roll, &self.store);
+        match answer_change(alloc, number, roll, fed.as_slice(), store, handlers, out) {
+            Ok(applied) => {
                 self.store.commit(change);
-                Ok(applied.with(notices, out))
+                self.count = number;
+                Ok(applied)
             }
             Err(AllocError) => {
                 self.roll.roll_back(mark);
@@ -318,6 +341,7 @@ impl Engine {
             ≡ (labels handlers.now.items.items (λ h. h.name) (λ h. h.kind)) }
         ensures applies { Applies self.old (Command.Create statement)
             out.old.items result self.new out.new.items }
+        ensures work { IsWithinWork self.old (Command.Create statement) steps.old steps.new }
     {
         if self.roll.book().has(&statement.name) {
             return self.refuse(Refusal::NameTaken);
@@ -354,24 +378,37 @@ impl Engine {
         ensures applies { (statement : a_statement) → IsMemberOf self.old statement member
             → Applies self.old (Command.Create statement)
             out.old.items result self.new out.new.items }
+        ensures work { (statement : a_statement) → IsMemberOf self.old statement member
+            → IsWithinWork self.old (Command.Create statement) steps.old steps.new }
     {
         self.roll.facts();
         let plan = plan(alloc, &member.query)?;
-        let applied = self.accept(out)?;
-        self.creates += 1;
+        let mark = self.roll.mark();
+        let install = self.creates + 1;
         self.roll.add(alloc, member, &plan, &self.store, steps)?;
         self.roll.facts();
-        let firings = started(alloc, self.roll.book(), &[self.creates])?;
-        let notices = tell(
+        let number = self.count + 1;
+        match answer_create(
             alloc,
+            number,
             &self.roll,
-            firings.as_slice(),
+            install,
             &self.store,
             handlers,
             out,
-        )?;
-        note_all(&mut self.roll, self.store.changes(), firings.as_slice());
-        Ok(applied.with(notices, out))
+        ) {
+            Ok((applied, firings)) => {
+                note_all(&mut self.roll, self.store.changes(), firings.as_slice());
+                self.creates = install;
+                self.count = number;
+                Ok(applied)
+            }
+            Err(AllocError) => {
+                self.roll.remove(install);
+                self.roll.roll_back(mark);
+                Err(ApplyError::OutOfMemory)
+            }
+        }
     }
 
     /// The subscription that a create makes, before its first firing.
@@ -384,19 +421,15 @@ impl Engine {
         timing: Timing,
     ) -> Result<Member, AllocError>
         requires formed { IsWellFormed query }
-        requires declared { are_declared (roots_in self.now.store) statement.query.items ≡ true }
         requires few { self.now.creates < 2 ^ 48 }
-        ensures made { IfOk result (λ m. (topics : List ℕ)
-            × (m ≡ new_member statement query timing action self.now.creates topics m.file)) }
-        ensures topics { IfOk result (HasTopics self.now.store) }
+        ensures { IfOk result (λ m.
+            m ≡ new_member statement query timing action self.now.creates m.file) }
     {
         let sources = asked_by(alloc, statement.query.items.as_slice())?;
-        let topics = places_of(alloc, &self.store, sources.as_slice())?;
         let argument = statement.argument.unwrap_or(Bytes::new(alloc));
         Ok(Member {
             name: statement.name,
             sources,
-            topics,
             query,
             file: FileId(0),
             timing,
@@ -416,21 +449,21 @@ impl Engine {
         let Some(install) = self.roll.book().find(name) else {
             return self.refuse(Refusal::NoName);
         };
-        let applied = self.accept(out)?;
+        let applied = write_accepted(self.count + 1, out)?;
         self.roll.facts();
         take_all(&mut self.roll, &[install]);
         self.roll.facts();
+        self.count += 1;
         Ok(applied)
     }
 
     /// Moves the clock, tells those that are due, and takes those away that expire.
-    fn move_clock<L: Ledger>(
+    fn move_clock(
         &mut self,
         alloc: Global,
         instant: u64,
         handlers: &Handlers,
         out: &mut Vec<u8>,
-        steps: &mut Steps<L>,
     ) -> Result<Applied, ApplyError>
         requires few { self.old.count < 2 ^ 48 }
         requires handlers { self.old.labels
@@ -441,7 +474,7 @@ impl Engine {
         if instant < self.roll.book().instant() {
             return self.refuse(Refusal::Clock);
         }
-        let applied = self.accept(out)?;
+        let applied = write_accepted(self.count + 1, out)?;
         let due = self.roll.book().due(alloc, instant)?;
         let firings = with_news(alloc, self.roll.book(), &self.store, due.as_slice())?;
         self.roll.facts();
@@ -460,29 +493,8 @@ impl Engine {
         note_all(&mut self.roll, self.store.changes(), firings.as_slice());
         take_all(&mut self.roll, expired.as_slice());
         self.roll.facts();
-        Ok(applied)
-    }
-
-    /// Counts a command that is accepted, and appends the line that says so.
-    fn accept(&mut self, out: &mut Vec<u8>) -> Result<Applied, ApplyError>
-        requires { self.old.count < 2 ^ 48 }
-        ensures counted { self.new ≡ record self.old { count = self.old.count + 1 } }
-        ensures text { OnOk result (out.new.items ≡ out.old.items ++ ok_text (self.old.count + 1)) }
-        ensures places { IfOk result (λ applied. applied ≡ record {
-          from = length out.new.items;
-          to = length out.new.items;
-          notices = 0;
-        }) }
-        ensures only { OnErr result (result ≡ Err ApplyError.OutOfMemory) }
-    {
         self.count += 1;
-        write_decimal(self.count, out)?;
-        out.extend_from_slice(b" ok\n")?;
-        Ok(Applied {
-            from: out.len(),
-            to: out.len(),
-            notices: 0,
-        })
+        Ok(applied)
     }
 
     /// Counts a command that is refused.
@@ -526,7 +538,7 @@ impl Engine {
 
 impl Applied {
     /// Where so many notices were written behind the first line.
-    fn with(self, notices: u64, out: &Vec<u8>) -> Applied
+    pub(crate) fn with(self, notices: u64, out: &Vec<u8>) -> Applied
         ensures { result ≡ record {
           from = self.from;
           to = length out.now.items;
@@ -539,6 +551,24 @@ impl Applied {
             notices,
         }
     }
+}
+
+/// Appends the line that says that the command of this number is accepted.
+pub(crate) fn write_accepted(number: u64, out: &mut Vec<u8>) -> Result<Applied, AllocError>
+    ensures text { OnOk result (out.new.items ≡ out.old.items ++ ok_text number) }
+    ensures places { IfOk result (λ applied. applied ≡ record {
+      from = length out.new.items;
+      to = length out.new.items;
+      notices = 0;
+    }) }
+{
+    write_decimal(number, out)?;
+    out.extend_from_slice(b" ok\n")?;
+    Ok(Applied {
+        from: out.len(),
+        to: out.len(),
+        notices: 0,
+    })
 }
 
 /// The place of the handler of a statement's action: none where there is none, or where its kind
@@ -613,29 +643,4 @@ fn asked_by(alloc: Global, items: &[QueryItem]) -> Result<Sequence<Bytes>, Alloc
         }
     }
     Ok(sources)
-}
-
-/// The place of a source in the store, as what its askers watch.
-fn place_of(store: &Store, id: SourceId) -> u64
-    requires { IsDeclared store.now id }
-    ensures place { result ≡ id.0 }
-    ensures few { result < 2 ^ 64 - 1 }
-{
-    prove!(id.0 < store.count());
-    id.0 as u64
-}
-
-/// The places of sources in the store.
-fn places_of(alloc: Global, store: &Store, sources: &[Bytes]) -> Result<Topics, AllocError>
-    requires { list_all (λ name. is_some (found store.now name)) sources.now ≡ true }
-    ensures { IfOk result (λ topics. map (found store.now) sources.now ≡ map Some topics) }
-{
-    let mut places = Topics::new(alloc);
-    for source in sources {
-        let Some(id) = store.find(source.as_slice()) else {
-            unreachable!();
-        };
-        places.push(id.0 as u64)?;
-    }
-    Ok(places)
 }

@@ -1,16 +1,18 @@
 //! What those that fire are told.
-ghost use Rattle.std.specs.Prelude.{◌≡◌, ◌++◌, ◌<◌, ◌-◌, ◌^◌, nat_lt, length, IsSome, IfOk, OnOk};
+ghost use Rattle.std.specs.Prelude.{◌≡◌, ◌++◌, ◌∷◌, [], ◌<◌, ◌-◌, ◌^◌, nat_lt, length};
+ghost use Rattle.std.specs.Prelude.{IsSome, IfOk, OnOk};
 ghost use Rattle.std.specs.List.{flat_map, AllByRecursion};
 ghost use Rattle.ncq_base.specs.Keys.{times};
 ghost use Rattle.ncq_book.specs.Books.{member_of, watchers_of, InstallsRise};
 ghost use Rattle.ncq_callback.specs.Labels.{labels};
 ghost use Rattle.ncq_engine.specs.Engines.{CanTell};
-ghost use Rattle.ncq_engine.specs.Tellings.{firing_text, noted_by, started_at};
+ghost use Rattle.ncq_engine.specs.Tellings.{firing_text, noted_by, started_at, IsAnswered};
 
+use crate::engine::{Applied, write_accepted};
 use crate::firing::{fire, one_if_longer};
 use crate::who::started;
 use ncq_callback::Handlers;
-use ncq_event::Firing;
+use ncq_event::{Firing, Firings};
 use ncq_roll::Roll;
 use ncq_source::Store;
 use std::alloc::{AllocError, Global};
@@ -57,35 +59,58 @@ pub(crate) fn tell(
     Ok(notices)
 }
 
-/// Appends the notices of those that watch this topic and have started, and tells how many were
-/// appended.
-pub(crate) fn tell_change(
+/// Appends the answer to an accepted change: its first line, and the notices of those that fire at
+/// changes, have started, and have one of these files.
+pub(crate) fn answer_change(
     alloc: Global,
+    number: u64,
     roll: &Roll,
-    topic: u64,
+    fed: &[u64],
     store: &Store,
     handlers: &Handlers,
     out: &mut Vec<u8>,
-) -> Result<u64, AllocError>
+) -> Result<Applied, AllocError>
     requires can { AllByRecursion (CanTell
         (labels handlers.now.items.items (λ h. h.name) (λ h. h.kind)) store.now roll.now.table)
         roll.now.members }
-    requires topic { topic < 2 ^ 64 - 1 }
-    ensures text { OnOk result (out.new.items ≡ out.old.items
-        ++ flat_map (firing_text (labels handlers.now.items.items (λ h. h.name) (λ h. h.kind))
+    ensures told { IfOk result (IsAnswered number
+        (firing_text (labels handlers.now.items.items (λ h. h.name) (λ h. h.kind))
         store.now roll.now.table.files roll.now.members)
         (flat_map (started_at roll.now.instant roll.now.members)
-        (watchers_of topic roll.now.members))) }
-    ensures notices { IfOk result (λ notices. notices
-        ≡ times (λ f. nat_lt 0 (length (firing_text
-        (labels handlers.now.items.items (λ h. h.name) (λ h. h.kind))
-        store.now roll.now.table.files roll.now.members f)))
-        (flat_map (started_at roll.now.instant roll.now.members)
-        (watchers_of topic roll.now.members))) }
+        (watchers_of fed.now roll.now.members)) out.old.items out.new.items) }
 {
-    let watchers = roll.book().watchers(alloc, topic)?;
+    let applied = write_accepted(number, out)?;
+    let watchers = roll.book().watchers(alloc, fed)?;
     let firings = started(alloc, roll.book(), watchers.as_slice())?;
-    tell(alloc, roll, firings.as_slice(), store, handlers, out)
+    let notices = tell(alloc, roll, firings.as_slice(), store, handlers, out)?;
+    Ok(applied.with(notices, out))
+}
+
+/// Appends the answer to an accepted create: its first line, and the first notice of the member of
+/// this install number, if it starts now. The answer tells its firing too.
+pub(crate) fn answer_create(
+    alloc: Global,
+    number: u64,
+    roll: &Roll,
+    install: u64,
+    store: &Store,
+    handlers: &Handlers,
+    out: &mut Vec<u8>,
+) -> Result<(Applied, Firings), AllocError>
+    requires can { AllByRecursion (CanTell
+        (labels handlers.now.items.items (λ h. h.name) (λ h. h.kind)) store.now roll.now.table)
+        roll.now.members }
+    ensures told { IfOk result (λ told. IsAnswered number
+        (firing_text (labels handlers.now.items.items (λ h. h.name) (λ h. h.kind))
+        store.now roll.now.table.files roll.now.members)
+        told.1 out.old.items out.new.items told.0) }
+    ensures firings { IfOk result (λ told. told.1
+        ≡ flat_map (started_at roll.now.instant roll.now.members) (install ∷ [])) }
+{
+    let applied = write_accepted(number, out)?;
+    let firings = started(alloc, roll.book(), &[install])?;
+    let notices = tell(alloc, roll, firings.as_slice(), store, handlers, out)?;
+    Ok((applied.with(notices, out), firings))
 }
 
 /// Writes down that the members of these firings fired at this number of changes. It takes no

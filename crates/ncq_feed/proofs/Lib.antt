@@ -6,6 +6,7 @@ pub mod Leads
 pub mod FedLaws
 pub mod GrowthLaws
 pub mod TurnLaws
+pub mod NameLaws
 pub mod PendingLaws
 pub mod ParcelLaws
 pub mod JoinLaws

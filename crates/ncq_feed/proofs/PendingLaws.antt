@@ -1,5 +1,5 @@
 -- A set of numbers, as the list of its keys.
-use Rattle.std.proofs.Common.{◌≡◌, ℕ, ◌<◌, ◌-◌, ◌^◌, Bool, true, false, cond, ◌||◌, nat_eq, List, [], ◌∷◌, ◌++◌, inl, inr, refl, sym, ap, ◌∙◌, arith}
+use Rattle.std.proofs.Common.{◌≡◌, ℕ, ◌<◌, ◌≤◌, ◌+◌, ◌-◌, ◌^◌, Bool, true, false, cond, ◌||◌, nat_eq, List, [], ◌∷◌, ◌++◌, inl, inr, refl, sym, ap, ◌∙◌, subst, arith}
 use Rattle.std.specs.Prelude.{Option, Some, None, IfSome}
 use Rattle.std.specs.List.{All, list_any}
 use Rattle.std.specs.Ordering.{nat_cmp}
@@ -41,7 +41,7 @@ less a b e = ranked a b Less (sym e)
 pub above_least : (number : ℕ) (keys : List ℕ) → All (IsLtBy nat_cmp number) keys → (other : ℕ) → is_among other keys ≡ true → number < other
 above_least number keys all other is = less number other (All-contains (IsLtBy nat_cmp number) keys other all (Contains-from_any {eq = nat_eq} eqb-true other keys is))
 
-among_append : (q : ℕ) (xs ys : List ℕ) → is_among q (xs ++ ys) ≡ (is_among q xs || is_among q ys)
+pub among_append : (q : ℕ) (xs ys : List ℕ) → is_among q (xs ++ ys) ≡ (is_among q xs || is_among q ys)
 among_append q [] ys = refl
 among_append q (x ∷ xs) ys = ap (λ b. nat_eq q x || b) (among_append q xs ys) ∙ shift (nat_eq q x) (is_among q xs) (is_among q ys)
   where
@@ -83,6 +83,9 @@ room_above [] = 0
 room_above (number ∷ rest) = 2 ^ 64 - number
 
 -- it falls from turn to turn
-pub room_falls : (at : ℕ) (rest : List ℕ) → at < 2 ^ 64 → ((other : ℕ) → is_among other rest ≡ true → at < other) → room_above rest < room_above (at ∷ rest)
-room_falls at [] within above = omega arith
-room_falls at (number ∷ rest) within above = let l = above number (ap (λ b. b || is_among number rest) (eq-eqb number number refl)) in omega arith
+pub room_falls : (at : ℕ) (keys rest after : List ℕ) → keys ≡ at ∷ rest → at < 2 ^ 64 → ((other : ℕ) → is_among other after ≡ true → at + 1 ≤ other) → room_above after < room_above keys
+room_falls at keys rest after is within ahead = subst (λ numbers. room_above after < room_above numbers) (sym is) (below_first after ahead)
+  where
+    below_first : (after : List ℕ) → ((other : ℕ) → is_among other after ≡ true → at + 1 ≤ other) → room_above after < room_above (at ∷ rest)
+    below_first [] ahead = omega arith
+    below_first (number ∷ after) ahead = let l = ahead number (ap (λ b. b || is_among number after) (eq-eqb number number refl)) in omega arith

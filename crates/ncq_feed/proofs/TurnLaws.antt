@@ -137,6 +137,15 @@ module _ (run : Run) (start : IsStarted run) (at : ℕ) (keys : List ℕ) (files
             | inr e ↦ let d = down.1 in omega arith
           ]
 
+-- the turn of a file leaves the files below it as they were
+module _ (run : Run) (start : IsStarted run) (at : ℕ) (files0 files1 : Files) (join : IsJoined run at files0 files1) where
+  pub below_join : (number : ℕ) → number < at → news_in run.store.changes files1 number ≡ news_in run.store.changes files0 number
+  below_join number less = join.others number (λ e. let l = less in absurd (omega arith))
+
+  pub below_turn : (files2 : Files) (keys noted : List ℕ) → IsPassedDown run at keys noted files1 files2 → (number : ℕ) → number < at → news_in run.store.changes files2 number ≡ news_in run.store.changes files0 number
+  below_turn files2 keys noted down number less =
+      down.others number (λ test selects. let l = selects_down run.files start.ready.grounded number at test selects in absurd (omega arith)) ∙ below_join number less
+
 -- the contents of the sides of the file whose turn it is are known, if it is a join
 pub turn_known : (run : Run) (files : Files) (under : IsUnderWay run files) (at : ℕ) (pending : List ℕ) → ArePassed run at pending files → AreKnown run at files
 turn_known run files under at pending passed =
@@ -172,14 +181,18 @@ all_right run files under next pending passed none number file at =
 pub turn_start : (run : Run) (at : ℕ) (keys : List ℕ) (files : Files) → ArePassed run at (at ∷ keys) files → IsThere run.files at
 turn_start run at keys files passed = passed.there at (ap (λ b. b || is_among at keys) (eq-eqb at at refl))
 
+nothing_in : (rows : List SignedRow) → true ≡ (length rows == 0) → rows ≡ []
+nothing_in [] e = refl
+nothing_in (r ∷ rows) e = let z : length (r ∷ rows) ≡ 0 = eqb-true (length (r ∷ rows)) 0 (sym e) in absurd (omega arith)
+
 module _ (run : Run) (files : Files) (under : IsUnderWay run files) (at : ℕ) (is_there : IsThere run.files at) (content : FileState) (shows : (file : KeptFile) → get files at ≡ Some file → content ≡ file.content) where
   -- what is shown of its content
-  pub news_shown : news_in run.store.changes files at ≡ since run.store.changes content.rows
+  news_shown : news_in run.store.changes files at ≡ since run.store.changes content.rows
   news_shown = let t = there_up run files under at is_there in ap (news_of run.store.changes) t.at ∙ ap (λ (c : FileState). since run.store.changes c.rows) (sym (shows t.file t.at))
+
+  -- where nothing is shown, it has no rows of the change
+  pub none_shown : (now : ℕ) → now ≡ run.store.changes → (rows : List SignedRow) → rows ≡ since now content.rows → true ≡ (length rows == 0) → news_in run.store.changes files at ≡ []
+  none_shown now is rows e empty = news_shown ∙ ap (λ n. since n content.rows) (sym is) ∙ sym e ∙ nothing_in rows empty
 
   pub file_based : content.base ≤ run.store.changes
   file_based = let t = there_up run files under at is_there in subst (λ (c : FileState). c.base ≤ run.store.changes) (sym (shows t.file t.at)) (based run files under at t.file t.at)
-
-pub nothing_in : (rows : List SignedRow) → true ≡ (length rows == 0) → rows ≡ []
-nothing_in [] e = refl
-nothing_in (r ∷ rows) e = let z : length (r ∷ rows) ≡ 0 = eqb-true (length (r ∷ rows)) 0 (sym e) in absurd (omega arith)

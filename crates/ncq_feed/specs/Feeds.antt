@@ -1,6 +1,7 @@
 -- What a change makes of the files of a shelf.
-use Rattle.std.specs.Prelude.{◌≡◌, ℕ, ◌+◌, List, [], length, slice_get, Option, Some, None}
-use Rattle.std.specs.List.{AllByRecursion}
+use Rattle.std.specs.Prelude.{◌≡◌, ℕ, ◌+◌, false, List, [], length, slice_get, Option, Some, None}
+use Rattle.std.specs.Prelude.{nat_eq}
+use Rattle.std.specs.List.{AllByRecursion, list_any}
 use Rattle.std.specs.FinMap.{get, entries}
 use Rattle.ncq_base.specs.Counts.{total_by}
 use Rattle.ncq_source.specs.Stores.{Source}
@@ -16,6 +17,7 @@ use Rattle.ncq_plan.specs.Totals.{SignedRow as PlainRow}
 use Rattle.ncq_change.specs.Entries.{scans_of, world_of, of_source, after_in}
 use Rattle.ncq_change.specs.Stores.{kept_in, world_in}
 use Rattle.ncq_midfile.specs.declared.signed.SignedRow.{SignedRow}
+use Rattle.ncq_midfile.specs.Content.{since}
 use Rattle.ncq_delta.specs.Leads.{unnumbered}
 use Rattle.ncq_shelf.specs.KeptFiles.{KeptFile, Files}
 use Rattle.ncq_shelf.specs.Stands.{IsGrounded}
@@ -69,6 +71,12 @@ pub record AreFed (store : StoreState) (change : ChangeState) (old new : Files) 
       → (fed : KeptFile) × (get new number ≡ Some fed)
       × IsFedFile (store.changes + 1) (delta_by store change file.expr) file fed
   pub no_other : (number : ℕ) → get old number ≡ None → get new number ≡ None
+
+-- the list has the number of each file that has rows of a later change than this
+abbrev pub NamesTheFed : ℕ → Files → List ℕ → Type 0
+NamesTheFed now files numbers =
+    (number : ℕ) (file : KeptFile) → get files number ≡ Some file
+    → list_any (nat_eq number) numbers ≡ false → since now file.content.rows ≡ []
 
 -- the signed rows that the change makes of the expressions of all files, together
 abbrev pub feed_work : StoreState → ChangeState → Files → ℕ

@@ -1,6 +1,6 @@
 -- What a file passes on of a change. Only the crate's private clauses cite it.
-use Rattle.std.specs.Prelude.{◌≡◌, ℕ, ◌≤◌, ◌⊎◌, Bool, true, false, ◌||◌, List, ◌++◌, map}
-use Rattle.std.specs.Prelude.{filter, length}
+use Rattle.std.specs.Prelude.{◌≡◌, ℕ, ◌<◌, ◌≤◌, ◌⊎◌, Bool, true, false, ◌||◌, List, [], ◌++◌}
+use Rattle.std.specs.Prelude.{map, filter, length}
 use Rattle.ncq_midfile.specs.declared.signed.SignedRow.{SignedRow}
 use Rattle.ncq_split.specs.declared.parcel.Parcel.{Parcel}
 use Rattle.ncq_readers.specs.Passed.{rows_to}
@@ -50,6 +50,12 @@ pub record AreTold (run : Run) (at : ℕ) (old_pending new_pending : List ℕ) :
       → IsJoinOver run.files at number → ⊥
   pub noted : (number : ℕ) → is_among number new_pending ≡ true
       → (is_among number old_pending ≡ true) ⊎ IsJoinOver run.files at number
+
+-- of the files below the number those that are not in the list have no rows of the change
+abbrev pub AreNamed : Run → ℕ → List ℕ → Files → Type 0
+AreNamed run next numbers files =
+    (number : ℕ) → number < next → is_among number numbers ≡ false
+    → news_in run.store.changes files number ≡ []
 
 -- no selection over a file takes more of its rows of the change than the bound of its number
 abbrev pub AreBounded : Run → ℕ → Files → (ℕ → ℕ) → Type 0

@@ -1,13 +1,14 @@
 //! The call that feeds a change.
-ghost use Rattle.std.specs.Prelude.{◌≡◌, ◌+◌, ◌-◌, ◌<◌, ◌≤◌, ◌^◌, ℕ, OnOk, OnErr};
+ghost use Rattle.std.specs.Prelude.{◌≡◌, ◌+◌, ◌-◌, ◌<◌, ◌≤◌, ◌^◌, ℕ, IfOk, OnOk, OnErr};
 ghost use Rattle.ncq_change.specs.Stores.{world_in};
 ghost use Rattle.ncq_feed.specs.Feeds.{IsPreparedFrom, AreReady, AreFed, world_after, feed_work};
+ghost use Rattle.ncq_feed.specs.Feeds.{NamesTheFed};
 ghost use Rattle.ncq_feed.specs.Runs.{Run, IsStarted, IsUnderWay, AreRight, all_due, news_in};
 
 use crate::pending::take_first;
 use crate::scan::feed_scans;
 use crate::turn::take_turn;
-use ncq_base::Steps;
+use ncq_base::{Sequence, Steps};
 use ncq_shelf::Shelf;
 use ncq_source::{Change, Store};
 use std::alloc::{AllocError, Global};
@@ -15,26 +16,27 @@ use std::collections::BTreeSet;
 use std::sync::ledger::Ledger;
 
 /// Gives each file the signed rows that the change makes of its expression, under the number of the
-/// change. After an error the files are as before. Each signed row is one step, whatever it
-/// answers. The only error is that memory ran out.
+/// change. The answer names each file that got rows. After an error the files are as before. Each
+/// signed row is one step, whatever it answers. The only error is that memory ran out.
 pub fn feed<L: Ledger>(
     alloc: Global,
     shelf: &mut Shelf,
     change: &Change,
     store: &Store,
     steps: &mut Steps<L>,
-) -> Result<(), AllocError>
+) -> Result<Sequence<u64>, AllocError>
     requires change { IsPreparedFrom store.now change.now }
     requires more { store.now.changes < 2 ^ 64 - 1 }
     requires ready { AreReady store.now.changes (world_in store.now) shelf.old }
     ensures fed { OnOk result (AreFed store.now change.now shelf.old shelf.new) }
     ensures ready { OnOk result (AreReady (store.now.changes + 1)
         (world_after store.now change.now) shelf.new) }
+    ensures named { IfOk result (NamesTheFed store.now.changes shelf.new) }
     ensures err { OnErr result (shelf.new ≡ shelf.old) }
     ensures cost { steps.new ≤ steps.old + feed_work store.now change.now shelf.old }
 {
     match pass_on(alloc, shelf, change, store, steps) {
-        Ok(()) => Ok(()),
+        Ok(numbers) => Ok(numbers),
         Err(refused) => {
             shelf.roll_back(store.changes());
             Err(refused)
@@ -42,15 +44,15 @@ pub fn feed<L: Ledger>(
     }
 }
 
-/// Passes the change on from file to file, by rising number. After an error some files have signed
-/// rows of the change.
+/// Passes the change on from file to file, by rising number. The answer names each file that got
+/// rows. After an error some files have signed rows of the change.
 fn pass_on<L: Ledger>(
     alloc: Global,
     shelf: &mut Shelf,
     change: &Change,
     store: &Store,
     steps: &mut Steps<L>,
-) -> Result<(), AllocError>
+) -> Result<Sequence<u64>, AllocError>
     ghost run: { Run }
     requires store { store.now ≡ run.store }
     requires change { change.now ≡ run.change }
@@ -59,12 +61,18 @@ fn pass_on<L: Ledger>(
     ensures under { IsUnderWay run shelf.new }
     ensures right { OnOk result ((number : ℕ)
         → AreRight run number (news_in run.store.changes shelf.new number)) }
+    ensures named { IfOk result (NamesTheFed run.store.changes shelf.new) }
     ensures cost { steps.new ≤ steps.old + all_due run }
 {
+    let mut numbers = Sequence::new(alloc);
     let mut pending = BTreeSet::new(alloc);
     feed_scans(alloc, shelf, change, store, &mut pending, steps)?;
     while let Some(at) = take_first(&mut pending) {
-        take_turn(alloc, shelf, at, store.changes(), &mut pending, steps)?;
+        let got = take_turn(alloc, shelf, at, store.changes(), &mut pending, steps)?;
+        if !got {
+            continue;
+        }
+        numbers.push(at)?;
     }
-    Ok(())
+    Ok(numbers)
 }

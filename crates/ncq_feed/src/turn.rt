@@ -1,9 +1,10 @@
 //! The turn of a file: what it got of a change goes on to the files that read it.
-ghost use Rattle.std.specs.Prelude.{◌≡◌, ◌+◌, ◌<◌, ◌≤◌, ◌∷◌, ℕ, true, OnOk};
+ghost use Rattle.std.specs.Prelude.{◌≡◌, ◌+◌, ◌<◌, ◌≤◌, ◌∷◌, [], ℕ, true, false, IfOk, OnOk};
 ghost use Rattle.std.specs.List.{AllByRecursion};
 ghost use Rattle.ncq_shelf.specs.Contents.{sum_over};
 ghost use Rattle.ncq_shelf.specs.Stands.{IsThere};
 ghost use Rattle.ncq_feed.specs.Runs.{Run, IsUnderWay, ArePassed, all_due, all_in, is_among};
+ghost use Rattle.ncq_feed.specs.Runs.{news_in};
 ghost use Rattle.ncq_feed.specs.Turns.{IsPassedDown, IsParcelFor, AreDelivered, AreTold};
 ghost use Rattle.ncq_feed.specs.Turns.{AreBounded};
 
@@ -18,7 +19,8 @@ use std::collections::BTreeSet;
 use std::sync::ledger::Ledger;
 
 /// The turn of a pending file, which is no longer pending: a join gets its rows of the change now,
-/// and what a file got goes on to the selections and the joins over it.
+/// and what a file got goes on to the selections and the joins over it. The answer is whether the
+/// file got rows.
 pub(crate) fn take_turn<L: Ledger>(
     alloc: Global,
     shelf: &mut Shelf,
@@ -26,7 +28,7 @@ pub(crate) fn take_turn<L: Ledger>(
     now: u64,
     pending: &mut BTreeSet<u64>,
     steps: &mut Steps<L>,
-) -> Result<(), AllocError>
+) -> Result<bool, AllocError>
     ghost run: { Run }
     requires now { now ≡ run.store.changes }
     requires under { IsUnderWay run shelf.old }
@@ -34,17 +36,21 @@ pub(crate) fn take_turn<L: Ledger>(
     requires above { (other : ℕ) → is_among other pending.old.keys ≡ true → at < other }
     ensures under { IsUnderWay run shelf.new }
     ensures passed { OnOk result (ArePassed run (at + 1) pending.new.keys shelf.new) }
+    ensures below { OnOk result ((number : ℕ) → number < at → news_in run.store.changes shelf.new
+        number ≡ news_in run.store.changes shelf.old number) }
+    ensures nothing { IfOk result (λ got. got ≡ false
+        → news_in run.store.changes shelf.new at ≡ []) }
     ensures cost { steps.new + all_in run shelf.old ≤ steps.old + all_due run }
     ensures spent { OnOk result
         (steps.new + all_in run shelf.old ≤ steps.old + all_in run shelf.new) }
 {
     feed_join(alloc, shelf, at, now, steps)?;
     if shelf.content(at).rows_since(now).is_empty() {
-        return Ok(());
+        return Ok(false);
     }
     pass_down(alloc, shelf, at, now, pending, steps)?;
     tell_joins(alloc, shelf, at, pending)?;
-    Ok(())
+    Ok(true)
 }
 
 /// Gives each selection over the file those of its rows of the change that it takes. Those that got

@@ -11,7 +11,7 @@ ghost use Rattle.ncq_signature.specs.Groups.{AreGroupLines};
 ghost use Rattle.ncq_shelf.specs.KeptFiles.{KeptFile};
 ghost use Rattle.ncq_shelf.specs.Stands.{IsThere};
 ghost use Rattle.ncq_shelf.specs.Contents.{Fits, IsCompacted, cut_to};
-ghost use Rattle.ncq_feed.specs.Feeds.{IsPreparedFrom, AreFed, world_after, feed_work};
+ghost use Rattle.ncq_feed.specs.Feeds.{IsPreparedFrom, AreFed, NamesTheFed, world_after, feed_work};
 ghost use Rattle.ncq_count.specs.FileExprs.{exprs_of};
 ghost use Rattle.ncq_group.specs.Installs.{IsInstalled, NamesTheMissing, rows_of_all};
 ghost use Rattle.ncq_group.specs.Releases.{HasUse, IsReleased};
@@ -22,7 +22,7 @@ use crate::filed::Filed;
 use crate::mark::GroupMark;
 use crate::place::place;
 use crate::undo::cut;
-use ncq_base::{FileId, Steps};
+use ncq_base::{FileId, Sequence, Steps};
 use ncq_count::CountedShelf;
 use ncq_midfile::MidFile;
 use ncq_plan::Expr;
@@ -182,15 +182,16 @@ impl GroupTable {
     }
 
     /// Gives each file the signed rows that the change makes of its expression, under the number of
-    /// the change. After an error the table is as it was. Each signed row is one step, whatever it
-    /// answers. The only error is that memory ran out.
+    /// the change. The answer names each file that got rows. After an error the table is as it
+    /// was. Each signed row is one step, whatever it answers. The only error is that memory ran
+    /// out.
     pub fn feed<L: Ledger>(
         &mut self,
         alloc: Global,
         change: &Change,
         store: &Store,
         steps: &mut Steps<L>,
-    ) -> Result<(), AllocError>
+    ) -> Result<Sequence<u64>, AllocError>
         requires change { IsPreparedFrom store.now change.now }
         requires number { store.now.changes ≡ self.old.number }
         requires more { self.old.number < 2 ^ 64 - 1 }
@@ -199,13 +200,14 @@ impl GroupTable {
         ensures fed { OnOk result (AreFed store.now change.now self.old.files self.new.files) }
         ensures fits { OnOk result (Fits self.new.number (world_after store.now change.now)
             self.new.files) }
+        ensures named { IfOk result (NamesTheFed store.now.changes self.new.files) }
         ensures next_file { self.new.next_file ≡ self.old.next_file }
         ensures err { OnErr result (self.new ≡ self.old) }
         ensures cost { steps.new ≤ steps.old + feed_work store.now change.now self.old.files }
     {
-        self.filed.shelf.feed(alloc, change, store, steps)?;
+        let numbers = self.filed.shelf.feed(alloc, change, store, steps)?;
         self.number += 1;
-        Ok(())
+        Ok(numbers)
     }
 
     /// Takes the signed rows of the changes after the mark away, and makes both numbers those of

@@ -4,3 +4,4 @@ mod RollLaws
 mod TestLaws
 pub mod ShareLaws
 pub mod TurnLaws
+pub mod UndoLaws

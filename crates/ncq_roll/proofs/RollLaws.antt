@@ -1,6 +1,6 @@
 -- A roll stays one: with one member more, with one less, after a change of the sources, and after a note.
-use Rattle.std.proofs.Common.{◌≡◌, ◌≢◌, ℕ, ◌+◌, ◌-◌, ◌<◌, ◌≤◌, ◌^◌, Bool, true, false, not, cond, List, [], ◌∷◌, ◌++◌, map, length, inl, inr, refl, sym, ◌∙◌, ap, subst, arith}
-use Rattle.std.specs.Prelude.{Some, None, nat_eq}
+use Rattle.std.proofs.Common.{◌≡◌, ◌≢◌, ℕ, ◌+◌, ◌-◌, ◌<◌, ◌≤◌, ◌^◌, true, false, not, cond, List, [], ◌∷◌, ◌++◌, map, length, inl, inr, refl, sym, ◌∙◌, ap, subst, arith}
+use Rattle.std.specs.Prelude.{Some, None}
 use Rattle.std.specs.List.{filter, AllByRecursion}
 use Rattle.std.specs.FinMap.{get, empty}
 use Rattle.std.proofs.lemmas.Bool.{cases_eq, cases_lt}
@@ -120,13 +120,6 @@ module _ (old new : TableState) (facts : Facts old) (members : List Member) (rol
     ];
   }
 
-  pub newest_uses : HasUse new.files number
-  newest_uses =
-      let s : HasFile new.files member = subst (λ e. Stands new.files e number) is i.stands in
-      let push = users_push number members member in
-      let one = same_itself number in
-      has_use new (members ++ member ∷ []) roll_more member s (omega arith)
-
 -- one member less, whose use of its file is given up
 module _ (old new : TableState) (number : ℕ) (r : IsReleased old.files number new.files) (members rest : List Member) (roll : IsRoll old members)
     (formed : AllByRecursion (λ m. IsWellFormed m.query) rest) (files : AllByRecursion (HasFile old.files) rest) (counts : (n : ℕ) → users n members ≡ users n rest + same number n) where
@@ -181,12 +174,6 @@ module _ (old new : TableState) (number : ℕ) (r : IsReleased old.files number 
     files = each_both (λ m. 0 < users m.file.0 rest) (HasFile old.files) (HasFile new.files) file_left rest (users_some rest) files;
     uses = uses_left;
   }
-
--- the newest member gives its file up again
-pub roll_back : (old new : TableState) (members : List Member) (member : Member) → IsRoll old (members ++ member ∷ []) → AllByRecursion (λ m. IsWellFormed m.query) members → AllByRecursion (HasFile old.files) members
-    → IsReleased old.files member.file.0 new.files → IsRoll new members
-roll_back old new members member roll formed files r =
-    roll_less old new member.file.0 r (members ++ member ∷ []) members roll formed files (λ n. users_push n members member)
 
 -- the member of an install number gives its file up
 module _ (old : TableState) (members : List Member) (roll : IsRoll old members) (install : ℕ) (member : Member) (rise : InstallsRise members) (found : member_of install members ≡ Some member) where

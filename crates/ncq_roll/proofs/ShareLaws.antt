@@ -10,7 +10,6 @@ use Rattle.ncq_plan.specs.Plans.{plan_of}
 use Rattle.ncq_shelf.specs.Parts.{IsPart}
 use Rattle.ncq_shelf.specs.KeptFiles.{KeptFile, Files}
 use Rattle.ncq_shelf.specs.Stands.{Stands}
-use Rattle.ncq_group.specs.Closure.{IsKept, IsLive}
 use Rattle.ncq_group.specs.Tables.{TableState, Facts}
 use Rattle.ncq_group.proofs.Closures.{keeps_the_live}
 use Rattle.ncq_book.specs.declared.member.Member.{Member}

@@ -1,38 +1,23 @@
--- A member that comes in with the file that is made for it, and files that are rolled back.
-use Rattle.std.proofs.Common.{◌≡◌, ℕ, ◌<◌, true, false, not, cond, List, [], ◌∷◌, ◌++◌, map, refl, sym, ◌∙◌, ap, subst, arith}
-use Rattle.std.specs.Prelude.{Option, Some, None, Result, Ok, Err, OnOk, OnErr, IfSome, IfNone, if◌then◌else◌}
+-- Members whose files were fed or rolled back, and a member that goes out.
+use Rattle.std.proofs.Common.{◌≡◌, ℕ, true, false, not, cond, List, [], ◌∷◌, refl, sym, ◌∙◌, ap, subst}
+use Rattle.std.specs.Prelude.{Option, Some, None, Result, Ok, Err, OnOk, OnErr, IfSome, IfNone}
 use Rattle.ncq_feed.specs.Feeds.{AreFed}
 use Rattle.ncq_source.specs.ChangeStates.{ChangeState}
 use Rattle.ncq_source.specs.StoreStates.{StoreState}
-use Rattle.ncq_roll.proofs.RollLaws.{roll_fed, roll_more, roll_taken, taken_uses}
+use Rattle.ncq_roll.proofs.RollLaws.{roll_fed, roll_taken, taken_uses}
 use Rattle.ncq_group.specs.Releases.{HasUse, IsReleased}
-use Rattle.ncq_book.proofs.MemberLaws.{others_pushed}
-use Rattle.ncq_group.specs.Installs.{IsInstalled}
-use Rattle.ncq_plan.specs.declared.expr.Expr.{Expr}
-use Rattle.ncq_plan.specs.WellFormed.{IsWellFormed}
 use Rattle.std.specs.FinMap.{get}
 use Rattle.std.specs.List.{filter, AllByRecursion}
 use Rattle.std.specs.Option.{option_map}
-use Rattle.std.proofs.lemmas.Bool.Decides.{nat_tests}
 use Rattle.ncq_base.specs.declared.atom.FileId.{FileId}
 use Rattle.ncq_plan.specs.Plans.{plan_of}
 use Rattle.ncq_shelf.specs.Contents.{cut_to}
 use Rattle.ncq_shelf.specs.KeptFiles.{KeptFile, Files}
 use Rattle.ncq_shelf.specs.Stands.{Stands}
-use Rattle.ncq_group.specs.Tables.{TableState, Facts}
+use Rattle.ncq_group.specs.Tables.{TableState}
 use Rattle.ncq_book.specs.declared.member.Member.{Member}
-use Rattle.ncq_book.specs.Books.{is_of, member_of, with_file, InstallsRise}
+use Rattle.ncq_book.specs.Books.{is_of, member_of, InstallsRise}
 use Rattle.ncq_roll.specs.Rolls.{IsRoll}
-
--- the last member gets the file
-pub joined : (ms : List Member) (m : Member) (file : FileId) → AllByRecursion (λ n. n.install < m.install) ms → map (with_file m.install file) (ms ++ m ∷ []) ≡ ms ++ record m { file = file } ∷ []
-joined [] m file less =
-    let same : is_of m.install m ≡ true = grind (arith, nat_tests) in
-    λ i. (if same i then record m { file = file } else m) ∷ []
-joined (n ∷ ms) m file less =
-    let above = less.0 in
-    let other : is_of m.install n ≡ false = grind (arith, nat_tests, above) in
-    λ i. (if other i then record n { file = file } else n) ∷ joined ms m file less.1 i
 
 -- a file that is left has the expression and the uses that it had
 cut_back : (change : ℕ) (o : Option KeptFile) (file : KeptFile) → option_map (cut_to change) o ≡ Some file → (was : KeptFile) × (o ≡ Some was) × (cut_to change was ≡ file)
@@ -61,20 +46,6 @@ pub roll_fed_or_not : {X E : Type 0} (store : StoreState) (change : ChangeState)
     → IsRoll old members → IsRoll new members
 roll_fed_or_not store change old new members (Ok x) fed err roll = roll_fed store change old new members roll fed
 roll_fed_or_not store change old new members (Err e) fed err roll = subst (λ (t : TableState). IsRoll t members) (sym err) roll
-
--- a member came in with the file that was made for it
-pub roll_joined : (old new : TableState) (facts : Facts old) (members after : List Member) (roll : IsRoll old members) (member : Member) (plan : Expr) (formed : IsWellFormed member.query) (is : plan ≡ plan_of member.query) (file : FileId)
-    → IsInstalled plan old new file.0 → AllByRecursion (λ m. m.install < member.install) members → after ≡ map (with_file member.install file) (members ++ member ∷ [])
-    → IsRoll new after × (after ≡ members ++ record member { file = file } ∷ [])
-roll_joined old new facts members after roll member plan formed is file i less e =
-    let joins : after ≡ members ++ record member { file = file } ∷ [] = e ∙ joined members member file less in (
-      subst (IsRoll new) (sym joins) (roll_more old new facts members roll (record member { file = file }) plan formed is i),
-      joins,
-    )
-
--- a member that is taken back
-pub taken_back : (members after : List Member) (member : Member) → AllByRecursion (λ m. m.install < member.install) members → after ≡ filter (λ m. not (is_of member.install m)) (members ++ member ∷ []) → after ≡ members
-taken_back members after member less e = e ∙ others_pushed members member less
 
 -- the member whose file it is
 some_of : (o : Option Member) (file : FileId) → option_map (λ m. m.file) o ≡ Some file → (m : Member) × (o ≡ Some m) × (m.file ≡ file)

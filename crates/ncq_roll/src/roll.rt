@@ -1,6 +1,6 @@
 //! The roll: members, and the files that they use.
 ghost use Rattle.std.specs.Prelude.{◌≡◌, ℕ, ◌+◌, ◌-◌, ◌<◌, ◌≤◌, ◌^◌, List, [], not, map, filter};
-ghost use Rattle.std.specs.Prelude.{length, false, Some, OnOk, OnErr, IfSome, IfNone};
+ghost use Rattle.std.specs.Prelude.{length, false, Some, IfOk, OnOk, OnErr, IfSome, IfNone};
 ghost use Rattle.std.specs.FinMap.{empty, get};
 ghost use Rattle.std.specs.Option.{option_map};
 ghost use Rattle.std.specs.List.{list_any, AllByRecursion};
@@ -10,7 +10,7 @@ ghost use Rattle.ncq_plan.specs.WellFormed.{IsWellFormed};
 ghost use Rattle.ncq_change.specs.Stores.{world_in};
 ghost use Rattle.ncq_shelf.specs.Contents.{Fits, cut_to};
 ghost use Rattle.ncq_shelf.specs.KeptFiles.{KeptFile};
-ghost use Rattle.ncq_feed.specs.Feeds.{IsPreparedFrom, AreFed, world_after, feed_work};
+ghost use Rattle.ncq_feed.specs.Feeds.{IsPreparedFrom, AreFed, NamesTheFed, world_after, feed_work};
 ghost use Rattle.ncq_group.specs.Installs.{NamesTheMissing, rows_of_all};
 ghost use Rattle.ncq_group.specs.Releases.{IsReleased};
 ghost use Rattle.ncq_group.specs.Tables.{Facts};
@@ -19,7 +19,7 @@ ghost use Rattle.ncq_book.specs.Books.{InstallsRise, NamesDiffer};
 ghost use Rattle.ncq_roll.specs.Rolls.{IsRoll, HasJoined};
 ghost use Rattle.ncq_roll.specs.Shares.{Shares};
 
-use ncq_base::{FileId, Steps};
+use ncq_base::{FileId, Sequence, Steps};
 use ncq_book::{Book, Member};
 use ncq_group::{GroupMark, GroupTable};
 use ncq_plan::Expr;
@@ -139,15 +139,14 @@ impl Roll {
             → steps.new ≤ steps.old + rows_of_all (world_in store.now) missing }
     {
         self.facts();
-        let install = member.install;
-        self.book.add(alloc, member)?;
-        match self.groups.install(alloc, plan, store, steps) {
-            Ok(file) => {
-                self.book.set_file(install, file);
-                Ok(())
-            }
+        let before = self.groups.mark();
+        let file = self.groups.install(alloc, plan, store, steps)?;
+        self.groups.facts();
+        match self.book.add(alloc, Member { file, ..member }) {
+            Ok(()) => Ok(()),
             Err(AllocError) => {
-                let _file = take_away(&mut self.book, install);
+                self.groups.release(file);
+                self.groups.roll_back(before);
                 Err(AllocError)
             }
         }
@@ -167,21 +166,21 @@ impl Roll {
         ensures instant { self.new.instant ≡ self.old.instant }
     {
         self.facts();
-        if let Some(file) = take_away(&mut self.book, install) {
-            self.groups.release(file);
+        if let Some(used) = take_away(&mut self.book, install) {
+            self.groups.release(used);
         }
     }
 
     /// Gives each file the signed rows that the change makes of its expression, under the number of
-    /// the change. After an error the roll is as it was. Each signed row is one step, whatever it
-    /// answers. The only error is that memory ran out.
+    /// the change. The answer names each file that got rows. After an error the roll is as it was.
+    /// Each signed row is one step, whatever it answers. The only error is that memory ran out.
     pub fn feed<L: Ledger>(
         &mut self,
         alloc: Global,
         change: &Change,
         store: &Store,
         steps: &mut Steps<L>,
-    ) -> Result<(), AllocError>
+    ) -> Result<Sequence<u64>, AllocError>
         requires change { IsPreparedFrom store.now change.now }
         requires number { store.now.changes ≡ self.old.table.number }
         requires more { self.old.table.number < 2 ^ 64 - 1 }
@@ -191,6 +190,7 @@ impl Roll {
             (AreFed store.now change.now self.old.table.files self.new.table.files) }
         ensures fits { OnOk result (Fits self.new.table.number (world_after store.now change.now)
             self.new.table.files) }
+        ensures named { IfOk result (NamesTheFed store.now.changes self.new.table.files) }
         ensures next_file { self.new.table.next_file ≡ self.old.table.next_file }
         ensures members { self.new.members ≡ self.old.members }
         ensures instant { self.new.instant ≡ self.old.instant }

@@ -12,7 +12,7 @@ ghost use Rattle.ncq_shelf.specs.Contents.{Fits};
 
 use crate::Roll;
 use ncq_base::{Bytes, FileId, Sequence, Steps, atom_of, bytes_of};
-use ncq_book::{Member, Topics};
+use ncq_book::Member;
 use ncq_event::Timing;
 use ncq_plan::{
     Arm, Arms, EqualTo, EqualTos, NormalQuery, Pairs, SlotTemplate, Tests, Withins, plan,
@@ -101,7 +101,6 @@ fn member(
     Ok(Member {
         name,
         sources: Sequence::new(alloc),
-        topics: Topics::new(alloc),
         query,
         file: FileId(99),
         timing: Timing {

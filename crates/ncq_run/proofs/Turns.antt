@@ -16,7 +16,8 @@ use Rattle.ncq_engine.specs.Notices.{Language}
 use Rattle.ncq_engine.specs.Output.{history_of}
 use Rattle.ncq_engine.specs.Stands.{EngineState, Stands}
 use Rattle.ncq_run.proofs.Outputs.{nothing_whole, nothing_happened}
-use Rattle.ncq_run.specs.Output.{output_of, output_of_whole, history_of_whole}
+use Rattle.ncq_run.proofs.WorkLaws.{all_work}
+use Rattle.ncq_run.specs.Output.{output_of, output_of_whole, history_of_whole, AreWithinWork}
 use Rattle.ncq_run.specs.Status.{Told, told, Ended, StandsForAll, IsDone, IsReadFault, IsWriteFault, IsTooLong, IsOutOfMemory, AppendsPrefix, AppendsProperPrefix}
 use Rattle.ncq_run.specs.Session.{SoFar}
 use Rattle.ncq_run.specs.declared.session.Status.{Status}
@@ -36,10 +37,14 @@ split_piece bytes buffer rest inside n le =
 rose_later : (a b c : ℕ) → a ≤ b → Rose b c → Rose a c
 rose_later a b c le rose = omega arith
 
-module _ (language : Language) (reader : ScriptState) (engine : EngineState) (taken most : ℕ) (start : Told) (left held : Option (List ℕ)) (given rf wf : ℕ) (so : SoFar language reader engine taken start (told left held given rf wf)) (within : taken ≤ most)
+module _ (language : Language) (reader : ScriptState) (engine : EngineState) (taken most : ℕ) (start : Told) (left held : Option (List ℕ)) (given rf wf begun steps : ℕ) (so : SoFar language reader engine taken start (told left held given rf wf) begun steps) (within : taken ≤ most)
     (left' held' : Option (List ℕ)) (given' rf' wf' : ℕ) where
   pub turn_read_fault : Keeps left left' → Rose rf rf' → IsReadFault language (limit_of reader) start (told left' held given' rf' wf)
   turn_read_fault kept rose = record { rose = rose_later _ _ _ so.read_later rose; bytes = so.bytes; read = Consumes-kept _ _ _ _ so.read kept; written = so.written }
+
+  pub turn_fault_work : IfSome start.left (λ bytes. AreWithinWork language (script (limit_of reader) bytes) begun steps)
+  turn_fault_work = with_rest start.left left so.bytes (λ bytes. AreWithinWork language (script (limit_of reader) bytes) begun steps) so.read
+      (λ rest. all_work language (limit_of reader) so.bytes begun rest steps so.work)
 
   module _ (buffer : List ℕ) (n : ℕ) (read : Consumes left left' (take n buffer)) where
     all_read : n ≡ 0 → Consumes start.left left' so.bytes
@@ -60,6 +65,11 @@ module _ (language : Language) (reader : ScriptState) (engine : EngineState) (ta
         Consumes-whole start.left left' so.bytes (λ bytes. Stands engine' (history_of language [] (script (limit_of reader) bytes)) × (engine'.count ≡ length (script (limit_of reader) bytes)))
         (all_read none) end (stands, counted)
 
+    pub end_work : n ≡ 0 → IsAtEnd left' → (steps' : ℕ) → AreWithinWork language (script (limit_of reader) so.bytes) begun steps'
+        → IfSome start.left (λ bytes. AreWithinWork language (script (limit_of reader) bytes) begun steps')
+    end_work none end steps' work =
+        Consumes-whole start.left left' so.bytes (λ bytes. AreWithinWork language (script (limit_of reader) bytes) begun steps') (all_read none) end work
+
     pub end_out_of_memory : n ≡ 0 → IsAtEnd left' → AppendsPrefix start.held held' (output_of language (limit_of reader) so.bytes) → IsOutOfMemory language (limit_of reader) start (told left' held' given' rf' wf')
     end_out_of_memory none end written = record {
       written = Consumes-whole start.left left' so.bytes (λ script. AppendsPrefix start.held held' (output_of language (limit_of reader) script)) (all_read none) end written;
@@ -75,6 +85,11 @@ module _ (language : Language) (reader : ScriptState) (engine : EngineState) (ta
       over_rest : (P : List ℕ → Type 0) → ((more : List ℕ) → P ((so.bytes ++ take inside buffer) ++ more)) → IfSome start.left P
       over_rest P p = with_rest start.left left' (so.bytes ++ take n buffer) P (Consumes-trans _ _ _ _ _ so.read read)
           (λ rest. subst P (sym (split_piece so.bytes buffer rest inside n le)) (p (drop inside (take n buffer) ++ rest)))
+
+      pub turn_work : (steps' : ℕ) → AreWithinWork language (whole_script (limit_of reader) (so.bytes ++ take inside buffer)) begun steps'
+          → IfSome start.left (λ bytes. AreWithinWork language (script (limit_of reader) bytes) begun steps')
+      turn_work steps' work = over_rest (λ bytes. AreWithinWork language (script (limit_of reader) bytes) begun steps')
+          (λ more. all_work language (limit_of reader) (so.bytes ++ take inside buffer) begun more steps' work)
 
       pub turn_out_of_memory : ((more : List ℕ) → AppendsPrefix start.held held' (output_of language (limit_of reader) ((so.bytes ++ take inside buffer) ++ more))) → IsOutOfMemory language (limit_of reader) start (told left' held' given' rf' wf')
       turn_out_of_memory p = record { written = over_rest (λ script. AppendsPrefix start.held held' (output_of language (limit_of reader) script)) p }
@@ -95,12 +110,13 @@ module _ (language : Language) (reader : ScriptState) (engine : EngineState) (ta
                 subst (λ (bs : List ℕ). Appends start.held held' (output_of_whole language (limit_of reader) bs)) (sym e) written);
           }
 
-    pub turn_goes_on : (reader' : ScriptState) (engine' : EngineState) (inside : ℕ) → inside ≡ n → n ≤ length buffer → RoseBy given n given' → rf ≤ rf' → wf ≤ wf' → (limit_of reader') ≡ (limit_of reader)
+    pub turn_goes_on : (reader' : ScriptState) (engine' : EngineState) (inside steps' : ℕ) → inside ≡ n → n ≤ length buffer → RoseBy given n given' → rf ≤ rf' → wf ≤ wf' → (limit_of reader') ≡ (limit_of reader)
         → FollowsScript reader' (so.bytes ++ take inside buffer) engine'.count → engine'.count ≡ length (whole_script (limit_of reader) (so.bytes ++ take inside buffer))
         → Stands engine' (history_of_whole language (limit_of reader) (so.bytes ++ take inside buffer))
         → Appends start.held held' (output_of_whole language (limit_of reader) (so.bytes ++ take inside buffer))
-        → SoFar language reader' engine' (taken + n) start (told left' held' given' rf' wf')
-    turn_goes_on reader' engine' inside same room rose later later' e follows counted stands written = record {
+        → AreWithinWork language (whole_script (limit_of reader) (so.bytes ++ take inside buffer)) begun steps'
+        → SoFar language reader' engine' (taken + n) start (told left' held' given' rf' wf') begun steps'
+    turn_goes_on reader' engine' inside steps' same room rose later later' e follows counted stands written work = record {
       bytes = so.bytes ++ take inside buffer;
       follows = follows;
       long = omega (arith, length-append so.bytes (take inside buffer), length-take inside buffer, so.long);
@@ -108,21 +124,25 @@ module _ (language : Language) (reader : ScriptState) (engine : EngineState) (ta
       stands = subst (λ (l : ℕ). Stands engine' (history_of_whole language l (so.bytes ++ take inside buffer))) (sym e) stands;
       read = subst (λ (k : ℕ). Consumes start.left left' (so.bytes ++ take k buffer)) (sym same) (Consumes-trans _ _ _ _ _ so.read read);
       written = subst (λ (l : ℕ). Appends start.held held' (output_of_whole language l (so.bytes ++ take inside buffer))) (sym e) written;
+      work = subst (λ (l : ℕ). AreWithinWork language (whole_script l (so.bytes ++ take inside buffer)) begun steps') (sym e) work;
       given = record { at_least = omega (arith, so.given.at_least, RoseBy-at_least _ _ _ rose); at_most = omega (arith, so.given.at_most, RoseBy-at_most _ _ _ rose) };
       read_later = omega (arith, so.read_later, later);
       write_later = omega (arith, so.write_later, later');
     }
 
-pub written_back : (len : ℕ) (new items : List ℕ) → length new ≡ len → take len (new ++ drop (length new) items) ≡ new
-written_back len new items same = rw (← same) (take-append_seam new (drop (length new) items))
+-- the front of what was written back is that of the piece read
+pub written_front : (inside len : ℕ) (new items all front : List ℕ) → front ≡ take inside all → all ≡ take len (new ++ drop (length new) items) → length new ≡ len → front ≡ take inside new
+written_front inside len new items all front e written same =
+    let back : all ≡ new = written ∙ rw (← same) (take-append_seam new (drop (length new) items)) in
+    e ∙ ap (λ (xs : List ℕ). take inside xs) back
 
 pub nothing_written : (language : Language) (left held : Option (List ℕ)) (limit : ℕ) → IfSome left (λ script. AppendsPrefix held held (output_of language limit script))
 nothing_written language None held limit = tt
 nothing_written language (Some script) held limit = ([], output_of language limit script, refl, Appends-nil held)
 
-pub at_start : (language : Language) (reader : ScriptState) (engine : EngineState) (left held : Option (List ℕ)) (given rf wf : ℕ) → FollowsScript reader [] engine.count → engine.count ≡ 0 → Stands engine []
-    → SoFar language reader engine 0 (told left held given rf wf) (told left held given rf wf)
-at_start language reader engine left held given rf wf follows none stands = record {
+pub at_start : (language : Language) (reader : ScriptState) (engine : EngineState) (left held : Option (List ℕ)) (given rf wf steps : ℕ) → FollowsScript reader [] engine.count → engine.count ≡ 0 → Stands engine []
+    → SoFar language reader engine 0 (told left held given rf wf) (told left held given rf wf) steps steps
+at_start language reader engine left held given rf wf steps follows none stands = record {
   bytes = [];
   follows = follows;
   long = refl;
@@ -130,6 +150,7 @@ at_start language reader engine left held given rf wf follows none stands = reco
   stands = rw (nothing_happened language (limit_of reader)) stands;
   read = Consumes-nil left;
   written = rw (nothing_whole language (limit_of reader)) (Appends-nil held);
+  work = λ bound works. omega arith;
   given = record { at_least = omega arith; at_most = omega arith };
   read_later = omega arith;
   write_later = omega arith;
@@ -137,11 +158,16 @@ at_start language reader engine left held given rf wf follows none stands = reco
 
 -- labels that stay leave the language
 module _ (labels labels' : List Label) (same : labels ≡ labels') where
-  pub so_far_same : (reader : ScriptState) (engine : EngineState) (taken : ℕ) (start now : Told) → SoFar (language_of labels) reader engine taken start now → SoFar (language_of labels') reader engine taken start now
-  so_far_same reader engine taken start now so = subst (λ (ls : List Label). SoFar (language_of ls) reader engine taken start now) same so
+  pub so_far_same : (reader : ScriptState) (engine : EngineState) (taken : ℕ) (start now : Told) (begun steps : ℕ) → SoFar (language_of labels) reader engine taken start now begun steps
+      → SoFar (language_of labels') reader engine taken start now begun steps
+  so_far_same reader engine taken start now begun steps so = subst (λ (ls : List Label). SoFar (language_of ls) reader engine taken start now begun steps) same so
 
   pub ended_same : (limit limit' most most' : ℕ) (start now : Told) (status : Status) → limit ≡ limit' → most ≡ most' → Ended (language_of labels) limit most start now status → Ended (language_of labels') limit' most' start now status
   ended_same limit limit' most most' start now status e f ended = rw (← same, ← e, ← f) ended
 
   pub stands_same : (limit limit' : ℕ) (left : Option (List ℕ)) (engine : EngineState) → limit ≡ limit' → StandsForAll (language_of labels) limit left engine → StandsForAll (language_of labels') limit' left engine
   stands_same limit limit' left engine e stands = rw (← same, ← e) stands
+
+  pub work_same : (limit limit' : ℕ) (left : Option (List ℕ)) (begun steps : ℕ) → limit ≡ limit' → IfSome left (λ bytes. AreWithinWork (language_of labels) (script limit bytes) begun steps)
+      → IfSome left (λ bytes. AreWithinWork (language_of labels') (script limit' bytes) begun steps)
+  work_same limit limit' left begun steps e work = rw (← same, ← e) work

@@ -5,7 +5,7 @@ use Rattle.ncq_script.specs.ScriptReading.{ScriptState, FollowsScript, limit_of,
 use Rattle.ncq_script.specs.Script.{whole_script}
 use Rattle.ncq_engine.specs.Notices.{Language}
 use Rattle.ncq_engine.specs.Stands.{EngineState, Stands}
-use Rattle.ncq_run.specs.Output.{output_of_whole, history_of_whole}
+use Rattle.ncq_run.specs.Output.{output_of_whole, history_of_whole, AreWithinWork}
 use Rattle.ncq_run.specs.Status.{Told}
 
 -- so many bytes were given since, as far as the count tells
@@ -13,10 +13,10 @@ pub record Gave (before n now : ℕ) : Type 0 where
   pub at_least : min (before + n) (2 ^ 64 - 1) ≤ now
   pub at_most : now ≤ before + n
 
--- these bytes were read since the start, the commands that are whole in them are answered, and the
--- engine stands for them and counted them
+-- these bytes were read since the start, the commands that are whole in them are answered, the
+-- engine stands for them and counted them, and the steps since are within their work
 pub record SoFar (language : Language) (reader : ScriptState) (engine : EngineState) (taken : ℕ)
-    (start now : Told) : Type 0 where
+    (start now : Told) (begun steps : ℕ) : Type 0 where
   pub bytes : List ℕ
   pub follows : FollowsScript reader bytes engine.count
   pub long : length bytes ≡ taken
@@ -24,6 +24,7 @@ pub record SoFar (language : Language) (reader : ScriptState) (engine : EngineSt
   pub stands : Stands engine (history_of_whole language (limit_of reader) bytes)
   pub read : Consumes start.left now.left bytes
   pub written : Appends start.held now.held (output_of_whole language (limit_of reader) bytes)
+  pub work : AreWithinWork language (whole_script (limit_of reader) bytes) begun steps
   pub given : Gave start.given taken now.given
   pub read_later : start.read_faults ≤ now.read_faults
   pub write_later : start.write_faults ≤ now.write_faults

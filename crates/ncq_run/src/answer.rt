@@ -11,6 +11,7 @@ ghost use Rattle.ncq_engine.specs.History.{History};
 ghost use Rattle.ncq_engine.specs.Languages.{language_of};
 ghost use Rattle.ncq_engine.specs.Output.{output as answer_to, after, out_of, history_of};
 ghost use Rattle.ncq_engine.specs.Stands.{Stands};
+ghost use Rattle.ncq_engine.specs.Works.{AreWorkUpTo, IsWithinWork};
 ghost use Rattle.ncq_run.specs.Status.{AppendsPrefix, AppendsProperPrefix};
 
 use ncq_base::Steps;
@@ -72,6 +73,7 @@ fn make_answer<L: Ledger>(
         × Stands engine.new (after (language_of engine.old.labels) history command)) }
     ensures counted { OnOk result (engine.new.count ≡ engine.old.count + 1) }
     ensures labels { OnOk result (engine.new.labels ≡ engine.old.labels) }
+    ensures work { IsWithinWork engine.old command steps.old steps.new }
 {
     text.clear();
     match engine.apply(alloc, command, handlers, text, steps) {
@@ -112,6 +114,7 @@ fn answer_one<O: Sink, L: Ledger>(
     ensures full { IsErrOf result Stop.WriteFault
         → IsFull (O.sure output.old) (O.held output.new) }
     ensures sure { O.sure output.new ≡ O.sure output.old }
+    ensures work { IsWithinWork engine.old command steps.old steps.new }
 {
     let Ok(()) = make_answer(alloc, engine, command, handlers, text, steps) else {
         return Err(Stop::NoMemory);
@@ -167,6 +170,11 @@ pub(crate) fn answer_commands<O: Sink, L: Ledger>(
     ensures sure { O.sure output.new ≡ O.sure output.old }
     ensures limit { limit_of reader.new ≡ limit_of reader.old }
     ensures finished { is_finished reader.new ≡ is_finished reader.old }
+    ensures work { (pushed : List ℕ) (history : History)
+        → FollowsScript reader.old pushed engine.old.count → Stands engine.old history
+        → (bound : ℕ) → AreWorkUpTo (language_of engine.old.labels) history (drop engine.old.count
+        (known_script (limit_of reader.old) (is_finished reader.old) pushed)) bound
+        → steps.new ≤ steps.old + bound }
 {
     let mut text = Vec::new(alloc);
     'commands: loop {

@@ -15,6 +15,7 @@ ghost use Rattle.ncq_run.specs.Status.{Told, told, Ended, IsRun, exit_code_of, S
 ghost use Rattle.ncq_run.specs.Status.{AppendsPrefix, AppendsProperPrefix};
 ghost use Rattle.ncq_run.specs.Session.{SoFar, IsReady};
 ghost use Rattle.ncq_run.specs.Output.{output_of, output_of_whole, history_of_whole};
+ghost use Rattle.ncq_run.specs.Output.{AreWithinWork};
 
 use crate::answer::{Stop, answer_commands};
 use ncq_base::Steps;
@@ -130,6 +131,14 @@ fn answer_piece<O: Sink, L: Ledger>(
         → IsFull (O.sure output.old) (O.held output.new) }
     ensures sure { O.sure output.new ≡ O.sure output.old }
     ensures limit { limit_of reader.new ≡ limit_of reader.old }
+    ensures work { (pushed : List ℕ) → FollowsScript reader.old pushed engine.old.count
+        → engine.old.count ≡ length (whole_script (limit_of reader.old) pushed)
+        → Stands engine.old
+        (history_of_whole (language_of engine.old.labels) (limit_of reader.old) pushed)
+        → (before : ℕ) → AreWithinWork (language_of engine.old.labels)
+        (whole_script (limit_of reader.old) pushed) before steps.old
+        → AreWithinWork (language_of engine.old.labels)
+        (whole_script (limit_of reader.old) (pushed ++ piece.now)) before steps.new }
     ensures is_open { is_finished reader.new ≡ false }
 {
     match reader.push(piece) {
@@ -195,6 +204,14 @@ fn answer_rest<O: Sink, L: Ledger>(
         → IsFull (O.sure output.old) (O.held output.new) }
     ensures sure { O.sure output.new ≡ O.sure output.old }
     ensures limit { limit_of reader.new ≡ limit_of reader.old }
+    ensures work { (pushed : List ℕ) → FollowsScript reader.old pushed engine.old.count
+        → engine.old.count ≡ length (whole_script (limit_of reader.old) pushed)
+        → Stands engine.old
+        (history_of_whole (language_of engine.old.labels) (limit_of reader.old) pushed)
+        → (before : ℕ) → AreWithinWork (language_of engine.old.labels)
+        (whole_script (limit_of reader.old) pushed) before steps.old
+        → AreWithinWork (language_of engine.old.labels)
+        (script (limit_of reader.old) pushed) before steps.new }
 {
     reader.finish();
     answer_commands(alloc, reader, engine, handlers, output, steps)
@@ -235,26 +252,32 @@ fn turn<I: Source, O: Sink, L: Ledger>(
         session.old.most (length session.new.buffer.items)) }
     ensures falls { IfNone result (session.old.taken < session.new.taken) }
     ensures labels { IfNone result (engine.new.labels ≡ engine.old.labels) }
-    ensures goes_on { IfNone result ((start : Told)
+    ensures goes_on { IfNone result ((start : Told) (begun : ℕ)
         → SoFar (language_of engine.old.labels) session.old.reader engine.old session.old.taken
         start (told (I.left input.old) (O.held output.old) (I.given input.old)
-        (I.faults input.old) (O.faults output.old))
+        (I.faults input.old) (O.faults output.old)) begun steps.old
         → SoFar (language_of engine.old.labels) session.new.reader engine.new session.new.taken
         start (told (I.left input.new) (O.held output.new) (I.given input.new)
-        (I.faults input.new) (O.faults output.new))) }
-    ensures ends { IfSome result (λ status. (start : Told)
+        (I.faults input.new) (O.faults output.new)) begun steps.new) }
+    ensures ends { IfSome result (λ status. (start : Told) (begun : ℕ)
         → SoFar (language_of engine.old.labels) session.old.reader engine.old session.old.taken
         start (told (I.left input.old) (O.held output.old) (I.given input.old)
-        (I.faults input.old) (O.faults output.old))
+        (I.faults input.old) (O.faults output.old)) begun steps.old
         → Ended (language_of engine.old.labels) (limit_of session.old.reader) session.old.most start
         (told (I.left input.new) (O.held output.new) (I.given input.new)
         (I.faults input.new) (O.faults output.new)) status) }
-    ensures stands { IfSome result (λ status. status ≡ Status.Done → (start : Told)
+    ensures stands { IfSome result (λ status. status ≡ Status.Done → (start : Told) (begun : ℕ)
         → SoFar (language_of engine.old.labels) session.old.reader engine.old session.old.taken
         start (told (I.left input.old) (O.held output.old) (I.given input.old)
-        (I.faults input.old) (O.faults output.old))
+        (I.faults input.old) (O.faults output.old)) begun steps.old
         → StandsForAll (language_of engine.old.labels) (limit_of session.old.reader) start.left
         engine.new) }
+    ensures work { IfSome result (λ status. (start : Told) (begun : ℕ)
+        → SoFar (language_of engine.old.labels) session.old.reader engine.old session.old.taken
+        start (told (I.left input.old) (O.held output.old) (I.given input.old)
+        (I.faults input.old) (O.faults output.old)) begun steps.old
+        → IfSome start.left (λ bytes. AreWithinWork (language_of engine.old.labels)
+        (script (limit_of session.old.reader) bytes) begun steps.new)) }
     ensures within { I.given input.new
         ≤ I.given input.old + (session.old.most - session.old.taken + 1) }
     ensures limits { (session.new.most ≡ session.old.most)
@@ -321,6 +344,8 @@ fn serve<I: Source, O: Sink, L: Ledger>(
         (I.faults input.new) (O.faults output.new)) result }
     ensures stands { result ≡ Status.Done
         → StandsForAll (language_of engine.old.labels) limit (I.left input.old) engine.new }
+    ensures work { IfSome (I.left input.old) (λ bytes. AreWithinWork
+        (language_of engine.old.labels) (script limit bytes) steps.old steps.new) }
     ensures within { I.given input.new ≤ I.given input.old + (most + 1) }
     ensures sure_source { result ≡ Status.ReadFault → I.is_sure input.old ≡ true → ⊥ }
     ensures sure_sink { result ≡ Status.WriteFault
@@ -363,7 +388,8 @@ fn is_run(words: &[&str]) -> bool
 /// more than one byte past 268,435,456 is read. A source that is sure never gives a `ReadFault`,
 /// and a sink gives a `WriteFault` only where it holds all that it was sure to hold.
 /// The engine is a new one, for these handlers. After `Done` it stands for the whole script, and
-/// counted its commands. Each row that is made ticks `steps`, of which no clause tells.
+/// counted its commands. Each row that is made is one step: where the source tells its bytes, the
+/// steps are within the work of the commands of the script, whatever the status.
 pub fn run<I: Source, O: Sink, L: Ledger>(
     alloc: Global,
     words: &[&str],
@@ -388,6 +414,8 @@ pub fn run<I: Source, O: Sink, L: Ledger>(
         (I.faults input.new) (O.faults output.new)) result }
     ensures stands { result ≡ Status.Done
         → StandsForAll (language_of engine.old.labels) longest_line (I.left input.old) engine.new }
+    ensures work { IfSome (I.left input.old) (λ bytes. AreWithinWork
+        (language_of engine.old.labels) (script longest_line bytes) steps.old steps.new) }
     ensures within { I.given input.new ≤ I.given input.old + (longest_script + 1) }
     ensures sure_source { result ≡ Status.ReadFault → I.is_sure input.old ≡ true → ⊥ }
     ensures sure_sink { result ≡ Status.WriteFault

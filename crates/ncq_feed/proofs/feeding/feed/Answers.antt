@@ -22,6 +22,9 @@ returns-in-Ok-clause-fed g c = are_fed _ c.pass_on.new.shelf c.pass_on.ensures.u
 pub returns-in-Ok-clause-ready : goal.returns-in-Ok-clause-ready
 returns-in-Ok-clause-ready g c = are_ready _ c.pass_on.new.shelf c.pass_on.ensures.under c.in-Ok.ensures.right
 
+pub returns-in-Ok-clause-named : goal.returns-in-Ok-clause-named
+returns-in-Ok-clause-named g c = c.in-Ok.ensures.named
+
 pub returns-in-Err-clause-err : goal.returns-in-Err-clause-err
 returns-in-Err-clause-err g c =
     rolled_back _ c.pass_on.new.shelf c.pass_on.ensures.under c.roll_back.new.self

@@ -1,10 +1,11 @@
-use Rattle.std.proofs.Common.{◌<◌, ◌+◌, ◌^◌, arith, subst, sym, ap, ◌∙◌}
+use Rattle.std.proofs.Common.{◌+◌, arith, subst, sym, ap, ◌∙◌}
 use Rattle.ncq_source.specs.StoreStates.{StoreState}
 use Rattle.ncq_feed.specs.Runs.{IsUnderWay, news_in}
 use Rattle.ncq_feed.proofs.GrowthLaws.{at_start, still}
 use Rattle.ncq_feed.proofs.TurnLaws.{next_turn, all_right}
 use Rattle.ncq_feed.proofs.CountLaws.{all_within}
-use Rattle.ncq_feed.proofs.PendingLaws.{room_above, room_falls}
+use Rattle.ncq_feed.proofs.PendingLaws.{room_falls}
+use Rattle.ncq_feed.proofs.NameLaws.{named_idle, named_more, all_named}
 use Rattle.ncq_feed.proofs.feeding.pass_on.Goals as goal
 
 pub feed_scans-requires : goal.feed_scans-requires
@@ -37,23 +38,57 @@ take_turn-requires g c κs within =
     )
 
 pub loop-at-init : goal.loop-at-init
-loop-at-init g c = record { under = c.feed_scans.ensures.under; spent = c.in_ok-feed_scans.ensures.spent; next = 0; passed = c.in_ok-feed_scans.ensures.passed }
+loop-at-init g c = record { under = c.feed_scans.ensures.under; spent = c.in_ok-feed_scans.ensures.spent; next = 0; passed = c.in_ok-feed_scans.ensures.passed; named = λ number less apart. absurd (omega arith) }
 
 pub loop-at-preserved : goal.loop-at-preserved
-loop-at-preserved g c = record { under = c.take_turn.ensures.under; spent = (let inv = c.loop-at.invariant.spent in let step = c.in_ok-take_turn.ensures.spent in omega arith); next = c.in-Some.at + 1; passed = c.in_ok-take_turn.ensures.passed }
+loop-at-preserved g c =
+    let inv = c.loop-at.invariant in
+    let turn = c.in_ok-got.ensures in
+    record {
+      under = c.take_turn.ensures.under;
+      spent = (let before = inv.spent in let step = turn.spent in omega arith);
+      next = c.in-Some.at + 1;
+      passed = turn.passed;
+      named = named_more g.run c.loop-at.shelf inv.under inv.next c.in-Some.at c.loop-at.pending.keys c.take_first.new.pending.keys c.loop-at.numbers inv.passed c.in-Some.ensures.some c.in-Some.ensures.above inv.named c.take_turn.new.shelf turn.below
+          c.push.new.self c.in_ok-push.ensures.ok;
+    }
+
+pub loop-at-preserved-then-not-got : goal.loop-at-preserved-then-not-got
+loop-at-preserved-then-not-got g c =
+    let inv = c.loop-at.invariant in
+    let turn = c.in_ok-got.ensures in
+    record {
+      under = c.take_turn.ensures.under;
+      spent = (let before = inv.spent in let step = turn.spent in omega arith);
+      next = c.in-Some.at + 1;
+      passed = turn.passed;
+      named = named_idle g.run c.loop-at.shelf inv.under inv.next c.in-Some.at c.loop-at.pending.keys c.take_first.new.pending.keys c.loop-at.numbers inv.passed c.in-Some.ensures.some c.in-Some.ensures.above inv.named c.take_turn.new.shelf turn.below
+          (turn.nothing c.if-not-got.true);
+    }
 
 pub loop-at-smaller : goal.loop-at-smaller
 loop-at-smaller g c =
-    let at = c.in-Some.at in
-    let within : at < 2 ^ 64 = c.in-Some.ensures.small in
-    let passed = c.in_ok-take_turn.ensures.passed in
-    subst (λ n. room_above c.take_turn.new.pending.keys < n) (sym (ap room_above c.in-Some.ensures.some))
-    (room_falls at c.take_turn.new.pending.keys within (λ other is. let l = passed.passed.ahead other is in omega arith))
+    room_falls c.in-Some.at c.loop-at.pending.keys c.take_first.new.pending.keys c.take_turn.new.pending.keys c.in-Some.ensures.some c.in-Some.ensures.small c.in_ok-got.ensures.passed.passed.ahead
+
+pub loop-at-smaller-then-not-got : goal.loop-at-smaller-then-not-got
+loop-at-smaller-then-not-got g c =
+    room_falls c.in-Some.at c.loop-at.pending.keys c.take_first.new.pending.keys c.take_turn.new.pending.keys c.in-Some.ensures.some c.in-Some.ensures.small c.in_ok-got.ensures.passed.passed.ahead
 
 pub returns-clause-right : goal.returns-clause-right
 returns-clause-right g c =
     let inv = c.loop-at.invariant in
     all_right g.run c.loop-at.shelf inv.under inv.next c.loop-at.pending.keys inv.passed c.in_default.ensures.none
+
+pub returns-clause-named : goal.returns-clause-named
+returns-clause-named g c =
+    let inv = c.loop-at.invariant in
+    all_named g.run c.loop-at.shelf inv.next c.loop-at.pending.keys c.loop-at.numbers inv.passed c.in_default.ensures.none inv.named
+
+pub returns-in_err-push-clause-cost : goal.returns-in_err-push-clause-cost
+returns-in_err-push-clause-cost g c =
+    let inv = c.loop-at.invariant.spent in
+    let step = c.take_turn.ensures.cost in
+    omega arith
 
 pub returns-clause-cost : goal.returns-clause-cost
 returns-clause-cost g c =

@@ -1,5 +1,6 @@
 use Rattle.std.proofs.Common.{ℕ, ◌+◌, ◌≤◌}
 use Rattle.ncq_feed.specs.Runs.{IsUnderWay, ArePassed, all_in}
+use Rattle.ncq_feed.specs.Turns.{AreNamed}
 use Rattle.ncq_feed.proofs.PendingLaws.{room_above}
 use Rattle.ncq_feed.proofs.feeding.pass_on.Given as goal
 
@@ -15,6 +16,7 @@ invariant-loop-at g l = record {
   spent : l.steps ≤ l.fn.steps + all_in g.run l.shelf;
   next : ℕ;
   passed : ArePassed g.run next l.pending.keys l.shelf;
+  named : AreNamed g.run next l.numbers l.shelf;
 }
 
 abbrev pub decreases-loop-at : goal.decreases-loop-at

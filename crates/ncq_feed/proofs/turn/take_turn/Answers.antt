@@ -1,9 +1,8 @@
-use Rattle.std.proofs.Common.{◌≤◌, ◌-◌, ◌∷◌, subst, sym, ap, ◌∙◌, ℕ}
-use Rattle.ncq_midfile.specs.Content.{since}
+use Rattle.std.proofs.Common.{◌≤◌, ◌-◌, ◌∷◌, subst, sym, ℕ, true≢false}
 use Rattle.ncq_feed.specs.Runs.{is_among, due, count_in}
 use Rattle.ncq_feed.proofs.CountLaws.{few, turn_refused, join_cost, join_spent, left_due, made_due, down_cost, down_spent}
 use Rattle.ncq_feed.proofs.GrowthLaws.{there_up}
-use Rattle.ncq_feed.proofs.TurnLaws.{idle_turn, busy_turn, turn_known, turn_start, nothing_in, news_shown, file_based}
+use Rattle.ncq_feed.proofs.TurnLaws.{idle_turn, busy_turn, below_join, below_turn, turn_known, turn_start, none_shown, file_based}
 use Rattle.ncq_feed.proofs.turn.take_turn.Goals as goal
 
 pub feed_join-requires : goal.feed_join-requires
@@ -31,9 +30,23 @@ tell_joins-requires g c = (c.pass_down.ensures.under, turn_start g.run c.args.at
 pub returns-then-is_empty-clause-passed : goal.returns-then-is_empty-clause-passed
 returns-then-is_empty-clause-passed g c =
     let there = turn_start g.run c.args.at c.args.pending.now.keys c.args.shelf.now c.requires.1.1.1.0 in
-    let shown = news_shown g.run c.feed_join.new.shelf c.feed_join.ensures.under c.args.at there c.content.result.now c.content.ensures in
     idle_turn g.run c.requires.1.1.0.start c.args.at c.args.pending.now.keys c.args.shelf.now c.feed_join.new.shelf c.requires.1.1.1.0 c.requires.1.1.1.1 c.in_ok-feed_join.ensures.joined
-    (shown ∙ ap (λ n. since n c.content.result.now.rows) (sym c.requires.1.0) ∙ sym c.rows_since.ensures ∙ nothing_in c.rows_since.result.now c.if-is_empty.ensures)
+    (none_shown g.run c.feed_join.new.shelf c.feed_join.ensures.under c.args.at there c.content.result.now c.content.ensures c.args.now c.requires.1.0 c.rows_since.result.now c.rows_since.ensures c.if-is_empty.ensures)
+
+pub returns-then-is_empty-clause-below : goal.returns-then-is_empty-clause-below
+returns-then-is_empty-clause-below g c = below_join g.run c.requires.1.1.0.start c.args.at c.args.shelf.now c.feed_join.new.shelf c.in_ok-feed_join.ensures.joined
+
+pub returns-then-is_empty-clause-nothing : goal.returns-then-is_empty-clause-nothing
+returns-then-is_empty-clause-nothing g c = λ none.
+    let there = turn_start g.run c.args.at c.args.pending.now.keys c.args.shelf.now c.requires.1.1.1.0 in
+    none_shown g.run c.feed_join.new.shelf c.feed_join.ensures.under c.args.at there c.content.result.now c.content.ensures c.args.now c.requires.1.0 c.rows_since.result.now c.rows_since.ensures c.if-is_empty.ensures
+
+pub returns-clause-below : goal.returns-clause-below
+returns-clause-below g c =
+    below_turn g.run c.requires.1.1.0.start c.args.at c.args.shelf.now c.feed_join.new.shelf c.in_ok-feed_join.ensures.joined c.pass_down.new.shelf c.args.pending.now.keys c.pass_down.new.pending.keys c.in_ok-pass_down.ensures.down
+
+pub returns-clause-nothing : goal.returns-clause-nothing
+returns-clause-nothing g c = λ none. absurd (true≢false none)
 
 pub returns-clause-passed : goal.returns-clause-passed
 returns-clause-passed g c =

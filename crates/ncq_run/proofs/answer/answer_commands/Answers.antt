@@ -1,7 +1,10 @@
-use Rattle.std.proofs.Common.{arith, ◌∙◌}
+use Rattle.std.proofs.Common.{[], arith, refl, ◌∙◌}
+use Rattle.std.proofs.KnownBytes.{Appends-nil}
 use Rattle.std.proofs.lemmas.Result.{err_from_is_err_and}
 use Rattle.ncq_script.proofs.CallerLemmas.{given_few}
+use Rattle.ncq_engine.specs.Languages.{language_of}
 use Rattle.ncq_run.proofs.Outputs.{same_next, follows_counted, done_next, stopped_next}
+use Rattle.ncq_run.proofs.WorkLaws.{done_work, left_work, tried_work}
 use Rattle.ncq_run.proofs.answer.answer_commands.Goals as goal
 
 pub answer_one-requires-clause-few : goal.answer_one-requires-clause-few
@@ -20,6 +23,19 @@ returns-in_err-answer_one-in-Ok-Command-clause-write g c failed pushed history f
     let at = same_next _ _ _ _ pushed c.commands.engine.count _ c.commands.invariant.limit c.commands.invariant.finished this in
     stopped_next _ _ _ _ c.commands.engine history _ _ _ c.commands.invariant.labels at was (c.in_err-answer_one-in-Ok-Command.ensures.write (cc) was.1 was.3)
 
+pub commands-init : goal.commands-init
+commands-init g c = record {
+  some = c.requires.some;
+  labels = refl;
+  follows = λ pushed f. f;
+  written = λ pushed history f s. ([], history, Appends-nil _, s, refl, refl);
+  work = λ pushed history f s bound works. (history, bound, s, works, omega arith);
+  sure = refl;
+  later = omega arith;
+  limit = refl;
+  finished = refl;
+}
+
 pub commands-preserved : goal.commands-preserved
 commands-preserved g c =
     let next = rw c.in-Ok-Command.field-0-is at c.in-Ok-Command.ensures.next in
@@ -34,8 +50,23 @@ commands-preserved g c =
           let this = (next pushed c.commands.engine.count (c.commands.invariant.follows pushed f)).0 in
           let at = same_next _ _ _ _ pushed c.commands.engine.count _ c.commands.invariant.limit c.commands.invariant.finished this in
           done_next _ _ _ _ c.commands.engine history _ _ _ c.commands.invariant.labels at was _ counted c.in_ok-answer_one-in-Ok-Command.ensures.ok;
+      work = λ pushed history f s bound works.
+          let this = (next pushed c.commands.engine.count (c.commands.invariant.follows pushed f)).0 in
+          let at = same_next _ _ _ _ pushed c.commands.engine.count _ c.commands.invariant.limit c.commands.invariant.finished this in
+          done_work _ c.commands.engine _ _ c.commands.invariant.labels at _ _ _ bound c.answer_one.ensures.work (c.commands.invariant.work pushed history f s bound works)
+          _ counted (λ now stands. (c.in_ok-answer_one-in-Ok-Command.ensures.ok now stands).1);
       sure = c.answer_one.ensures.sure ∙ c.commands.invariant.sure;
       later = omega (arith, c.commands.invariant.later, c.answer_one.ensures.later);
       limit = c.in-Ok-Command.ensures.limit ∙ c.commands.invariant.limit;
       finished = c.in-Ok-Command.ensures.finished ∙ c.commands.invariant.finished;
     }
+
+pub returns-in_err-answer_one-in-Ok-Command-clause-work : goal.returns-in_err-answer_one-in-Ok-Command-clause-work
+returns-in_err-answer_one-in-Ok-Command-clause-work g c pushed history follows stands bound works =
+    let next = rw c.in-Ok-Command.field-0-is at c.in-Ok-Command.ensures.next in
+    let this = (next pushed c.commands.engine.count (c.commands.invariant.follows pushed follows)).0 in
+    let at = same_next _ _ _ _ pushed c.commands.engine.count _ c.commands.invariant.limit c.commands.invariant.finished this in
+    tried_work _ c.commands.engine _ _ c.commands.invariant.labels at _ _ _ bound c.answer_one.ensures.work (c.commands.invariant.work pushed history follows stands bound works)
+
+pub returns-in-Err-clause-work : goal.returns-in-Err-clause-work
+returns-in-Err-clause-work g c pushed history follows stands bound works = left_work (language_of c.args.engine.now.labels) _ _ _ _ bound (c.commands.invariant.work pushed history follows stands bound works)

@@ -7,6 +7,8 @@ use Rattle.ncq_engine.specs.History.{History}
 use Rattle.ncq_engine.specs.Languages.{language_of}
 use Rattle.ncq_engine.specs.Output.{out_of, history_of}
 use Rattle.ncq_engine.specs.Stands.{Stands}
+use Rattle.ncq_engine.specs.Works.{AreWorkUpTo}
+use Rattle.ncq_run.proofs.WorkLaws.{LeavesWork}
 use Rattle.ncq_run.proofs.answer.answer_commands.Given as goal
 
 abbrev pub invariant-commands : goal.invariant-commands
@@ -20,6 +22,9 @@ invariant-commands g l = record {
       ≡ done ++ out_of (language_of l.fn.engine.labels) now (l.engine.count + 1) (drop l.engine.count (known_script (limit_of l.fn.reader) (is_finished l.fn.reader) pushed)))
       × (history_of (language_of l.fn.engine.labels) history (drop l.fn.engine.count (known_script (limit_of l.fn.reader) (is_finished l.fn.reader) pushed))
       ≡ history_of (language_of l.fn.engine.labels) now (drop l.engine.count (known_script (limit_of l.fn.reader) (is_finished l.fn.reader) pushed)));
+  work : (pushed : List ℕ) (history : History) → FollowsScript l.fn.reader pushed l.fn.engine.count → Stands l.fn.engine history → (bound : ℕ)
+      → AreWorkUpTo (language_of l.fn.engine.labels) history (drop l.fn.engine.count (known_script (limit_of l.fn.reader) (is_finished l.fn.reader) pushed)) bound
+      → LeavesWork (language_of l.fn.engine.labels) l.engine (known_script (limit_of l.fn.reader) (is_finished l.fn.reader) pushed) l.fn.steps l.steps bound;
   sure : g.O.Sink.sure l.output ≡ g.O.Sink.sure l.fn.output;
   later : g.O.Sink.faults l.fn.output ≤ g.O.Sink.faults l.output;
   limit : limit_of l.reader ≡ limit_of l.fn.reader;

@@ -12,3 +12,12 @@ returns-in-Err-Refused-clause-made g c =
     on_ok_weaker c.write_refused.result
     (λ written. answers_refused _ _ _ _ _ _ _ _ c.clear.ensures.items (rw is at said.refused) (rw is at said.stays) (rw is at said.unwritten) (rw is at said.counted) c.count.ensures written)
     c.write_refused.ensures.ok
+
+pub returns-in-Ok-clause-work : goal.returns-in-Ok-clause-work
+returns-in-Ok-clause-work g c = c.apply.ensures.work
+
+pub returns-in-Err-Refused-clause-work : goal.returns-in-Err-Refused-clause-work
+returns-in-Err-Refused-clause-work g c = c.apply.ensures.work
+
+pub returns-in-Err-OutOfMemory-clause-work : goal.returns-in-Err-OutOfMemory-clause-work
+returns-in-Err-OutOfMemory-clause-work g c = c.apply.ensures.work

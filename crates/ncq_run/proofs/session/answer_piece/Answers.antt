@@ -1,6 +1,8 @@
 use Rattle.std.proofs.Common.{◌++◌}
 use Rattle.std.proofs.lemmas.Result.{on_ok_weaker}
+use Rattle.ncq_engine.specs.Languages.{language_of}
 use Rattle.ncq_run.proofs.Outputs.{known_open, piece_written, piece_stands, piece_prefix, piece_proper, nothing_more}
+use Rattle.ncq_run.proofs.WorkLaws.{piece_work, unread_work}
 use Rattle.ncq_run.proofs.session.answer_piece.Goals as goal
 
 pub returns-in-Ok-clause-written : goal.returns-in-Ok-clause-written
@@ -21,3 +23,11 @@ returns-in-Ok-clause-write g c failed pushed f counted stands before was more = 
 
 pub returns-in-Err-clause-no_memory : goal.returns-in-Err-clause-no_memory
 returns-in-Err-clause-no_memory g c failed pushed f counted stands before was more = nothing_more _ _ _ _ pushed c.args.piece.now more was
+
+pub returns-in-Ok-clause-work : goal.returns-in-Ok-clause-work
+returns-in-Ok-clause-work g c pushed f counted stands before was =
+    piece_work (language_of c.args.engine.now.labels) _ pushed before _ _ _ _ c.args.piece.now counted (known_open _ _ _ (pushed ++ c.args.piece.now) c.in-Ok.ensures.limit c.in-Ok.ensures.open) was
+    (c.answer_commands.ensures.work _ _ (c.in-Ok.ensures.ok pushed _ f) stands)
+
+pub returns-in-Err-clause-work : goal.returns-in-Err-clause-work
+returns-in-Err-clause-work g c pushed f counted stands before was = unread_work (language_of c.args.engine.now.labels) _ pushed before c.args.piece.now _ was

@@ -10,7 +10,7 @@ invariant-turns g l = record {
   ready : IsReady l.session.reader l.engine.count l.session.taken l.session.most (length l.session.buffer.items);
   so_far : SoFar (language_of l.fn.engine.labels) l.session.reader l.engine l.session.taken
       (told (g.I.Source.left l.fn.input) (g.O.Sink.held l.fn.output) (g.I.Source.given l.fn.input) (g.I.Source.faults l.fn.input) (g.O.Sink.faults l.fn.output))
-      (told (g.I.Source.left l.input) (g.O.Sink.held l.output) (g.I.Source.given l.input) (g.I.Source.faults l.input) (g.O.Sink.faults l.output));
+      (told (g.I.Source.left l.input) (g.O.Sink.held l.output) (g.I.Source.given l.input) (g.I.Source.faults l.input) (g.O.Sink.faults l.output)) l.fn.steps l.steps;
   labels : l.engine.labels ≡ l.fn.engine.labels;
   is_sure : g.I.Source.is_sure l.input ≡ g.I.Source.is_sure l.fn.input;
   sure : g.O.Sink.sure l.output ≡ g.O.Sink.sure l.fn.output;

@@ -3,7 +3,7 @@ use Rattle.std.specs.List.{list_any, AllByRecursion}
 use Rattle.ncq_book.specs.declared.member.Member.{Member}
 use Rattle.ncq_book.specs.Books.{BookState, is_named}
 use Rattle.ncq_book.specs.Kept.{IsStruck}
-use Rattle.ncq_book.proofs.KeptLaws.{above_all, free_name, is_idle, kept_alike, put, put_shown, put_back}
+use Rattle.ncq_book.proofs.KeptLaws.{above_all, free_name, kept_alike, put, put_shown, put_back}
 use Rattle.ncq_book.proofs.book.Book.add.Goals as goal
 
 above_in : (inside now : BookState) (m : Member) → inside ≡ now → AllByRecursion (λ n. n.install < m.install) now.members → AllByRecursion (λ n. n.install < m.install) inside.members
@@ -19,10 +19,6 @@ enroll-requires-clause-above c =
 pub enroll-requires-clause-free : goal.enroll-requires-clause-free
 enroll-requires-clause-free c =
     free_name c.self.inside.members.entries _ c.self.inside.finders c.self.invariant c.args.member.name (free_in _ _ c.args.member c.self.view_is c.requires.free)
-
-pub enroll-requires-clause-idle : goal.enroll-requires-clause-idle
-enroll-requires-clause-idle c =
-    is_idle c.self.inside.members.entries _ c.self.inside.finders c.self.invariant c.args.member.install (above_in _ _ c.args.member c.self.view_is c.requires.above)
 
 pub invariant_of-self : goal.invariant_of-self
 invariant_of-self c =

@@ -1,4 +1,4 @@
-use Rattle.std.proofs.Common.{◌∙◌, ap, refl, sym, subst, map}
+use Rattle.std.proofs.Common.{◌∙◌, ap, sym, subst, map}
 use Rattle.std.specs.Prelude.{Some}
 use Rattle.ncq_book.specs.Books.{BookState, with_note}
 use Rattle.ncq_book.specs.Kept.{members_in, IsKept}
@@ -13,7 +13,7 @@ invariant_of-self c =
       | in-Some w ↦
           let written = record w.in-Some.member.now { noted = Some c.args.number } in
           subst (λ b. IsKept (members_in b.members.entries) b.members.entries b.finders) (sym w.self-inside-is)
-          (noted_kept c.args.install (λ m. record m { noted = Some c.args.number }) (λ m. refl) (λ m. refl) (λ m. refl) (λ m. refl) c.self.inside.members.entries c.self.inside.finders c.self.invariant (c.get_mut.follows.lender written).entries w.in-Some.member.now
+          (noted_kept c.args.install c.args.number c.self.inside.members.entries c.self.inside.finders c.self.invariant (c.get_mut.follows.lender written).entries w.in-Some.member.now
           (sym w.in-Some.ensures.value) (c.get_mut.follows.holds written).0)
       | in_default w ↦
           subst (λ b. IsKept (members_in b.members.entries) b.members.entries b.finders)
@@ -27,11 +27,11 @@ returns c =
       | in-Some w ↦
           let written = record w.in-Some.member.now { noted = Some c.args.number } in
           let is =
-          noted_shown c.args.install (λ m. record m { noted = Some c.args.number }) (λ m. refl) (λ m. refl) (λ m. refl) (λ m. refl) c.self.inside.members.entries c.self.inside.finders c.self.invariant (c.get_mut.follows.lender written).entries w.in-Some.member.now
+          noted_shown c.args.install c.args.number c.self.inside.members.entries c.self.inside.finders c.self.invariant (c.get_mut.follows.lender written).entries w.in-Some.member.now
           (sym w.in-Some.ensures.value) (c.get_mut.follows.holds written).0 in
           ap the_view w.self-inside-is ∙ (λ i. record { members = is i; instant = c.self.inside.finders.calendar.instant }) ∙ turned
       | in_default w ↦
-          let is = noted_nobody c.args.install (λ m. record m { noted = Some c.args.number }) (λ m. refl) (λ m. refl) (λ m. refl) (λ m. refl) c.self.inside.members.entries c.self.inside.finders c.self.invariant (sym w.in_default.ensures.value) in
+          let is = noted_nobody c.args.install c.args.number c.self.inside.members.entries c.self.inside.finders c.self.invariant (sym w.in_default.ensures.value) in
           ap the_view (w.self-inside-is ∙ (λ i. record { members = c.get_mut.follows.holds-at-none i; finders = c.self.inside.finders }))
           ∙ (λ i. record { members = is i; instant = c.self.inside.finders.calendar.instant }) ∙ turned
     ]

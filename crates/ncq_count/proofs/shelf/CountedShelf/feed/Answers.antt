@@ -3,6 +3,9 @@ use Rattle.ncq_count.proofs.CountLaws.{counted_again}
 use Rattle.ncq_count.proofs.SameExprs.{all_fed, nothing_changed, either_way}
 use Rattle.ncq_count.proofs.shelf.CountedShelf.feed.Goals as goal
 
+pub returns-clause-named : goal.returns-clause-named
+returns-clause-named g c = c.feed.ensures.named
+
 pub invariant_of-self : goal.invariant_of-self
 invariant_of-self g c =
     let old = c.self.inside.shelf in

@@ -1,4 +1,4 @@
-use Rattle.std.proofs.Common.{◌≡◌, ◌∙◌, ◌+◌, ap, refl, subst, sym, List, Some, None, false}
+use Rattle.std.proofs.Common.{◌≡◌, ◌∙◌, ◌+◌, ◌++◌, ap, refl, subst, sym, List, Some, None, false}
 use Rattle.std.specs.Prelude.{Result, Ok}
 use Rattle.std.specs.List.{list_any}
 use Rattle.std.specs.Str.{bytes_eq}
@@ -8,10 +8,10 @@ use Rattle.ncq_book.specs.Kept.{install_of}
 use Rattle.ncq_script.specs.declared.command.Command.TheVariants.{Delete}
 use Rattle.ncq_engine.specs.declared.engine.Applied.{Applied}
 use Rattle.ncq_engine.specs.declared.engine.ApplyError.{ApplyError}
-use Rattle.ncq_engine.specs.Applies.{Applies}
+use Rattle.ncq_engine.specs.Applies.{Applies, ok_text}
 use Rattle.ncq_engine.specs.Stands.{EngineState}
 use Rattle.ncq_engine.proofs.CommandLaws.{delete_answers, delete_refused, engine, none_named, told_as}
-use Rattle.ncq_engine.proofs.InvariantLaws.{left_holds}
+use Rattle.ncq_engine.proofs.InvariantLaws.{invariant_counted, left_holds}
 use Rattle.ncq_engine.proofs.engine.Engine.delete.Goals as goal
 
 pub returns-in_default : goal.returns-in_default
@@ -26,19 +26,20 @@ returns-in_default c =
 
 pub invariant_of-self : goal.invariant_of-self
 invariant_of-self c =
-    let i = c.self-2.inside in
-    left_holds (engine i.store i.roll.instant i.count i.creates i.labels.items i.roll.members i.roll.table) c.in-Some.install c.take_all.new.roll c.self-2.invariant c.take_all.ensures c.facts-2.ensures.roll
+    let i = c.self.inside in
+    let was : EngineState = engine i.store i.roll.instant i.count i.creates i.labels.items i.roll.members i.roll.table in
+    left_holds (record was { count = i.count + 1 }) c.in-Some.install c.take_all.new.roll (invariant_counted was c.self.invariant) c.take_all.ensures c.facts-2.ensures.roll
 
 pub returns : goal.returns
 returns c =
     let e = c.args.self.now in
-    let i = c.self-2.inside in
+    let i = c.self.inside in
+    let was : EngineState = engine i.store i.roll.instant i.count i.creates i.labels.items i.roll.members i.roll.table in
     let found : install_of c.args.name.now e.members ≡ Some c.in-Some.install =
     ap (λ (x : EngineState). install_of c.args.name.now x.members) (sym c.self.view_is) ∙ ap (λ (b : BookState). install_of c.args.name.now b.members) (sym c.book.ensures) ∙ sym c.in-Some.ensures in
+    let line_is : c.write_accepted.new.out.items ≡ c.args.out.now.items ++ ok_text (e.count + 1) = c.in_ok-applied.ensures.text ∙ ap (λ (x : EngineState). c.args.out.now.items ++ ok_text (x.count + 1)) c.self.view_is in
     record {
       applies =
-          subst (λ (r : Result Applied ApplyError). Applies e (Delete c.args.name.now) c.args.out.now.items r
-          (engine i.store c.take_all.new.roll.instant i.count i.creates i.labels.items c.take_all.new.roll.members c.take_all.new.roll.table) c.accept.new.out.items) c.in_ok-applied.was
-          (delete_answers e (engine i.store i.roll.instant i.count i.creates i.labels.items i.roll.members i.roll.table) (c.self-2.view_is ∙ c.accept.ensures.counted) c.args.name.now c.in-Some.install found c.facts.ensures.rise c.facts.ensures.names
-          c.take_all.new.roll c.take_all.ensures c.args.out.now.items c.accept.result c.accept.new.out.items c.accept.ensures.text c.accept.ensures.places c.accept.ensures.only);
+          delete_answers e (record was { count = i.count + 1 }) (ap (λ (x : EngineState). record x { count = x.count + 1 }) c.self.view_is) c.args.name.now c.in-Some.install found c.facts.ensures.rise c.facts.ensures.names
+          c.take_all.new.roll c.take_all.ensures c.args.out.now.items (Ok c.in_ok-applied.applied) c.write_accepted.new.out.items line_is c.in_ok-applied.ensures.places tt;
     }

@@ -17,15 +17,20 @@ use Rattle.ncq_roll.specs.Rolls.{RollState}
 use Rattle.ncq_source.specs.StoreStates.{StoreState}
 use Rattle.ncq_engine.specs.declared.engine.Applied.{Applied}
 use Rattle.ncq_script.specs.declared.command.Command.TheVariants.{Create}
-use Rattle.ncq_engine.specs.Applies.{Applies, kind_at}
-use Rattle.ncq_engine.specs.Engines.{HasTopics, new_member}
+use Rattle.ncq_engine.specs.Applies.{Applies, kind_at, ok_text}
+use Rattle.ncq_engine.specs.Engines.{IsEngine, new_member}
+use Rattle.ncq_engine.specs.Joins.{IsMemberOf}
+use Rattle.ncq_engine.specs.Works.{IsWithinWork}
+use Rattle.ncq_engine.proofs.UndoLaws.{at_mark_again, members_back, table_again}
+use Rattle.ncq_engine.proofs.WorkLaws.{create_steps}
+use Rattle.ncq_group.specs.Tables.{TableState}
 use Rattle.ncq_engine.specs.Notices.{kind_in}
 use Rattle.ncq_engine.specs.Output.{is_at_odds}
 use Rattle.ncq_engine.specs.Stands.{EngineState}
 use Rattle.ncq_engine.specs.Tellings.{firing_text, noted_by, started_at}
 use Rattle.ncq_engine.proofs.ClockAnswers.{counted_engine}
 use Rattle.ncq_engine.proofs.CommandLaws.{engine}
-use Rattle.ncq_engine.proofs.CreateAnswers.{IsIn, IsStarting, IsToldFirst, above_is, added_holds, create_answers, create_can, free_is, joined_in, made, members_few, read_in, refused_in, room_left, there_first, told_holds}
+use Rattle.ncq_engine.proofs.CreateAnswers.{IsIn, IsStarting, IsToldFirst, above_is, create_answers, create_can, free_is, joined_in, made, members_few, read_in, room_left, there_first, told_holds}
 use Rattle.ncq_engine.proofs.InvariantLaws.{Invariant}
 use Rattle.ncq_engine.proofs.engine.Engine.join.Goals as goal
 
@@ -49,9 +54,10 @@ pub add-requires-clause-above : goal.add-requires-clause-above
 add-requires-clause-above g c =
     let e = c.args.self.now in
     let m = c.args.member in
-    let i = c.self-2.inside in
-    let two = c.self-2.view_is ∙ c.accept.ensures.counted in
-    let inside : EngineState = engine i.store i.roll.instant i.count i.creates i.labels.items i.roll.members i.roll.table in
+    let i = c.self.inside in
+    let was : EngineState = engine i.store i.roll.instant i.count i.creates i.labels.items i.roll.members i.roll.table in
+    let inside : EngineState = counted_engine was in
+    let two : inside ≡ counted_engine e = ap counted_engine c.self.view_is in
     let known : List Label = labels c.args.handlers.now.items.items (λ h. h.name) (λ h. h.kind) in
     let holds : Invariant e = subst (λ (x : EngineState). Invariant x) c.self.view_is c.self.invariant in
     let statement = c.requires.some.0 in
@@ -62,9 +68,10 @@ pub add-requires-clause-free : goal.add-requires-clause-free
 add-requires-clause-free g c =
     let e = c.args.self.now in
     let m = c.args.member in
-    let i = c.self-2.inside in
-    let two = c.self-2.view_is ∙ c.accept.ensures.counted in
-    let inside : EngineState = engine i.store i.roll.instant i.count i.creates i.labels.items i.roll.members i.roll.table in
+    let i = c.self.inside in
+    let was : EngineState = engine i.store i.roll.instant i.count i.creates i.labels.items i.roll.members i.roll.table in
+    let inside : EngineState = counted_engine was in
+    let two : inside ≡ counted_engine e = ap counted_engine c.self.view_is in
     let known : List Label = labels c.args.handlers.now.items.items (λ h. h.name) (λ h. h.kind) in
     let holds : Invariant e = subst (λ (x : EngineState). Invariant x) c.self.view_is c.self.invariant in
     let statement = c.requires.some.0 in
@@ -75,169 +82,202 @@ pub add-requires-clause-few : goal.add-requires-clause-few
 add-requires-clause-few g c =
     let e = c.args.self.now in
     let m = c.args.member in
-    let i = c.self-2.inside in
-    let two = c.self-2.view_is ∙ c.accept.ensures.counted in
-    let inside : EngineState = engine i.store i.roll.instant i.count i.creates i.labels.items i.roll.members i.roll.table in
+    let i = c.self.inside in
+    let was : EngineState = engine i.store i.roll.instant i.count i.creates i.labels.items i.roll.members i.roll.table in
+    let inside : EngineState = counted_engine was in
+    let two : inside ≡ counted_engine e = ap counted_engine c.self.view_is in
     let known : List Label = labels c.args.handlers.now.items.items (λ h. h.name) (λ h. h.kind) in
     let holds : Invariant e = subst (λ (x : EngineState). Invariant x) c.self.view_is c.self.invariant in
-    members_few inside c.self-2.invariant (let n = ap (λ (x : EngineState). x.count) two in let few = c.requires.few in omega (arith, n, few))
+    members_few was c.self.invariant (let n = ap (λ (x : EngineState). x.count) c.self.view_is in let few = c.requires.few in omega (arith, n, few))
 
 pub add-requires-clause-number : goal.add-requires-clause-number
 add-requires-clause-number g c =
-    sym c.self-2.invariant.number
+    sym c.self.invariant.number
 
 pub add-requires-clause-fits : goal.add-requires-clause-fits
 add-requires-clause-fits g c =
-    c.self-2.invariant.fits
+    c.self.invariant.fits
 
 pub add-requires-clause-room : goal.add-requires-clause-room
 add-requires-clause-room g c =
     let e = c.args.self.now in
     let m = c.args.member in
-    let i = c.self-2.inside in
-    let two = c.self-2.view_is ∙ c.accept.ensures.counted in
-    let inside : EngineState = engine i.store i.roll.instant i.count i.creates i.labels.items i.roll.members i.roll.table in
+    let i = c.self.inside in
+    let was : EngineState = engine i.store i.roll.instant i.count i.creates i.labels.items i.roll.members i.roll.table in
+    let inside : EngineState = counted_engine was in
+    let two : inside ≡ counted_engine e = ap counted_engine c.self.view_is in
     let known : List Label = labels c.args.handlers.now.items.items (λ h. h.name) (λ h. h.kind) in
     let holds : Invariant e = subst (λ (x : EngineState). Invariant x) c.self.view_is c.self.invariant in
-    room_left inside c.self-2.invariant (let n = ap (λ (x : EngineState). x.count) two in let few = c.requires.few in omega (arith, n, few))
+    room_left was c.self.invariant (let n = ap (λ (x : EngineState). x.count) c.self.view_is in let few = c.requires.few in omega (arith, n, few))
 
-pub tell-requires-clause-can : goal.tell-requires-clause-can
-tell-requires-clause-can g c =
+pub answer_create-requires : goal.answer_create-requires
+answer_create-requires g c =
     let e = c.args.self.now in
     let m = c.args.member in
-    let i = c.self-2.inside in
-    let two = c.self-2.view_is ∙ c.accept.ensures.counted in
-    let inside : EngineState = engine i.store i.roll.instant i.count i.creates i.labels.items i.roll.members i.roll.table in
+    let i = c.self.inside in
+    let was : EngineState = engine i.store i.roll.instant i.count i.creates i.labels.items i.roll.members i.roll.table in
+    let inside : EngineState = counted_engine was in
+    let two : inside ≡ counted_engine e = ap counted_engine c.self.view_is in
     let known : List Label = labels c.args.handlers.now.items.items (λ h. h.name) (λ h. h.kind) in
     let holds : Invariant e = subst (λ (x : EngineState). Invariant x) c.self.view_is c.self.invariant in
     let statement = c.requires.some.0 in
     let its = c.requires.some.1 in
-    let inn : IsIn inside m.query (made e statement m.query m.action m.topics) c.add.new.self =
-    joined_in i.store i.count i.creates i.labels.items (record { table = i.roll.table; members = i.roll.members; instant = i.roll.instant }) c.add.new.self e statement m.query m.action m.topics c.in_ok-plan.plan m
+    let inn : IsIn inside m.query (made e statement m.query m.action) c.add.new.self =
+    joined_in i.store (i.count + 1) i.creates i.labels.items (record { table = i.roll.table; members = i.roll.members; instant = i.roll.instant }) c.add.new.self e statement m.query m.action c.in_ok-plan.plan m
     c.in_ok-plan.ensures its.made c.in_ok-add.ensures.ok c.in_ok-add.ensures.fits c.in_ok-add.ensures.instant c.facts-2.ensures.facts in
-    create_can e inside two known c.requires.handlers statement m.query m.action m.topics holds (read_in e statement m its) c.add.new.self inn
-
-pub tell-requires-clause-there : goal.tell-requires-clause-there
-tell-requires-clause-there g c =
-    let e = c.args.self.now in
-    let m = c.args.member in
-    let i = c.self-2.inside in
-    let two = c.self-2.view_is ∙ c.accept.ensures.counted in
-    let inside : EngineState = engine i.store i.roll.instant i.count i.creates i.labels.items i.roll.members i.roll.table in
-    let known : List Label = labels c.args.handlers.now.items.items (λ h. h.name) (λ h. h.kind) in
-    let holds : Invariant e = subst (λ (x : EngineState). Invariant x) c.self.view_is c.self.invariant in
-    let statement = c.requires.some.0 in
-    let its = c.requires.some.1 in
-    let inn : IsIn inside m.query (made e statement m.query m.action m.topics) c.add.new.self =
-    joined_in i.store i.count i.creates i.labels.items (record { table = i.roll.table; members = i.roll.members; instant = i.roll.instant }) c.add.new.self e statement m.query m.action m.topics c.in_ok-plan.plan m
-    c.in_ok-plan.ensures its.made c.in_ok-add.ensures.ok c.in_ok-add.ensures.fits c.in_ok-add.ensures.instant c.facts-2.ensures.facts in
-    let starting : IsStarting c.add.new.self (i.creates + 1) c.in_ok-firings.firings = record {
-      installs = (i.creates + 1) ∷ [];
-      installs_is = refl;
-      kept = c.in_ok-firings.firings;
-      kept_is = c.in_ok-firings.ensures ∙ (λ j. flat_map (started_at (c.book.ensures j).instant (c.book.ensures j).members) ((i.creates + 1) ∷ []));
-      slice_is = refl;
-    } in
-    subst (λ (fs : List Firing). AllByRecursion (λ f. IsSome (member_of f.install c.add.new.self.members)) fs) (sym c.as_slice.ensures) (there_first e inside two known c.requires.handlers statement m.query m.action m.topics holds (read_in e statement m its) c.add.new.self inn c.in_ok-firings.firings starting)
+    record { can = create_can e inside two known c.requires.handlers statement m.query m.action holds (read_in e statement m its) c.add.new.self inn }
 
 pub invariant_of-self : goal.invariant_of-self
 invariant_of-self g c =
-    let e = c.args.self.now in
-    let m = c.args.member in
-    let i = c.self-2.inside in
-    let two = c.self-2.view_is ∙ c.accept.ensures.counted in
-    let inside : EngineState = engine i.store i.roll.instant i.count i.creates i.labels.items i.roll.members i.roll.table in
-    let known : List Label = labels c.args.handlers.now.items.items (λ h. h.name) (λ h. h.kind) in
-    let holds : Invariant e = subst (λ (x : EngineState). Invariant x) c.self.view_is c.self.invariant in
-    refused_in e inside two holds c.add.new.self c.in_err-add.ensures.err
+    let i = c.self.inside in
+    subst (λ (r : RollState). IsEngine i.store i.count i.creates i.labels.items r.members r.table) (sym c.in_err-add.ensures.err) c.self.invariant
 
-pub invariant_of-self-in_err-firings : goal.invariant_of-self-in_err-firings
-invariant_of-self-in_err-firings g c =
+pub invariant_of-self-in-Ok : goal.invariant_of-self-in-Ok
+invariant_of-self-in-Ok g c =
     let e = c.args.self.now in
     let m = c.args.member in
-    let i = c.self-2.inside in
-    let two = c.self-2.view_is ∙ c.accept.ensures.counted in
-    let inside : EngineState = engine i.store i.roll.instant i.count i.creates i.labels.items i.roll.members i.roll.table in
+    let i = c.self.inside in
+    let was : EngineState = engine i.store i.roll.instant i.count i.creates i.labels.items i.roll.members i.roll.table in
+    let inside : EngineState = counted_engine was in
+    let two : inside ≡ counted_engine e = ap counted_engine c.self.view_is in
     let known : List Label = labels c.args.handlers.now.items.items (λ h. h.name) (λ h. h.kind) in
     let holds : Invariant e = subst (λ (x : EngineState). Invariant x) c.self.view_is c.self.invariant in
     let statement = c.requires.some.0 in
     let its = c.requires.some.1 in
-    let inn : IsIn inside m.query (made e statement m.query m.action m.topics) c.add.new.self =
-    joined_in i.store i.count i.creates i.labels.items (record { table = i.roll.table; members = i.roll.members; instant = i.roll.instant }) c.add.new.self e statement m.query m.action m.topics c.in_ok-plan.plan m
+    let inn : IsIn inside m.query (made e statement m.query m.action) c.add.new.self =
+    joined_in i.store (i.count + 1) i.creates i.labels.items (record { table = i.roll.table; members = i.roll.members; instant = i.roll.instant }) c.add.new.self e statement m.query m.action c.in_ok-plan.plan m
     c.in_ok-plan.ensures its.made c.in_ok-add.ensures.ok c.in_ok-add.ensures.fits c.in_ok-add.ensures.instant c.facts-2.ensures.facts in
-    added_holds e inside two known c.requires.handlers statement m.query m.action m.topics holds (read_in e statement m its) c.add.new.self inn
-
-pub invariant_of-self-in_err-notices : goal.invariant_of-self-in_err-notices
-invariant_of-self-in_err-notices g c =
-    let e = c.args.self.now in
-    let m = c.args.member in
-    let i = c.self-2.inside in
-    let two = c.self-2.view_is ∙ c.accept.ensures.counted in
-    let inside : EngineState = engine i.store i.roll.instant i.count i.creates i.labels.items i.roll.members i.roll.table in
-    let known : List Label = labels c.args.handlers.now.items.items (λ h. h.name) (λ h. h.kind) in
-    let holds : Invariant e = subst (λ (x : EngineState). Invariant x) c.self.view_is c.self.invariant in
-    let statement = c.requires.some.0 in
-    let its = c.requires.some.1 in
-    let inn : IsIn inside m.query (made e statement m.query m.action m.topics) c.add.new.self =
-    joined_in i.store i.count i.creates i.labels.items (record { table = i.roll.table; members = i.roll.members; instant = i.roll.instant }) c.add.new.self e statement m.query m.action m.topics c.in_ok-plan.plan m
-    c.in_ok-plan.ensures its.made c.in_ok-add.ensures.ok c.in_ok-add.ensures.fits c.in_ok-add.ensures.instant c.facts-2.ensures.facts in
-    added_holds e inside two known c.requires.handlers statement m.query m.action m.topics holds (read_in e statement m its) c.add.new.self inn
-
-pub invariant_of-self-2 : goal.invariant_of-self-2
-invariant_of-self-2 g c =
-    let e = c.args.self.now in
-    let m = c.args.member in
-    let i = c.self-2.inside in
-    let two = c.self-2.view_is ∙ c.accept.ensures.counted in
-    let inside : EngineState = engine i.store i.roll.instant i.count i.creates i.labels.items i.roll.members i.roll.table in
-    let known : List Label = labels c.args.handlers.now.items.items (λ h. h.name) (λ h. h.kind) in
-    let holds : Invariant e = subst (λ (x : EngineState). Invariant x) c.self.view_is c.self.invariant in
-    let statement = c.requires.some.0 in
-    let its = c.requires.some.1 in
-    let inn : IsIn inside m.query (made e statement m.query m.action m.topics) c.add.new.self =
-    joined_in i.store i.count i.creates i.labels.items (record { table = i.roll.table; members = i.roll.members; instant = i.roll.instant }) c.add.new.self e statement m.query m.action m.topics c.in_ok-plan.plan m
-    c.in_ok-plan.ensures its.made c.in_ok-add.ensures.ok c.in_ok-add.ensures.fits c.in_ok-add.ensures.instant c.facts-2.ensures.facts in
-    let starting : IsStarting c.add.new.self (i.creates + 1) c.in_ok-firings.firings = record {
+    let firings : List Firing = c.in-Ok.firings in
+    let starting : IsStarting c.add.new.self (i.creates + 1) firings = record {
       installs = (i.creates + 1) ∷ [];
       installs_is = refl;
-      kept = c.in_ok-firings.firings;
-      kept_is = c.in_ok-firings.ensures ∙ (λ j. flat_map (started_at (c.book.ensures j).instant (c.book.ensures j).members) ((i.creates + 1) ∷ []));
+      kept = firings;
+      kept_is = c.in-Ok.ensures.firings;
       slice_is = refl;
     } in
-    let roll : c.note_all.new.roll ≡ record { table = c.add.new.self.table; members = noted_by i.store.changes c.in_ok-firings.firings c.add.new.self.members; instant = c.add.new.self.instant } =
-    c.note_all.ensures ∙ (λ j. record { table = c.add.new.self.table; members = noted_by (c.changes.ensures j) (c.as_slice-2.ensures j) c.add.new.self.members; instant = c.add.new.self.instant }) in
-    subst (λ (r : RollState). Invariant (engine i.store r.instant i.count (i.creates + 1) i.labels.items r.members r.table)) (sym roll)
-    (told_holds e inside two known c.requires.handlers statement m.query m.action m.topics holds (read_in e statement m its) c.add.new.self inn c.in_ok-firings.firings starting)
+    let roll : c.note_all.new.roll ≡ record { table = c.add.new.self.table; members = noted_by i.store.changes firings c.add.new.self.members; instant = c.add.new.self.instant } =
+    c.note_all.ensures ∙ (λ j. record { table = c.add.new.self.table; members = noted_by (c.changes.ensures j) (c.as_slice.ensures j) c.add.new.self.members; instant = c.add.new.self.instant }) in
+    subst (λ (r : RollState). Invariant (engine i.store r.instant (i.count + 1) (i.creates + 1) i.labels.items r.members r.table)) (sym roll)
+    (told_holds e inside two known c.requires.handlers statement m.query m.action holds (read_in e statement m its) c.add.new.self inn firings starting)
 
-pub returns : goal.returns
-returns g c =
+pub roll_back-requires-clause-base : goal.roll_back-requires-clause-base
+roll_back-requires-clause-base g c =
     let e = c.args.self.now in
     let m = c.args.member in
-    let i = c.self-2.inside in
-    let two = c.self-2.view_is ∙ c.accept.ensures.counted in
-    let inside : EngineState = engine i.store i.roll.instant i.count i.creates i.labels.items i.roll.members i.roll.table in
+    let i = c.self.inside in
+    let holds : Invariant e = subst (λ (x : EngineState). Invariant x) c.self.view_is c.self.invariant in
+    let statement = c.requires.some.0 in
+    let its = c.requires.some.1 in
+    let was : RollState = record { table = i.roll.table; members = i.roll.members; instant = i.roll.instant } in
+    let below = subst (λ (x : EngineState). AllByRecursion (λ n. n.install < m.install) x.members) (sym c.self.view_is) (above_is e statement m its holds) in
+    let own : m.install ≡ i.creates + 1 = ap (λ (k : Member). k.install) its.made ∙ ap (λ (x : EngineState). x.creates + 1) (sym c.self.view_is) in
+    let low = subst (λ n. AllByRecursion (λ n'. n'.install < n) i.roll.members) own below in
+    λ number file at. (at_mark_again c.in_ok-plan.plan m was c.add.new.self c.remove.new.self c.in_ok-add.ensures.ok c.facts.ensures.facts c.facts-2.ensures.facts (i.creates + 1) low own c.remove.ensures.members c.remove.ensures.files c.mark-mark.result c.mark-mark.ensures number file at).0
+
+pub roll_back-requires-clause-below : goal.roll_back-requires-clause-below
+roll_back-requires-clause-below g c =
+    let e = c.args.self.now in
+    let m = c.args.member in
+    let i = c.self.inside in
+    let holds : Invariant e = subst (λ (x : EngineState). Invariant x) c.self.view_is c.self.invariant in
+    let statement = c.requires.some.0 in
+    let its = c.requires.some.1 in
+    let was : RollState = record { table = i.roll.table; members = i.roll.members; instant = i.roll.instant } in
+    let below = subst (λ (x : EngineState). AllByRecursion (λ n. n.install < m.install) x.members) (sym c.self.view_is) (above_is e statement m its holds) in
+    let own : m.install ≡ i.creates + 1 = ap (λ (k : Member). k.install) its.made ∙ ap (λ (x : EngineState). x.creates + 1) (sym c.self.view_is) in
+    let low = subst (λ n. AllByRecursion (λ n'. n'.install < n) i.roll.members) own below in
+    λ number file at. (at_mark_again c.in_ok-plan.plan m was c.add.new.self c.remove.new.self c.in_ok-add.ensures.ok c.facts.ensures.facts c.facts-2.ensures.facts (i.creates + 1) low own c.remove.ensures.members c.remove.ensures.files c.mark-mark.result c.mark-mark.ensures number file at).1
+
+pub invariant_of-self-in-Err : goal.invariant_of-self-in-Err
+invariant_of-self-in-Err g c =
+    let e = c.args.self.now in
+    let m = c.args.member in
+    let i = c.self.inside in
+    let holds : Invariant e = subst (λ (x : EngineState). Invariant x) c.self.view_is c.self.invariant in
+    let statement = c.requires.some.0 in
+    let its = c.requires.some.1 in
+    let was : RollState = record { table = i.roll.table; members = i.roll.members; instant = i.roll.instant } in
+    let below = subst (λ (x : EngineState). AllByRecursion (λ n. n.install < m.install) x.members) (sym c.self.view_is) (above_is e statement m its holds) in
+    let own : m.install ≡ i.creates + 1 = ap (λ (k : Member). k.install) its.made ∙ ap (λ (x : EngineState). x.creates + 1) (sym c.self.view_is) in
+    let low = subst (λ n. AllByRecursion (λ n'. n'.install < n) i.roll.members) own below in
+    let members : c.roll_back.new.self.members ≡ i.roll.members = c.roll_back.ensures.members ∙ members_back c.in_ok-plan.plan m was c.add.new.self c.remove.new.self c.in_ok-add.ensures.ok c.facts.ensures.facts c.facts-2.ensures.facts (i.creates + 1) low own c.remove.ensures.members c.remove.ensures.files in
+    let table : c.roll_back.new.self.table ≡ i.roll.table = table_again c.in_ok-plan.plan m was c.add.new.self c.remove.new.self c.in_ok-add.ensures.ok c.facts.ensures.facts c.facts-2.ensures.facts (i.creates + 1) low own c.remove.ensures.members c.remove.ensures.files c.mark-mark.result c.roll_back.new.self.table c.mark-mark.ensures c.roll_back.ensures.number c.roll_back.ensures.next_file c.roll_back.ensures.files in
+    subst (λ (ms : List Member). IsEngine i.store i.count i.creates i.labels.items ms c.roll_back.new.self.table) (sym members)
+    (subst (λ (t : TableState). IsEngine i.store i.count i.creates i.labels.items i.roll.members t) (sym table) c.self.invariant)
+
+pub returns-in-Ok-clause-applies : goal.returns-in-Ok-clause-applies
+returns-in-Ok-clause-applies g c =
+    let e = c.args.self.now in
+    let m = c.args.member in
+    let i = c.self.inside in
+    let was : EngineState = engine i.store i.roll.instant i.count i.creates i.labels.items i.roll.members i.roll.table in
+    let inside : EngineState = counted_engine was in
+    let two : inside ≡ counted_engine e = ap counted_engine c.self.view_is in
     let known : List Label = labels c.args.handlers.now.items.items (λ h. h.name) (λ h. h.kind) in
     let holds : Invariant e = subst (λ (x : EngineState). Invariant x) c.self.view_is c.self.invariant in
-    let starting : IsStarting c.add.new.self (i.creates + 1) c.in_ok-firings.firings = record {
+    let firings : List Firing = c.in-Ok.firings in
+    let starting : IsStarting c.add.new.self (i.creates + 1) firings = record {
       installs = (i.creates + 1) ∷ [];
       installs_is = refl;
-      kept = c.in_ok-firings.firings;
-      kept_is = c.in_ok-firings.ensures ∙ (λ j. flat_map (started_at (c.book.ensures j).instant (c.book.ensures j).members) ((i.creates + 1) ∷ []));
+      kept = firings;
+      kept_is = c.in-Ok.ensures.firings;
       slice_is = refl;
     } in
-    let told : IsToldFirst inside known c.add.new.self c.in_ok-firings.firings c.accept.new.out.items c.tell.new.out.items c.in_ok-notices.notices =
-    subst (λ (fs : List Firing). IsToldFirst inside known c.add.new.self fs c.accept.new.out.items c.tell.new.out.items c.in_ok-notices.notices) c.as_slice.ensures
-    (record { text = c.in_ok-notices.ensures.text; times_are = c.in_ok-notices.ensures.notices }) in
-    let roll : c.note_all.new.roll ≡ record { table = c.add.new.self.table; members = noted_by i.store.changes c.in_ok-firings.firings c.add.new.self.members; instant = c.add.new.self.instant } =
-    c.note_all.ensures ∙ (λ j. record { table = c.add.new.self.table; members = noted_by (c.changes.ensures j) (c.as_slice-2.ensures j) c.add.new.self.members; instant = c.add.new.self.instant }) in
-    record {
-      applies = λ statement its.
-          let inn : IsIn inside m.query (made e statement m.query m.action m.topics) c.add.new.self =
-          joined_in i.store i.count i.creates i.labels.items (record { table = i.roll.table; members = i.roll.members; instant = i.roll.instant }) c.add.new.self e statement m.query m.action m.topics c.in_ok-plan.plan m
-          c.in_ok-plan.ensures its.made c.in_ok-add.ensures.ok c.in_ok-add.ensures.fits c.in_ok-add.ensures.instant c.facts-2.ensures.facts in
-          subst (λ (r : RollState). Applies e (Create statement) c.args.out.now.items (Ok c.with.result) (engine i.store r.instant i.count (i.creates + 1) i.labels.items r.members r.table) c.tell.new.out.items) (sym roll)
-          (create_answers e inside two known c.requires.handlers statement m.query m.action m.topics holds (read_in e statement m its) c.add.new.self inn c.in_ok-firings.firings starting c.args.out.now.items c.accept.new.out.items c.tell.new.out.items c.in_ok-notices.notices c.with.result c.in_ok-applied.ensures.text told
-          (ap (λ (a : Applied). a.from) c.with.ensures ∙ ap (λ (a : Applied). a.from) c.in_ok-applied.ensures.places)
-          (ap (λ (a : Applied). a.to) c.with.ensures)
-          (ap (λ (a : Applied). a.notices) c.with.ensures));
-    }
+    let roll : c.note_all.new.roll ≡ record { table = c.add.new.self.table; members = noted_by i.store.changes firings c.add.new.self.members; instant = c.add.new.self.instant } =
+    c.note_all.ensures ∙ (λ j. record { table = c.add.new.self.table; members = noted_by (c.changes.ensures j) (c.as_slice.ensures j) c.add.new.self.members; instant = c.add.new.self.instant }) in
+    let a : Applied = c.in-Ok.applied in
+    let line : List ℕ = c.args.out.now.items ++ ok_text (i.count + 1) in
+    let told : IsToldFirst inside known c.add.new.self firings line c.answer_create.new.out.items a.notices = record { text = c.in-Ok.ensures.told.written; times_are = c.in-Ok.ensures.told.notices } in
+    let line_is : line ≡ c.args.out.now.items ++ ok_text (e.count + 1) = ap (λ (x : EngineState). c.args.out.now.items ++ ok_text (x.count + 1)) c.self.view_is in
+    λ statement its.
+    let inn : IsIn inside m.query (made e statement m.query m.action) c.add.new.self =
+    joined_in i.store (i.count + 1) i.creates i.labels.items (record { table = i.roll.table; members = i.roll.members; instant = i.roll.instant }) c.add.new.self e statement m.query m.action c.in_ok-plan.plan m
+    c.in_ok-plan.ensures its.made c.in_ok-add.ensures.ok c.in_ok-add.ensures.fits c.in_ok-add.ensures.instant c.facts-2.ensures.facts in
+    subst (λ (r : RollState). Applies e (Create statement) c.args.out.now.items (Ok a) (engine i.store r.instant (i.count + 1) (i.creates + 1) i.labels.items r.members r.table) c.answer_create.new.out.items) (sym roll)
+    (create_answers e inside two known c.requires.handlers statement m.query m.action holds (read_in e statement m its) c.add.new.self inn firings starting c.args.out.now.items line c.answer_create.new.out.items a.notices a line_is told
+    c.in-Ok.ensures.told.from c.in-Ok.ensures.told.to refl)
+
+pub returns-in-Ok-clause-work : goal.returns-in-Ok-clause-work
+returns-in-Ok-clause-work g c =
+    let e = c.args.self.now in
+    let m = c.args.member in
+    let i = c.self.inside in
+    let was : EngineState = engine i.store i.roll.instant i.count i.creates i.labels.items i.roll.members i.roll.table in
+    let inside : EngineState = counted_engine was in
+    let two : inside ≡ counted_engine e = ap counted_engine c.self.view_is in
+    let known : List Label = labels c.args.handlers.now.items.items (λ h. h.name) (λ h. h.kind) in
+    let holds : Invariant e = subst (λ (x : EngineState). Invariant x) c.self.view_is c.self.invariant in
+    λ statement its. subst (λ (x : EngineState). IsWithinWork x (Create statement) c.args.steps.now c.add.new.steps) c.self.view_is (λ h stands bound work.
+    create_steps was inside refl h stands.follows stands.shares statement m.query m.action (read_in was statement m (subst (λ (x : EngineState). IsMemberOf x statement m) (sym c.self.view_is) its))
+    c.in_ok-plan.plan c.in_ok-plan.ensures bound work c.args.steps.now c.add.new.steps c.add.ensures.cost)
+
+pub returns-clause-work : goal.returns-clause-work
+returns-clause-work g c =
+    let e = c.args.self.now in
+    let m = c.args.member in
+    let i = c.self.inside in
+    let was : EngineState = engine i.store i.roll.instant i.count i.creates i.labels.items i.roll.members i.roll.table in
+    let inside : EngineState = counted_engine was in
+    let two : inside ≡ counted_engine e = ap counted_engine c.self.view_is in
+    let known : List Label = labels c.args.handlers.now.items.items (λ h. h.name) (λ h. h.kind) in
+    let holds : Invariant e = subst (λ (x : EngineState). Invariant x) c.self.view_is c.self.invariant in
+    λ statement its. subst (λ (x : EngineState). IsWithinWork x (Create statement) c.args.steps.now c.add.new.steps) c.self.view_is (λ h stands bound work.
+    create_steps was inside refl h stands.follows stands.shares statement m.query m.action (read_in was statement m (subst (λ (x : EngineState). IsMemberOf x statement m) (sym c.self.view_is) its))
+    c.in_ok-plan.plan c.in_ok-plan.ensures bound work c.args.steps.now c.add.new.steps c.add.ensures.cost)
+
+pub returns-in_err-add-clause-work : goal.returns-in_err-add-clause-work
+returns-in_err-add-clause-work g c =
+    let e = c.args.self.now in
+    let m = c.args.member in
+    let i = c.self.inside in
+    let was : EngineState = engine i.store i.roll.instant i.count i.creates i.labels.items i.roll.members i.roll.table in
+    let inside : EngineState = counted_engine was in
+    let two : inside ≡ counted_engine e = ap counted_engine c.self.view_is in
+    let known : List Label = labels c.args.handlers.now.items.items (λ h. h.name) (λ h. h.kind) in
+    let holds : Invariant e = subst (λ (x : EngineState). Invariant x) c.self.view_is c.self.invariant in
+    λ statement its. subst (λ (x : EngineState). IsWithinWork x (Create statement) c.args.steps.now c.add.new.steps) c.self.view_is (λ h stands bound work.
+    create_steps was inside refl h stands.follows stands.shares statement m.query m.action (read_in was statement m (subst (λ (x : EngineState). IsMemberOf x statement m) (sym c.self.view_is) its))
+    c.in_ok-plan.plan c.in_ok-plan.ensures bound work c.args.steps.now c.add.new.steps c.add.ensures.cost)
+
+pub returns-in_err-plan-clause-work : goal.returns-in_err-plan-clause-work
+returns-in_err-plan-clause-work g c = λ statement its h stands bound work. omega arith

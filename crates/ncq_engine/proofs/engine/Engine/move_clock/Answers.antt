@@ -12,7 +12,7 @@ use Rattle.ncq_group.specs.Tables.{TableState}
 use Rattle.ncq_roll.specs.Rolls.{RollState}
 use Rattle.ncq_script.specs.declared.command.Command.TheVariants.{Clock}
 use Rattle.ncq_engine.specs.declared.engine.Applied.{Applied}
-use Rattle.ncq_engine.specs.Applies.{Applies}
+use Rattle.ncq_engine.specs.Applies.{Applies, ok_text}
 use Rattle.ncq_engine.specs.Engines.{IsEngine}
 use Rattle.ncq_engine.specs.Stands.{EngineState}
 use Rattle.ncq_engine.specs.Tellings.{IsLeftBy, expired_of, firing_text, is_news_at, noted_by}
@@ -24,10 +24,10 @@ use Rattle.ncq_engine.proofs.engine.Engine.move_clock.Goals as goal
 pub tell-requires-clause-can : goal.tell-requires-clause-can
 tell-requires-clause-can g c =
     let e = c.args.self.now in
-    let i = c.self-2.inside in
-    let inside : EngineState = engine i.store i.roll.instant i.count i.creates i.labels.items i.roll.members i.roll.table in
+    let i = c.self.inside in
+    let inside : EngineState = counted_engine (engine i.store i.roll.instant i.count i.creates i.labels.items i.roll.members i.roll.table) in
     let holds : Invariant e = subst (λ (x : EngineState). Invariant x) c.self.view_is c.self.invariant in
-    let two : inside ≡ counted_engine e = c.self-2.view_is ∙ c.accept.ensures.counted in
+    let two : inside ≡ counted_engine e = ap counted_engine c.self.view_is in
     let known : List Label = labels c.args.handlers.now.items.items (λ h. h.name) (λ h. h.kind) in
     let to = c.args.instant in
     let firings : List Firing = c.in_ok-firings.firings in
@@ -44,10 +44,10 @@ tell-requires-clause-can g c =
 pub tell-requires-clause-there : goal.tell-requires-clause-there
 tell-requires-clause-there g c =
     let e = c.args.self.now in
-    let i = c.self-2.inside in
-    let inside : EngineState = engine i.store i.roll.instant i.count i.creates i.labels.items i.roll.members i.roll.table in
+    let i = c.self.inside in
+    let inside : EngineState = counted_engine (engine i.store i.roll.instant i.count i.creates i.labels.items i.roll.members i.roll.table) in
     let holds : Invariant e = subst (λ (x : EngineState). Invariant x) c.self.view_is c.self.invariant in
-    let two : inside ≡ counted_engine e = c.self-2.view_is ∙ c.accept.ensures.counted in
+    let two : inside ≡ counted_engine e = ap counted_engine c.self.view_is in
     let known : List Label = labels c.args.handlers.now.items.items (λ h. h.name) (λ h. h.kind) in
     let to = c.args.instant in
     let firings : List Firing = c.in_ok-firings.firings in
@@ -64,22 +64,22 @@ tell-requires-clause-there g c =
 pub invariant_of-self : goal.invariant_of-self
 invariant_of-self g c =
     let e = c.args.self.now in
-    let i = c.self-2.inside in
-    let inside : EngineState = engine i.store i.roll.instant i.count i.creates i.labels.items i.roll.members i.roll.table in
+    let i = c.self.inside in
+    let inside : EngineState = counted_engine (engine i.store i.roll.instant i.count i.creates i.labels.items i.roll.members i.roll.table) in
     let holds : Invariant e = subst (λ (x : EngineState). Invariant x) c.self.view_is c.self.invariant in
-    let two : inside ≡ counted_engine e = c.self-2.view_is ∙ c.accept.ensures.counted in
+    let two : inside ≡ counted_engine e = ap counted_engine c.self.view_is in
     let known : List Label = labels c.args.handlers.now.items.items (λ h. h.name) (λ h. h.kind) in
     let to = c.args.instant in
     subst (λ (ms : List Member). IsEngine i.store i.count i.creates i.labels.items ms c.move_to.new.self.table) (sym c.move_to.ensures.members)
-    (subst (λ (t : TableState). IsEngine i.store i.count i.creates i.labels.items i.roll.members t) (sym c.move_to.ensures.table) c.self-2.invariant)
+    (subst (λ (t : TableState). IsEngine i.store i.count i.creates i.labels.items i.roll.members t) (sym c.move_to.ensures.table) c.self.invariant)
 
 pub invariant_of-self-2 : goal.invariant_of-self-2
 invariant_of-self-2 g c =
     let e = c.args.self.now in
-    let i = c.self-2.inside in
-    let inside : EngineState = engine i.store i.roll.instant i.count i.creates i.labels.items i.roll.members i.roll.table in
+    let i = c.self.inside in
+    let inside : EngineState = counted_engine (engine i.store i.roll.instant i.count i.creates i.labels.items i.roll.members i.roll.table) in
     let holds : Invariant e = subst (λ (x : EngineState). Invariant x) c.self.view_is c.self.invariant in
-    let two : inside ≡ counted_engine e = c.self-2.view_is ∙ c.accept.ensures.counted in
+    let two : inside ≡ counted_engine e = ap counted_engine c.self.view_is in
     let known : List Label = labels c.args.handlers.now.items.items (λ h. h.name) (λ h. h.kind) in
     let to = c.args.instant in
     let firings : List Firing = c.in_ok-firings.firings in
@@ -104,10 +104,10 @@ invariant_of-self-2 g c =
 pub returns : goal.returns
 returns g c =
     let e = c.args.self.now in
-    let i = c.self-2.inside in
-    let inside : EngineState = engine i.store i.roll.instant i.count i.creates i.labels.items i.roll.members i.roll.table in
+    let i = c.self.inside in
+    let inside : EngineState = counted_engine (engine i.store i.roll.instant i.count i.creates i.labels.items i.roll.members i.roll.table) in
     let holds : Invariant e = subst (λ (x : EngineState). Invariant x) c.self.view_is c.self.invariant in
-    let two : inside ≡ counted_engine e = c.self-2.view_is ∙ c.accept.ensures.counted in
+    let two : inside ≡ counted_engine e = ap counted_engine c.self.view_is in
     let known : List Label = labels c.args.handlers.now.items.items (λ h. h.name) (λ h. h.kind) in
     let to = c.args.instant in
     let firings : List Firing = c.in_ok-firings.firings in
@@ -130,12 +130,13 @@ returns g c =
     let late : c.instant.result ≤ to = c.if-instant.false in
     let here : c.instant.result ≡ e.clock = c.instant.ensures ∙ ap (λ (b : BookState). b.instant) c.book.ensures ∙ ap (λ (x : EngineState). x.clock) c.self.view_is in
     let later : nat_lt to e.clock ≡ false = grind (arith, nat_tests, late, here) in
-    let text = subst (λ (fs : List Firing). c.tell.new.out.items ≡ c.accept.new.out.items ++ flat_map (firing_text known i.store i.roll.table.files i.roll.members) fs) c.as_slice-2.ensures c.in_ok-notices.ensures.text in
+    let text = subst (λ (fs : List Firing). c.tell.new.out.items ≡ c.write_accepted.new.out.items ++ flat_map (firing_text known i.store i.roll.table.files i.roll.members) fs) c.as_slice-2.ensures c.in_ok-notices.ensures.text in
     let times_are = subst (λ (fs : List Firing). c.in_ok-notices.notices ≡ times (λ f. nat_lt 0 (length (firing_text known i.store i.roll.table.files i.roll.members f))) fs) c.as_slice-2.ensures c.in_ok-notices.ensures.notices in
     let lines = c.in_ok-write_expired.ensures ∙ (λ j. c.tell.new.out.items ++ flat_map (expired_of (c.book-5.ensures j).members) ((c.as_slice-3.ensures ∙ expired_is) j)) in
+    let line_is : c.write_accepted.new.out.items ≡ c.args.out.now.items ++ ok_text (e.count + 1) = c.in_ok-applied.ensures.text ∙ ap (λ (x : EngineState). c.args.out.now.items ++ ok_text (x.count + 1)) c.self.view_is in
     record {
       applies =
-          clock_answers e inside two known c.requires.handlers to holds c.facts.ensures.facts firings (expired_at to (map timing_of i.roll.members)) asked c.take_all.new.roll left later c.args.out.now.items c.accept.new.out.items c.tell.new.out.items c.write_expired.new.out.items c.in_ok-notices.notices c.with-applied.result c.in_ok-applied.ensures.text
+          clock_answers e inside two known c.requires.handlers to holds c.facts.ensures.facts firings (expired_at to (map timing_of i.roll.members)) asked c.take_all.new.roll left later c.args.out.now.items c.write_accepted.new.out.items c.tell.new.out.items c.write_expired.new.out.items c.in_ok-notices.notices c.with-applied.result line_is
           (record { text = text; lines = lines; times_are = times_are })
           (ap (λ (a : Applied). a.from) c.with-applied.ensures ∙ ap (λ (a : Applied). a.from) c.in_ok-applied.ensures.places)
           (ap (λ (a : Applied). a.to) c.with-applied.ensures)

@@ -1,14 +1,17 @@
-use Rattle.std.proofs.Common.{◌≡◌, ◌∙◌, ◌<◌, ◌++◌, ◌∷◌, [], ◌-◌, ◌^◌, ap, subst, sym, List, length, map, not}
-use Rattle.std.specs.List.{filter, AllByRecursion}
+use Rattle.std.proofs.Common.{◌≡◌, ◌∙◌, ◌<◌, ◌-◌, ◌^◌, ap, subst, sym, length}
+use Rattle.std.specs.List.{AllByRecursion}
 use Rattle.ncq_plan.specs.WellFormed.{IsWellFormedExpr}
 use Rattle.ncq_plan.proofs.PlanFits.{plan_is_well_formed}
-use Rattle.ncq_book.specs.Books.{BookState, is_of, with_file}
+use Rattle.ncq_book.specs.Books.{BookState}
 use Rattle.ncq_book.specs.declared.member.Member.{Member}
+use Rattle.ncq_change.specs.Stores.{world_in}
+use Rattle.ncq_shelf.specs.Contents.{Fits}
 use Rattle.ncq_group.specs.Tables.{TableState, Facts}
-use Rattle.ncq_group.specs.Installs.{IsInstalled, NamesTheMissing}
+use Rattle.ncq_group.specs.Installs.{NamesTheMissing}
 use Rattle.ncq_roll.specs.Rolls.{IsRoll, RollState}
-use Rattle.ncq_roll.proofs.RollLaws.{uses_few}
-use Rattle.ncq_roll.proofs.TurnLaws.{roll_joined, taken_back}
+use Rattle.ncq_roll.proofs.RollLaws.{uses_few, roll_more}
+use Rattle.ncq_roll.proofs.UndoLaws.{installed_use, at_mark, table_back}
+use Rattle.ncq_roll.proofs.roll.Roll.add.Given.{Over}
 use Rattle.ncq_roll.proofs.roll.Roll.add.Goals as goal
 
 pub install-requires-clause-formed : goal.install-requires-clause-formed
@@ -18,50 +21,57 @@ pub install-requires-clause-uses : goal.install-requires-clause-uses
 install-requires-clause-uses g c =
     uses_few c.self.inside.groups c.self.inside.book.members c.self.invariant (subst (λ (r : RollState). length r.members < 2 ^ 64 - 1) (sym c.self.view_is) c.requires.few)
 
+pub returns-in_err-file-clause-cost : goal.returns-in_err-file-clause-cost
+returns-in_err-file-clause-cost g c = λ missing names.
+    c.install.ensures.cost missing (subst (λ (r : RollState). NamesTheMissing r.table.files c.args.plan.now missing) (sym c.self.view_is) names)
+
+pub add-requires-clause-above : goal.add-requires-clause-above
+add-requires-clause-above g c = subst (λ (r : RollState). AllByRecursion (λ (m : Member). m.install < c.args.member.install) r.members) (sym c.self.view_is) c.requires.above
+
 pub invariant_of-self-in-Ok : goal.invariant_of-self-in-Ok
 invariant_of-self-in-Ok g c =
-    let members : List Member = c.self.inside.book.members in
-    let below : AllByRecursion (λ m. m.install < c.args.member.install) members = subst (λ (r : RollState). AllByRecursion (λ (m : Member). m.install < c.args.member.install) r.members) (sym c.self.view_is) c.requires.above in
-    let after : c.set_file.new.self.members ≡ map (with_file c.args.member.install c.in-Ok.file) (members ++ c.args.member ∷ []) =
-    ap (λ (b : BookState). b.members) c.set_file.ensures ∙ ap (λ (b : BookState). map (with_file c.args.member.install c.in-Ok.file) b.members) c.in_ok-add.ensures.ok in
-    (roll_joined c.self.inside.groups c.install.new.self (subst (λ (r : RollState). Facts r.table) (sym c.self.view_is) c.facts.ensures.facts) members c.set_file.new.self.members c.self.invariant
-    c.args.member c.args.plan.now c.requires.formed c.requires.plan c.in-Ok.file c.in-Ok.ensures.ok below after).0
+    let facts : Facts c.self.inside.groups = subst (λ (r : RollState). Facts r.table) (sym c.self.view_is) c.facts.ensures.facts in
+    let member : Member = record (c.args.member) { file = c.in_ok-file.file } in
+    subst (λ (b : BookState). IsRoll c.install.new.self b.members) (sym c.in-Ok.ensures.ok)
+    (roll_more c.self.inside.groups c.install.new.self facts c.self.inside.book.members c.self.invariant member c.args.plan.now c.requires.formed c.requires.plan c.in_ok-file.ensures.ok)
 
-pub returns-in-Ok-clause-ok : goal.returns-in-Ok-clause-ok
-returns-in-Ok-clause-ok g c =
-    let members : List Member = c.self.inside.book.members in
-    let below : AllByRecursion (λ m. m.install < c.args.member.install) members = subst (λ (r : RollState). AllByRecursion (λ (m : Member). m.install < c.args.member.install) r.members) (sym c.self.view_is) c.requires.above in
-    let after : c.set_file.new.self.members ≡ map (with_file c.args.member.install c.in-Ok.file) (members ++ c.args.member ∷ []) =
-    ap (λ (b : BookState). b.members) c.set_file.ensures ∙ ap (λ (b : BookState). map (with_file c.args.member.install c.in-Ok.file) b.members) c.in_ok-add.ensures.ok in
-    let joins = (roll_joined c.self.inside.groups c.install.new.self (subst (λ (r : RollState). Facts r.table) (sym c.self.view_is) c.facts.ensures.facts) members c.set_file.new.self.members c.self.invariant
-    c.args.member c.args.plan.now c.requires.formed c.requires.plan c.in-Ok.file c.in-Ok.ensures.ok below after).1 in
-    record {
-      file = c.in-Ok.file;
-      installed = subst (λ (r : RollState). IsInstalled c.args.plan.now r.table c.install.new.self c.in-Ok.file.0) c.self.view_is c.in-Ok.ensures.ok;
-      members = joins ∙ ap (λ (r : RollState). r.members ++ record (c.args.member) { file = c.in-Ok.file } ∷ []) c.self.view_is;
-    }
+pub release-requires : goal.release-requires
+release-requires g c = installed_use c.args.plan.now c.self.inside.groups c.install.new.self c.in_ok-file.file.0 c.in_ok-file.ensures.ok
+
+pub roll_back-requires-clause-base : goal.roll_back-requires-clause-base
+roll_back-requires-clause-base g c =
+    let facts : Facts c.self.inside.groups = subst (λ (r : RollState). Facts r.table) (sym c.self.view_is) c.facts.ensures.facts in
+    λ number file at.
+    (at_mark c.args.plan.now c.self.inside.groups c.install.new.self c.in_ok-file.file.0 c.in_ok-file.ensures.ok facts c.facts-2.ensures c.release.new.self.files c.release.ensures.files c.mark-before.result c.mark-before.ensures number file at).0
+
+pub roll_back-requires-clause-below : goal.roll_back-requires-clause-below
+roll_back-requires-clause-below g c =
+    let facts : Facts c.self.inside.groups = subst (λ (r : RollState). Facts r.table) (sym c.self.view_is) c.facts.ensures.facts in
+    λ number file at.
+    (at_mark c.args.plan.now c.self.inside.groups c.install.new.self c.in_ok-file.file.0 c.in_ok-file.ensures.ok facts c.facts-2.ensures c.release.new.self.files c.release.ensures.files c.mark-before.result c.mark-before.ensures number file at).1
+
+-- a refused member leaves the table of before
+back : (g : Over) (c : goal.After-roll_back g) → c.roll_back.new.self ≡ c.self.inside.groups
+back g c =
+    let facts : Facts c.self.inside.groups = subst (λ (r : RollState). Facts r.table) (sym c.self.view_is) c.facts.ensures.facts in
+    table_back c.args.plan.now c.self.inside.groups c.install.new.self c.in_ok-file.file.0 c.in_ok-file.ensures.ok facts c.facts-2.ensures c.release.new.self.files c.release.ensures.files
+    c.mark-before.result c.roll_back.new.self c.mark-before.ensures c.roll_back.ensures.number c.roll_back.ensures.next_file c.roll_back.ensures.files
+
+pub invariant_of-self-in-Err : goal.invariant_of-self-in-Err
+invariant_of-self-in-Err g c =
+    subst (λ (t : TableState). IsRoll t c.add.new.self.members) (sym (back g c)) (subst (λ (b : BookState). IsRoll c.self.inside.groups b.members) (sym c.in-Err.ensures.err) c.self.invariant)
 
 pub returns-in-Ok-clause-cost : goal.returns-in-Ok-clause-cost
 returns-in-Ok-clause-cost g c = λ missing names.
     c.install.ensures.cost missing (subst (λ (r : RollState). NamesTheMissing r.table.files c.args.plan.now missing) (sym c.self.view_is) names)
 
-pub invariant_of-self-in-Err : goal.invariant_of-self-in-Err
-invariant_of-self-in-Err g c =
-    let members : List Member = c.self.inside.book.members in
-    let below : AllByRecursion (λ m. m.install < c.args.member.install) members = subst (λ (r : RollState). AllByRecursion (λ (m : Member). m.install < c.args.member.install) r.members) (sym c.self.view_is) c.requires.above in
-    let after : c.take_away-file.new.book.members ≡ members =
-    taken_back members c.take_away-file.new.book.members c.args.member below
-    (ap (λ (b : BookState). b.members) c.take_away-file.ensures.members ∙ ap (λ (b : BookState). filter (λ m. not (is_of c.args.member.install m)) b.members) c.in_ok-add.ensures.ok) in
-    subst (λ (t : TableState). IsRoll t c.take_away-file.new.book.members) (sym c.in-Err.ensures.err) (subst (IsRoll c.self.inside.groups) (sym after) c.self.invariant)
+pub returns-in-Err-clause-fits : goal.returns-in-Err-clause-fits
+returns-in-Err-clause-fits g c =
+    subst (λ (t : TableState). Fits c.args.self.now.table.number (world_in c.args.store.now) t.files) (sym (back g c ∙ ap (λ (r : RollState). r.table) c.self.view_is)) c.requires.fits
 
 pub returns-in-Err-clause-err : goal.returns-in-Err-clause-err
 returns-in-Err-clause-err g c =
-    let members : List Member = c.self.inside.book.members in
-    let below : AllByRecursion (λ m. m.install < c.args.member.install) members = subst (λ (r : RollState). AllByRecursion (λ (m : Member). m.install < c.args.member.install) r.members) (sym c.self.view_is) c.requires.above in
-    let after : c.take_away-file.new.book.members ≡ members =
-    taken_back members c.take_away-file.new.book.members c.args.member below
-    (ap (λ (b : BookState). b.members) c.take_away-file.ensures.members ∙ ap (λ (b : BookState). filter (λ m. not (is_of c.args.member.install m)) b.members) c.in_ok-add.ensures.ok) in
-    (λ i. record { table = c.in-Err.ensures.err i; members = after i; instant = (ap (λ (b : BookState). b.instant) c.take_away-file.ensures.members ∙ ap (λ (b : BookState). b.instant) c.in_ok-add.ensures.ok) i }) ∙ c.self.view_is
+    (λ i. record { table = back g c i; members = (c.in-Err.ensures.err i).members; instant = (c.in-Err.ensures.err i).instant }) ∙ c.self.view_is
 
 pub returns-in-Err-clause-cost : goal.returns-in-Err-clause-cost
 returns-in-Err-clause-cost g c = λ missing names.

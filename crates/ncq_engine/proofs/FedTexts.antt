@@ -1,0 +1,158 @@
+-- Who is asked at a change: those whose file got rows are told what those are that ask its source.
+use Rattle.std.proofs.Common.{◌≡◌, ℕ, ◌+◌, Bool, true, false, ◌&&◌, ◌==◌, cond, List, [], ◌∷◌, ◌++◌, map, length, refl, sym, ◌∙◌, ap, inl, inr, zero-add}
+use Rattle.std.specs.Prelude.{Some, None, ◌⊎◌, nat_eq, nat_le, nat_lt, if◌then◌else◌}
+use Rattle.std.specs.List.{filter, flat_map, list_any, AllByRecursion}
+use Rattle.std.specs.Str.{bytes_eq}
+use Rattle.ncq_base.specs.Keys.{times}
+use Rattle.ncq_book.specs.declared.member.Member.{Member}
+use Rattle.ncq_book.specs.Books.{InstallsRise, member_of, watchers_of, watches}
+use Rattle.ncq_callback.specs.Labels.{Label}
+use Rattle.ncq_event.specs.declared.firing.Firing.{Firing}
+use Rattle.ncq_feed.specs.Feeds.{NamesTheFed}
+use Rattle.ncq_group.specs.Tables.{TableState}
+use Rattle.ncq_pyx.specs.declared.item.Item.{Item}
+use Rattle.ncq_script.specs.declared.command.Command.TheVariants.{Delta}
+use Rattle.ncq_shelf.specs.Contents.{AreUpTo}
+use Rattle.ncq_shelf.specs.KeptFiles.{Files}
+use Rattle.ncq_source.specs.StoreStates.{StoreState}
+use Rattle.ncq_engine.specs.Engines.{CanTell, Pairwise, Told, is_told_change, last_in, told_at, told_text}
+use Rattle.ncq_engine.specs.History.{History, Subscription, changes, last_change, live, now}
+use Rattle.ncq_engine.specs.Marks.{IsRising}
+use Rattle.ncq_engine.specs.Stands.{AreContents, Keeps}
+use Rattle.ncq_engine.specs.Tellings.{firing_text, has_started, started_at, text_of}
+use Rattle.ncq_engine.proofs.ByInstall.{AreFound, found_each}
+use Rattle.ncq_engine.proofs.ChangeLaws.{changed_instant}
+use Rattle.ncq_engine.proofs.QuietLaws.{quiet_elsewhere, quiet_unfed}
+use Rattle.ncq_engine.proofs.StartedLaws.{FiresFirst, all_fired}
+use Rattle.ncq_engine.proofs.ToldLaws.{told_of}
+
+-- what texts come to, from the last on
+module _ {A : Type 0} (weigh : List ℕ → A → A) (none : A) where
+  abbrev total : {X : Type 0} → (X → List ℕ) → List X → A
+  total text [] = none
+  total text (x ∷ xs) = weigh (text x) (total text xs)
+
+module _ {X : Type 0} (text : X → List ℕ) where
+  flat_total : (xs : List X) → flat_map text xs ≡ total (λ bytes rest. bytes ++ rest) [] text xs
+  flat_total [] = refl
+  flat_total (x ∷ xs) = ap (λ rest. text x ++ rest) (flat_total xs)
+
+  times_total : (xs : List X) → times (λ x. nat_lt 0 (length (text x))) xs ≡ total (λ bytes rest. cond (nat_lt 0 (length bytes)) 1 0 + rest) 0 text xs
+  times_total [] = refl
+  times_total (x ∷ xs) = ap (λ rest. cond (nat_lt 0 (length (text x))) 1 0 + rest) (times_total xs)
+
+module _ (labels : List Label) (store : StoreState) (files : Files) (fed : List ℕ) (name : List ℕ) (clock : ℕ) where
+  -- the member is asked exactly where it is told, or it is told nothing
+  abbrev pub AsksEnough : Member → Type 0
+  AsksEnough m = ((watches fed m && nat_le m.timing.start clock) ≡ is_told_change name clock m) ⊎ (told_text labels store files m clock ≡ [])
+
+  module _ (all : List Member) where
+    -- the firings of those of these members that are asked
+    abbrev asked : List Member → List Firing
+    asked ms = flat_map (started_at clock all) (watchers_of fed ms)
+
+    -- and the notices of those that are told
+    abbrev told : List Member → List Told
+    told ms = told_of labels store files (changed_instant name clock) ms
+
+    module _ {A : Type 0} (weigh : List ℕ → A → A) (silent : (rest : A) → weigh [] rest ≡ rest) (none : A) where
+      abbrev of_firings : List Firing → A
+      of_firings firings = total weigh none (firing_text labels store files all) firings
+
+      abbrev of_told : List Told → A
+      of_told list = total weigh none (λ (t : Told). t.text) list
+
+      -- what one more member adds, where the test says so
+      abbrev one_more : Bool → Member → A → A
+      one_more test m rest = if test then weigh (told_text labels store files m clock) rest else rest
+
+      started_one : (m : Member) → member_of m.install all ≡ Some m → (rest : List Firing)
+          → of_firings (started_at clock all m.install ++ rest) ≡ one_more (nat_le m.timing.start clock) m (of_firings rest)
+      started_one m e rest =
+          let firing : Firing = record { instant = clock; install = m.install } in
+          (λ i. of_firings ((if has_started clock (e i) then firing ∷ [] else []) ++ rest))
+          ∙ elim (nat_le m.timing.start clock) as (λ t. of_firings ((if t then firing ∷ [] else []) ++ rest) ≡ one_more t m (of_firings rest)) [
+            | true ↦ λ i. weigh (text_of labels store files clock (e i)) (of_firings rest)
+            | false ↦ refl
+          ]
+
+      asked_more : (m : Member) (ms : List Member) → member_of m.install all ≡ Some m
+          → of_firings (asked (m ∷ ms)) ≡ one_more (watches fed m && nat_le m.timing.start clock) m (of_firings (asked ms))
+      asked_more m ms e =
+          elim (watches fed m) as (λ t. of_firings (flat_map (started_at clock all) (map (λ m. m.install) (cond t (m ∷ filter (watches fed) ms) (filter (watches fed) ms))))
+          ≡ one_more (t && nat_le m.timing.start clock) m (of_firings (asked ms))) [
+            | true ↦ started_one m e (asked ms)
+            | false ↦ refl
+          ]
+
+      told_more : (m : Member) (ms : List Member) → of_told (told (m ∷ ms)) ≡ one_more (is_told_change name clock m) m (of_told (told ms))
+      told_more m ms =
+          elim (is_told_change name clock m) as (λ t. of_told (told_at labels store files m (if t then Some clock else None) ++ told ms) ≡ one_more t m (of_told (told ms))) [ true ↦ refl | false ↦ refl ]
+
+      -- one that is told nothing adds nothing
+      adds_nothing : (test : Bool) (m : Member) (rest : A) → told_text labels store files m clock ≡ [] → one_more test m rest ≡ rest
+      adds_nothing true m rest quiet = ap (λ bytes. weigh bytes rest) quiet ∙ silent rest
+      adds_nothing false m rest quiet = refl
+
+      adds_alike : (m : Member) (rest : A) → AsksEnough m → one_more (watches fed m && nat_le m.timing.start clock) m rest ≡ one_more (is_told_change name clock m) m rest
+      adds_alike m rest (inl same) = λ i. one_more (same i) m rest
+      adds_alike m rest (inr quiet) = adds_nothing (watches fed m && nat_le m.timing.start clock) m rest quiet ∙ sym (adds_nothing (is_told_change name clock m) m rest quiet)
+
+      same_total : (ms : List Member) → AreFound all ms → AllByRecursion AsksEnough ms → of_firings (asked ms) ≡ of_told (told ms)
+      same_total [] found enough = refl
+      same_total (m ∷ ms) found enough =
+          asked_more m ms found.0
+          ∙ ap (one_more (watches fed m && nat_le m.timing.start clock) m) (same_total ms found.1 enough.1)
+          ∙ adds_alike m (of_told (told ms)) enough.0
+          ∙ sym (told_more m ms)
+
+  -- what is written where those are asked whose file got rows
+  module _ (all : List Member) (rise : InstallsRise all) (enough : AllByRecursion AsksEnough all) where
+    pub fed_text : flat_map (firing_text labels store files all) (flat_map (started_at clock all) (watchers_of fed all))
+        ≡ flat_map (λ (t : Told). t.text) (told_of labels store files (changed_instant name clock) all)
+    fed_text =
+        flat_total (firing_text labels store files all) (asked all all)
+        ∙ same_total all (λ bytes rest. bytes ++ rest) (λ rest. refl) [] all (found_each all rise) enough
+        ∙ sym (flat_total (λ (t : Told). t.text) (told all all))
+
+    -- and how many notices
+    pub fed_time : times (λ f. nat_lt 0 (length (firing_text labels store files all f))) (flat_map (started_at clock all) (watchers_of fed all))
+        ≡ times (λ (t : Told). nat_lt 0 (length t.text)) (told_of labels store files (changed_instant name clock) all)
+    fed_time =
+        times_total (firing_text labels store files all) (asked all all)
+        ∙ same_total all (λ bytes rest. cond (nat_lt 0 (length bytes)) 1 0 + rest) (λ rest. zero-add rest) 0 all (found_each all rise) enough
+        ∙ sym (times_total (λ (t : Told). t.text) (told all all))
+
+-- behind a change of an engine that follows the history each member is asked enough
+module _ (labels : List Label) (h : History) (name : List ℕ) (items : List Item) (clock : ℕ) (at_now : clock ≡ now h) (store : StoreState) (table : TableState)
+    (last : (asked : List ℕ) → last_in store asked ≡ last_change asked h) (rising : IsRising h) (contents : AreContents table.files (Delta name items ∷ h))
+    (upto : AreUpTo (changes (Delta name items ∷ h)) table.files) (fed : List ℕ) (named : NamesTheFed (changes h) table.files fed) where
+  asks_one : (s : Subscription) (m : Member) → Keeps labels h s m → CanTell labels store table m → FiresFirst h s → AsksEnough labels store table.files fed name clock m
+  asks_one s m k can fired = by (m.timing.every == 0) (list_any (nat_eq m.file.0) fed) (nat_le m.timing.start clock) (list_any (bytes_eq name) m.sources) refl refl refl refl
+    where
+      alike : (b f t a : Bool) → m.timing.every == 0 ≡ b → list_any (nat_eq m.file.0) fed ≡ f → nat_le m.timing.start clock ≡ t → list_any (bytes_eq name) m.sources ≡ a
+          → ((b && f) && t) ≡ (b && t && a) → AsksEnough labels store table.files fed name clock m
+      alike b f t a based in_fed started asks same = inl ((λ i. (based i && in_fed i) && started i) ∙ same ∙ sym (λ i. based i && started i && asks i))
+
+      by : (b f t a : Bool) → m.timing.every == 0 ≡ b → list_any (nat_eq m.file.0) fed ≡ f → nat_le m.timing.start clock ≡ t → list_any (bytes_eq name) m.sources ≡ a
+          → AsksEnough labels store table.files fed name clock m
+      by true true true false based in_fed started asks =
+          inr (quiet_elsewhere labels h name items store table last rising contents upto s m k can fired based (ap (nat_le m.timing.start) (sym at_now) ∙ started) asks clock)
+      by true false true true based in_fed started asks =
+          inr (quiet_unfed labels h name items store table last rising contents upto s m k can fired based (ap (nat_le m.timing.start) (sym at_now) ∙ started) (named m.file.0 can.file can.at in_fed) clock)
+      by false f t a based in_fed started asks = alike false f t a based in_fed started asks refl
+      by true true true true based in_fed started asks = alike true true true true based in_fed started asks refl
+      by true true false a based in_fed started asks = alike true true false a based in_fed started asks refl
+      by true false true false based in_fed started asks = alike true false true false based in_fed started asks refl
+      by true false false a based in_fed started asks = alike true false false a based in_fed started asks refl
+
+  asks_each : (subs : List Subscription) (ms : List Member) → Pairwise (Keeps labels h) subs ms → AllByRecursion (CanTell labels store table) ms → AllByRecursion (FiresFirst h) subs
+      → AllByRecursion (AsksEnough labels store table.files fed name clock) ms
+  asks_each [] [] p can fired = tt
+  asks_each [] (m ∷ ms) p can fired = absurd p
+  asks_each (s ∷ subs) [] p can fired = absurd p
+  asks_each (s ∷ subs) (m ∷ ms) p can fired = (asks_one s m p.0 can.0 fired.0, asks_each subs ms p.1 can.1 fired.1)
+
+  pub asks_enough : (members : List Member) → Pairwise (Keeps labels h) (live h) members → AllByRecursion (CanTell labels store table) members
+      → AllByRecursion (AsksEnough labels store table.files fed name clock) members
+  asks_enough members p can = asks_each (live h) members p can (all_fired h)

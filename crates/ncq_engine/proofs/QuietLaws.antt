@@ -1,0 +1,165 @@
+-- What a change does not tell: a member that does not ask its source, and one whose file got no row, are told nothing.
+use Rattle.std.proofs.Common.{◌≡◌, ℕ, ◌≤◌, max, true, false, ◌||◌, ◌==◌, cond, List, [], ◌∷◌, map, slice_get, refl, sym, ◌∙◌, ap, subst, arith, true≢false}
+use Rattle.std.specs.Prelude.{Some, IfSome, nat_le, nat_lt, if◌then◌else◌}
+use Rattle.std.specs.Option.{option_map, unwrap_or}
+use Rattle.std.proofs.lemmas.Bool.Decides.{nat_tests}
+use Rattle.std.specs.List.{list_any, AllByRecursion}
+use Rattle.std.specs.Str.{bytes_eq}
+use Rattle.ncq_bag.specs.Bags.{difference}
+use Rattle.ncq_bind.specs.Answers.{answer}
+use Rattle.ncq_book.specs.declared.member.Member.{Member}
+use Rattle.ncq_callback.specs.Labels.{Label}
+use Rattle.ncq_event.specs.declared.timing.Timing.{Timing}
+use Rattle.ncq_group.specs.Tables.{TableState}
+use Rattle.ncq_midfile.specs.Content.{IsContent, since}
+use Rattle.ncq_midfile.specs.declared.signed.SignedRow.{SignedRow}
+use Rattle.ncq_news.specs.News.{answers_in, entries_of, since_mark}
+use Rattle.ncq_news.proofs.CallerLemmas.{since_tell}
+use Rattle.ncq_plan.specs.declared.expr.Expr.{Expr}
+use Rattle.ncq_plan.specs.Exprs.{World, rows_in}
+use Rattle.ncq_plan.specs.Plans.{plan_of}
+use Rattle.ncq_pyx.specs.Canonical.{pyx}
+use Rattle.ncq_pyx.specs.declared.item.Item.{Item}
+use Rattle.ncq_row.specs.Embeddings.{Row}
+use Rattle.ncq_script.specs.declared.command.Command.TheVariants.{Delta}
+use Rattle.ncq_shelf.specs.Contents.{AreUpTo}
+use Rattle.ncq_source.specs.StoreStates.{StoreState}
+use Rattle.ncq_engine.specs.Engines.{CanTell, last_in, mark_in, news_of, rows_in_file, told_text}
+use Rattle.ncq_engine.specs.Firing.{mark, sources_of}
+use Rattle.ncq_engine.specs.History.{History, Subscription, changes, last_change, now, sources, up_to, world}
+use Rattle.ncq_engine.specs.Languages.{language_of}
+use Rattle.ncq_engine.specs.Marks.{IsRising, first_mark, latest_change, noted}
+use Rattle.ncq_engine.specs.Notices.{answer_at, kind_in, news, rendered}
+use Rattle.ncq_engine.specs.Stands.{AreContents, Keeps}
+use Rattle.ncq_engine.proofs.AskedLaws.{other_stays, same_answer, same_bag, stays_since}
+use Rattle.ncq_engine.proofs.HistoryLaws.{key_is}
+use Rattle.ncq_engine.proofs.Keeping.{mark_few, mark_is}
+use Rattle.ncq_engine.proofs.MarkLaws.{last_few, marks_follow}
+use Rattle.ncq_engine.proofs.NoticeLaws.{answer_is, text_is}
+use Rattle.ncq_engine.proofs.StartedLaws.{FiresFirst}
+use Rattle.ncq_engine.proofs.Worlds.{world_at_mark}
+
+-- a mark that is no lower than the last change of each of its sources
+record HasMark (s : Subscription) (h : History) : Type 0 where
+  pub number : ℕ
+  pub is : mark s h ≡ Some number
+  pub few : number ≤ changes h
+  pub covers : (asked : List ℕ) → list_any (bytes_eq asked) (sources_of s.statement) ≡ true → last_change asked h ≤ number
+
+latest_covers : (names : List (List ℕ)) (h : History) (asked : List ℕ) → list_any (bytes_eq asked) names ≡ true → last_change asked h ≤ latest_change names h
+latest_covers [] h asked there = absurd (true≢false (sym there))
+latest_covers (name ∷ more) h asked there =
+    elim (bytes_eq asked name) as (λ t. bytes_eq asked name ≡ t → (t || list_any (bytes_eq asked) more) ≡ true → last_change asked h ≤ max (last_change name h) (latest_change more h)) [
+      | true ↦ λ p e. let same : last_change asked h ≡ last_change name h = ap (λ n. last_change n h) (key_is asked name p) in omega (arith, same)
+      | false ↦ λ p e. let rest = latest_covers more h asked e in omega (arith, rest)
+    ] refl there
+
+-- one that fires at changes and has started has such a mark
+started_mark : (s : Subscription) (h : History) → IsRising h → FiresFirst h s → s.statement.every == 0 ≡ true → s.start ≤ now h → HasMark s h
+started_mark s h rising fired based started =
+    record {
+      number = max first.0 (latest_change (sources_of s.statement) h);
+      is = is;
+      few = mark_few s h (max first.0 (latest_change (sources_of s.statement) h)) is;
+      covers = λ asked there. let below = latest_covers (sources_of s.statement) h asked there in omega (arith, below);
+    }
+  where
+    first : (number : ℕ) × (first_mark s h ≡ Some number)
+    first = fired based started
+
+    is : mark s h ≡ Some (max first.0 (latest_change (sources_of s.statement) h))
+    is =
+        marks_follow s h rising
+        ∙ (λ i. if based i then option_map (λ first. max first (latest_change (sources_of s.statement) h)) (if based i then first_mark s h else mark s h) else noted s h)
+        ∙ ap (option_map (λ first. max first (latest_change (sources_of s.statement) h))) first.1
+
+not_asked : (name asked : List ℕ) (names : List (List ℕ)) → list_any (bytes_eq name) names ≡ false → list_any (bytes_eq asked) names ≡ true → bytes_eq name asked ≡ false
+not_asked name asked names elsewhere there =
+    elim (bytes_eq name asked) as (λ t. bytes_eq name asked ≡ t → t ≡ false) [
+      | true ↦ λ p. sym there ∙ ap (λ n. list_any (bytes_eq n) names) (sym (key_is name asked p)) ∙ elsewhere
+      | false ↦ λ p. refl
+    ] refl
+
+-- where no row is behind a number, each is at most there
+none_since : (n : ℕ) (rows : List SignedRow) → since n rows ≡ [] → AllByRecursion (λ r. r.number ≤ n) rows
+none_since n [] none = tt
+none_since n (r ∷ rows) none =
+    elim (nat_lt n r.number) as (λ t. nat_lt n r.number ≡ t → cond t (r ∷ since n rows) (since n rows) ≡ [] → (r.number ≤ n) × AllByRecursion (λ (r : SignedRow). r.number ≤ n) rows) [
+      | true ↦ λ late e. absurd (let bad : ⊥ = cc in bad)
+      | false ↦ λ early e. (grind (arith, nat_tests, early), none_since n rows e)
+    ] refl none
+
+-- a member that fires at changes and has started, behind a change
+module _ (labels : List Label) (h : History) (name : List ℕ) (items : List Item) (store : StoreState) (table : TableState)
+    (last : (asked : List ℕ) → last_in store asked ≡ last_change asked h) (rising : IsRising h) (contents : AreContents table.files (Delta name items ∷ h))
+    (upto : AreUpTo (changes (Delta name items ∷ h)) table.files) where
+  module _ (s : Subscription) (m : Member) (k : Keeps labels h s m) (can : CanTell labels store table m) (fired : FiresFirst h s)
+      (based : m.timing.every == 0 ≡ true) (started : nat_le m.timing.start (now h) ≡ true) where
+    has_mark : HasMark s h
+    has_mark =
+        let late : nat_le s.start (now h) ≡ true = ap (λ (t : Timing). nat_le t.start (now h)) (sym k.timing) ∙ started in
+        started_mark s h rising fired (ap (λ (t : Timing). t.every == 0) (sym k.timing) ∙ based) (grind (arith, nat_tests, late))
+
+    -- the answer before the change
+    abbrev old_answer : List (List ℕ)
+    old_answer = map pyx (answer s.statement.query (world (sources h)))
+
+    -- the rows of its plan at a number
+    abbrev then_rows : ℕ → List Row
+    then_rows number = rows_in (plan_of m.query) (world (sources (up_to number h)))
+
+    -- at a number that covers the sources the answer is that
+    answer_since : (number : ℕ) → ((asked : List ℕ) → list_any (bytes_eq asked) (sources_of s.statement) ≡ true → last_change asked h ≤ number)
+        → map pyx (answer s.statement.query (world (sources (up_to number h)))) ≡ old_answer
+    answer_since number covers = ap (map pyx) (same_answer s.statement (world (sources (up_to number h))) (world (sources h)) (λ asked there. stays_since asked number h (covers asked there)))
+
+    -- nothing is told of a source that it does not ask
+    pub quiet_elsewhere : list_any (bytes_eq name) m.sources ≡ false → (instant : ℕ) → told_text labels store table.files m instant ≡ []
+    quiet_elsewhere elsewhere instant =
+        text_is labels h (Delta name items) store table last rising contents upto s m k can instant
+        ∙ ap (rendered (kind_in s.statement.action labels) (unwrap_or s.statement.argument []) s.statement.name instant) nothing
+      where
+        unasked : list_any (bytes_eq name) (sources_of s.statement) ≡ false
+        unasked = ap (list_any (bytes_eq name)) (sym k.sources) ∙ elsewhere
+
+        answer_now : map pyx (answer s.statement.query (world (sources (Delta name items ∷ h)))) ≡ old_answer
+        answer_now = ap (map pyx) (same_answer s.statement (world (sources (Delta name items ∷ h))) (world (sources h))
+            (λ asked there. other_stays asked name items h (not_asked name asked (sources_of s.statement) unasked there)))
+
+        nothing : news (language_of labels) s h (Delta name items) ≡ []
+        nothing =
+            (λ i. difference (answer_now i) (answer_at (language_of labels) s.statement.query h (has_mark.is i)))
+            ∙ ap (difference old_answer) (answer_since has_mark.number has_mark.covers)
+            ∙ same_bag old_answer
+
+    -- nothing is told where its file has no row of the change
+    pub quiet_unfed : since (changes h) can.file.content.rows ≡ [] → (instant : ℕ) → told_text labels store table.files m instant ≡ []
+    quiet_unfed unfed instant = ap (rendered (option_map (λ label. label.1) (slice_get labels m.action)) m.argument m.name instant) nothing
+      where
+        marks : mark_in store m ≡ Some has_mark.number
+        marks = mark_is labels h s m k rising store last ∙ has_mark.is
+
+        base : can.file.content.base ≤ has_mark.number
+        base = subst (λ o. IfSome o (λ number. can.file.content.base ≤ number)) marks can.base
+
+        content_then : (number : ℕ) → can.file.content.base ≤ number → number ≤ changes h → IsContent number can.file.content.rows (then_rows number)
+        content_then number low few =
+            let within : number ≤ changes (Delta name items ∷ h) = omega (arith, few) in
+            subst (λ (e : Expr). IsContent number can.file.content.rows (rows_in e (world (sources (up_to number h))))) can.own
+            (subst (λ (w : World). IsContent number can.file.content.rows (rows_in can.file.expr w)) (world_at_mark number (Delta name items) h few)
+            (contents m.file.0 can.file number can.at low within))
+
+        answers_then : (number : ℕ) → ((asked : List ℕ) → list_any (bytes_eq asked) (sources_of s.statement) ≡ true → last_change asked h ≤ number)
+            → answers_in m.query (then_rows number) ≡ old_answer
+        answers_then number covers = answer_is s.statement k.roots m.query k.whole k.binds (world (sources (up_to number h))) ∙ answer_since number covers
+
+        content_now : IsContent (changes h) can.file.content.rows (then_rows (changes h))
+        content_now = let few = has_mark.few in content_then (changes h) (omega (arith, few, base)) (omega arith)
+
+        nothing : entries_of m.query (news_of store table.files m) ≡ []
+        nothing =
+            (λ i. entries_of m.query (since_mark (marks i) (rows_in_file (can.at i))))
+            ∙ since_tell m.query has_mark.number (changes h) can.file.content.rows (then_rows has_mark.number) (then_rows (changes h))
+            (none_since (changes h) can.file.content.rows unfed) (content_then has_mark.number base has_mark.few) content_now
+            ∙ (λ i. difference (answers_then (changes h) (λ asked there. last_few asked h) i) (answers_then has_mark.number has_mark.covers i))
+            ∙ same_bag old_answer

@@ -1,0 +1,41 @@
+use Rattle.std.proofs.Common.{◌≡◌, ◌∙◌, ◌++◌, ◌∷◌, [], List, ℕ, nat_lt, length, ap, subst, sym}
+use Rattle.std.specs.Prelude.{IsSome}
+use Rattle.std.specs.List.{flat_map, AllByRecursion}
+use Rattle.ncq_base.specs.Keys.{times}
+use Rattle.ncq_book.specs.Books.{BookState, member_of}
+use Rattle.ncq_callback.specs.Labels.{labels}
+use Rattle.ncq_event.specs.declared.firing.Firing.{Firing}
+use Rattle.ncq_engine.specs.declared.engine.Applied.{Applied}
+use Rattle.ncq_engine.specs.Applies.{ok_text}
+use Rattle.ncq_engine.specs.Tellings.{firing_text, started_at}
+use Rattle.ncq_engine.proofs.BookLaws.{started_there}
+use Rattle.ncq_engine.proofs.telling.answer_create.Goals as goal
+
+pub tell-requires-clause-there : goal.tell-requires-clause-there
+tell-requires-clause-there g c =
+    let roll = c.args.roll.now in
+    let own : c.in_ok-firings.firings ≡ flat_map (started_at roll.instant roll.members) (c.args.install ∷ []) =
+    c.in_ok-firings.ensures ∙ (λ i. flat_map (started_at (c.book.ensures i).instant (c.book.ensures i).members) (c.args.install ∷ [])) in
+    let firings : c.as_slice.result.now ≡ c.in_ok-firings.firings = c.as_slice.ensures in
+    subst (λ (fs : List Firing). AllByRecursion (λ (f : Firing). IsSome (member_of f.install roll.members)) fs) (sym (firings ∙ own)) (started_there roll.instant roll.members (c.args.install ∷ []))
+
+pub returns-clause-told : goal.returns-clause-told
+returns-clause-told g c =
+    let roll = c.args.roll.now in
+    let own : c.in_ok-firings.firings ≡ flat_map (started_at roll.instant roll.members) (c.args.install ∷ []) =
+    c.in_ok-firings.ensures ∙ (λ i. flat_map (started_at (c.book.ensures i).instant (c.book.ensures i).members) (c.args.install ∷ [])) in
+    let firings : c.as_slice.result.now ≡ c.in_ok-firings.firings = c.as_slice.ensures in
+    let text : Firing → List ℕ = firing_text (labels c.args.handlers.now.items.items (λ h. h.name) (λ h. h.kind)) c.args.store.now roll.table.files roll.members in
+    record {
+      written = c.in_ok-notices.ensures.text ∙ (λ i. c.in_ok-applied.ensures.text i ++ flat_map text (firings i));
+      from = ap (λ (a : Applied). a.from) c.with.ensures ∙ ap (λ (a : Applied). a.from) c.in_ok-applied.ensures.places ∙ ap length c.in_ok-applied.ensures.text;
+      to = ap (λ (a : Applied). a.to) c.with.ensures;
+      notices = ap (λ (a : Applied). a.notices) c.with.ensures ∙ c.in_ok-notices.ensures.notices ∙ ap (times (λ (f : Firing). nat_lt 0 (length (text f)))) firings;
+    }
+
+pub returns-clause-firings : goal.returns-clause-firings
+returns-clause-firings g c =
+    let roll = c.args.roll.now in
+    let own : c.in_ok-firings.firings ≡ flat_map (started_at roll.instant roll.members) (c.args.install ∷ []) =
+    c.in_ok-firings.ensures ∙ (λ i. flat_map (started_at (c.book.ensures i).instant (c.book.ensures i).members) (c.args.install ∷ [])) in
+    own
