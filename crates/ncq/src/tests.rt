@@ -27,6 +27,7 @@ mod limits;
 mod lines;
 mod notices;
 mod refused;
+mod reports;
 mod statements;
 mod times;
 mod values;

@@ -1,5 +1,5 @@
 -- A change that is accepted, from what the calls give.
-use Rattle.std.proofs.Common.{◌≡◌, ℕ, ◌+◌, ◌≤◌, List, [], ◌∷◌, ◌++◌, length, refl, sym, ◌∙◌, ap, subst, arith, inl, inr}
+use Rattle.std.proofs.Common.{◌≡◌, ℕ, ◌+◌, ◌≤◌, List, ◌++◌, length, sym, ◌∙◌, ap, subst, arith, inl, inr}
 use Rattle.std.specs.Prelude.{Some, Ok, slice_get, nat_lt}
 use Rattle.std.specs.List.{flat_map, position, AllByRecursion}
 use Rattle.std.specs.Str.{bytes_eq}
@@ -19,20 +19,19 @@ use Rattle.ncq_source.specs.Changes.Trial.{Good}
 use Rattle.ncq_source.specs.ChangeStates.{ChangeState}
 use Rattle.ncq_source.specs.Prepared.{IsPrepared}
 use Rattle.ncq_source.specs.Stores.{Source as Declared}
-use Rattle.ncq_source.specs.StoreStates.{StoreState, At, IsAlike, IsCommitted, found, names}
+use Rattle.ncq_source.specs.StoreStates.{StoreState, At, IsAlike, IsCommitted, found}
 use Rattle.ncq_engine.specs.declared.engine.Applied.{Applied}
 use Rattle.ncq_engine.specs.Applies.{Applies, ok_text}
-use Rattle.ncq_engine.specs.Engines.{CanTell, Told, last_in}
+use Rattle.ncq_engine.specs.Engines.{CanTell, last_in}
 use Rattle.ncq_engine.specs.Stands.{EngineState}
 use Rattle.ncq_engine.specs.Tellings.{firing_text, started_at}
-use Rattle.ncq_engine.proofs.ChangeLaws.{change_accepted, changed_instant, last_either}
+use Rattle.ncq_engine.proofs.ChangeLaws.{change_accepted, last_either}
 use Rattle.ncq_engine.proofs.CommandLaws.{engine}
 use Rattle.ncq_engine.proofs.InvariantLaws.{Invariant, can_fed, invariant_alike, invariant_changed, invariant_counted, world_committed}
 use Rattle.ncq_engine.proofs.Places.{same_names}
 use Rattle.ncq_engine.proofs.FedTexts.{asks_enough, fed_text, fed_time}
 use Rattle.ncq_engine.proofs.StoreLaws.{last_alike}
 use Rattle.ncq_engine.specs.History.{last_change}
-use Rattle.ncq_engine.proofs.ToldLaws.{told_of}
 
 -- the engine with room for the change, and the command counted
 abbrev pub mid_engine : EngineState → StoreState → EngineState

@@ -1,7 +1,7 @@
 -- A move of the clock that is accepted, from what the calls give.
-use Rattle.std.proofs.Common.{◌≡◌, ℕ, ◌+◌, ◌≤◌, false, not, List, [], ◌∷◌, ◌++◌, map, length, refl, sym, ◌∙◌, ap, subst, arith}
-use Rattle.std.specs.Prelude.{Some, Ok, is_some, nat_eq, nat_lt, IsSome}
-use Rattle.std.specs.List.{filter, flat_map, list_any, AllByRecursion}
+use Rattle.std.proofs.Common.{◌≡◌, ℕ, ◌+◌, false, not, List, ◌++◌, map, length, refl, sym, ◌∙◌, ap, subst}
+use Rattle.std.specs.Prelude.{Ok, is_some, nat_lt, IsSome}
+use Rattle.std.specs.List.{filter, flat_map, AllByRecursion}
 use Rattle.ncq_base.specs.Keys.{times}
 use Rattle.ncq_book.specs.declared.member.Member.{Member}
 use Rattle.ncq_book.specs.Books.{member_of, timing_of}
@@ -9,7 +9,7 @@ use Rattle.ncq_callback.specs.Labels.{Label}
 use Rattle.ncq_event.specs.Calendars.{due_firings, expired_at}
 use Rattle.ncq_event.specs.declared.firing.Firing.{Firing}
 use Rattle.ncq_event.specs.Instants.{is_expired}
-use Rattle.ncq_group.specs.Tables.{TableState, Facts}
+use Rattle.ncq_group.specs.Tables.{Facts}
 use Rattle.ncq_roll.specs.Rolls.{IsRoll, RollState}
 use Rattle.ncq_script.specs.declared.command.Command.TheVariants.{Clock}
 use Rattle.ncq_shelf.specs.Contents.{AreUpTo}

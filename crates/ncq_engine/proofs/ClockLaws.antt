@@ -18,7 +18,7 @@ use Rattle.ncq_shelf.specs.Contents.{AreUpTo}
 use Rattle.ncq_engine.specs.Marks.{IsRising, first_mark}
 use Rattle.ncq_engine.specs.Tellings.{AreOf}
 use Rattle.ncq_engine.specs.Applies.{Applies, expired_name, ok_text}
-use Rattle.ncq_engine.specs.Engines.{CanTell, Pairwise, Told, fired_if, has_news_in, last_in, mark_in, moved_instant}
+use Rattle.ncq_engine.specs.Engines.{CanTell, Pairwise, Told, fired_if, has_news_in, last_in, moved_instant}
 use Rattle.ncq_engine.specs.Firing.{fires, has_news, is_installed, mark, sources_of}
 use Rattle.ncq_engine.specs.History.{History, Subscription, changes, creates as creates_of, last_change, live, now, timing_of}
 use Rattle.ncq_engine.specs.Languages.{language_of}

@@ -1,14 +1,14 @@
 -- What the engine stands for behind a declaration and behind a delete.
-use Rattle.std.proofs.Common.{◌≡◌, ℕ, ◌+◌, ◌<◌, ◌≤◌, Bool, true, false, not, ◌||◌, cond, List, [], ◌∷◌, ◌++◌, length, slice_get, refl, sym, ◌∙◌, ap, subst, arith, inl, inr, zero-add}
+use Rattle.std.proofs.Common.{◌≡◌, ℕ, ◌+◌, Bool, true, false, not, ◌||◌, cond, List, [], ◌∷◌, ◌++◌, length, slice_get, refl, sym, ◌∙◌, ap, subst, arith, inl, inr, zero-add}
 use Rattle.std.specs.Prelude.{Option, Some, None, Result, Ok, Err, IfOk, OnOk, OnErr, IsSome, is_some, ◌⊎◌}
-use Rattle.std.specs.List.{filter, find, flat_map, list_any, AllByRecursion}
+use Rattle.std.specs.List.{filter, find, flat_map, list_any}
 use Rattle.std.specs.FinMap.{empty}
 use Rattle.std.specs.Str.{bytes_eq}
 use Rattle.std.proofs.lemmas.Option.{slice_get_cases}
 use Rattle.ncq_base.specs.Keys.{times}
 use Rattle.ncq_callback.specs.Labels.{Label}
 use Rattle.ncq_script.specs.declared.command.Command.{Command}
-use Rattle.ncq_script.specs.declared.command.Command.TheVariants.{Declare, Delete, Report, Malformed}
+use Rattle.ncq_script.specs.declared.command.Command.TheVariants.{Declare, Delete, Malformed}
 use Rattle.ncq_script.specs.declared.refusal.Refusal.{Refusal}
 use Rattle.ncq_script.specs.declared.refusal.Refusal.TheVariants as refusal
 use Rattle.ncq_source.specs.declared.key.Key.{Key}
@@ -149,9 +149,6 @@ module _ (store : StoreState) (clock count creates : ℕ) (labels : List Label) 
   -- commands that are refused whatever the history
   pub malformed_refused : (why : Refusal) → result ≡ Err (Refused why) → Applies old (Malformed why) out result new out'
   malformed_refused why is = refuses old (Malformed why) why out result new out' is same untouched (λ h s. refl)
-
-  pub report_refused : result ≡ Err (Refused refusal.Unbuilt) → Applies old Report out result new out'
-  report_refused is = refuses old Report refusal.Unbuilt out result new out' is same untouched (λ h s. refl)
 
 pub not_exists : (result : Result SourceId DeclareError) (id : SourceId) → result ≡ Ok id → result ≡ Err Exists → ⊥
 not_exists result id is e = let bad : ◌≡◌ {A = Result SourceId DeclareError} (Ok id) (Err Exists) = sym is ∙ e in cc

@@ -1,11 +1,11 @@
 -- The files of an engine tell its sources at each change, behind each kind of command.
-use Rattle.std.proofs.Common.{◌≡◌, ℕ, suc, ◌+◌, ◌<◌, ◌≤◌, true, false, cond, List, [], ◌∷◌, ◌++◌, refl, sym, ◌∙◌, ap, subst, arith, inl, inr}
+use Rattle.std.proofs.Common.{◌≡◌, ℕ, ◌+◌, ◌≤◌, true, false, cond, List, [], ◌∷◌, ◌++◌, refl, sym, ◌∙◌, ap, subst, arith, inl, inr}
 use Rattle.std.specs.Prelude.{Option, Some, None, nat_le}
 use Rattle.std.specs.FinMap.{get}
 use Rattle.std.specs.List.{AllByRecursion}
 use Rattle.std.proofs.lemmas.Bool.{cases_eq, cases_lt}
 use Rattle.std.proofs.lemmas.Bool.Decides.{nat_tests}
-use Rattle.ncq_feed.specs.Feeds.{AreFed, IsFedFile, delta_by}
+use Rattle.ncq_feed.specs.Feeds.{AreFed}
 use Rattle.ncq_group.specs.Installs.{IsInstalled}
 use Rattle.ncq_group.specs.Tables.{TableState}
 use Rattle.ncq_midfile.specs.Files.{FileState}
@@ -13,7 +13,7 @@ use Rattle.ncq_midfile.specs.Content.{IsContent, gains, losses, up_to as rows_up
 use Rattle.ncq_midfile.specs.declared.signed.SignedRow.{SignedRow}
 use Rattle.ncq_base.specs.Counts.{SameCounts}
 use Rattle.ncq_plan.specs.declared.expr.Expr.{Expr}
-use Rattle.ncq_plan.specs.Exprs.{World, rows_in}
+use Rattle.ncq_plan.specs.Exprs.{rows_in}
 use Rattle.ncq_row.specs.Embeddings.{Row}
 use Rattle.ncq_script.specs.declared.command.Command.{Command}
 use Rattle.ncq_shelf.specs.KeptFiles.{KeptFile, Files}

@@ -1,6 +1,6 @@
 -- A create that is accepted, from what the calls give.
 use Rattle.std.proofs.Common.{◌≡◌, ℕ, ◌+◌, ◌<◌, ◌≤◌, ◌-◌, ◌^◌, false, List, [], ◌∷◌, ◌++◌, map, length, refl, sym, ◌∙◌, ap, subst, arith}
-use Rattle.std.specs.Prelude.{Some, None, Ok, is_some, nat_lt, IsSome}
+use Rattle.std.specs.Prelude.{Ok, is_some, nat_lt, IsSome}
 use Rattle.std.specs.List.{flat_map, list_any, AllByRecursion}
 use Rattle.std.specs.Str.{bytes_eq}
 use Rattle.ncq_base.specs.declared.atom.FileId.{FileId}
@@ -15,7 +15,7 @@ use Rattle.ncq_event.specs.declared.firing.Firing.{Firing}
 use Rattle.ncq_event.specs.declared.timing.Timing.{Timing}
 use Rattle.ncq_event.specs.Instants.{is_expired}
 use Rattle.ncq_group.specs.Installs.{IsInstalled}
-use Rattle.ncq_group.specs.Tables.{TableState, Facts}
+use Rattle.ncq_group.specs.Tables.{Facts}
 use Rattle.ncq_plan.specs.declared.expr.Expr.{Expr}
 use Rattle.ncq_plan.specs.declared.query.NormalQuery.{NormalQuery}
 use Rattle.ncq_plan.specs.Plans.{plan_of}
@@ -24,8 +24,7 @@ use Rattle.ncq_plan.proofs.PlanFits.{plan_is_well_formed}
 use Rattle.ncq_roll.specs.Rolls.{HasJoined, RollState}
 use Rattle.ncq_script.specs.declared.command.Command.TheVariants.{Create}
 use Rattle.ncq_shelf.specs.Contents.{AreUpTo, Fits}
-use Rattle.ncq_source.specs.StoreStates.{StoreState, found}
-use Rattle.ncq_engine.specs.Firing.{sources_of}
+use Rattle.ncq_source.specs.StoreStates.{StoreState}
 use Rattle.ncq_xmlql.specs.declared.model.Statement.{Statement}
 use Rattle.ncq_xmlql.specs.WellFormed.{IsWellFormed as IsWhole}
 use Rattle.ncq_engine.specs.declared.engine.Applied.{Applied}

@@ -1,7 +1,6 @@
 -- What the engine stands for behind a create.
-use Rattle.std.proofs.Common.{◌≡◌, ℕ, ◌+◌, ◌<◌, ◌≤◌, max, Bool, true, false, ◌&&◌, ◌==◌, cond, List, [], ◌∷◌, ◌++◌, map, length, refl, sym, ◌∙◌, ap, subst, arith, zero-add}
+use Rattle.std.proofs.Common.{◌≡◌, ℕ, ◌+◌, ◌<◌, ◌≤◌, Bool, true, false, ◌&&◌, ◌==◌, List, [], ◌∷◌, ◌++◌, map, length, refl, sym, ◌∙◌, ap, subst, arith, zero-add}
 use Rattle.std.specs.Prelude.{Option, Some, None, Result, Ok, Err, if◌then◌else◌, IfSome, nat_le, nat_lt, is_some}
-use Rattle.std.specs.Option.{unwrap_or}
 use Rattle.std.proofs.lemmas.Bool.Decides.{nat_tests}
 use Rattle.std.proofs.lemmas.List.{append-nil}
 use Rattle.std.specs.List.{flat_map, list_any, AllByRecursion}
@@ -15,8 +14,6 @@ use Rattle.ncq_bind.specs.declared.binding.BindError.TheVariants as binding
 use Rattle.ncq_callback.specs.Labels.{Label}
 use Rattle.ncq_change.specs.Stores.{world_in}
 use Rattle.ncq_event.specs.Calendars.{firing_at}
-use Rattle.ncq_event.specs.declared.firing.Firing.{Firing}
-use Rattle.ncq_event.specs.declared.timing.Timing.{Timing}
 use Rattle.ncq_event.specs.Instants.{is_expired}
 use Rattle.ncq_event.specs.Orders.{ordered_by}
 use Rattle.ncq_group.specs.Installs.{IsInstalled}
@@ -24,7 +21,6 @@ use Rattle.ncq_group.specs.Tables.{TableState}
 use Rattle.ncq_plan.specs.declared.query.NormalQuery.{NormalQuery}
 use Rattle.ncq_plan.specs.Plans.{plan_of}
 use Rattle.ncq_shelf.specs.Contents.{AreUpTo, Fits}
-use Rattle.ncq_shelf.specs.KeptFiles.{Files}
 use Rattle.ncq_script.specs.declared.command.Command.{Command}
 use Rattle.ncq_script.specs.declared.command.Command.TheVariants.{Create}
 use Rattle.ncq_script.specs.declared.refusal.Refusal.{Refusal}
@@ -37,20 +33,19 @@ use Rattle.ncq_engine.specs.declared.engine.Applied.{Applied}
 use Rattle.ncq_engine.specs.declared.engine.ApplyError.{ApplyError}
 use Rattle.ncq_engine.specs.declared.engine.ApplyError.TheVariants.{Refused}
 use Rattle.ncq_book.specs.declared.member.Member.{Member}
-use Rattle.ncq_book.specs.Books.{InstallsRise, is_of, member_of}
+use Rattle.ncq_book.specs.Books.{member_of}
 use Rattle.ncq_engine.specs.Applies.{Applies, error_of, kind_at, ok_text, query_refusal, refused_query}
 use Rattle.ncq_engine.specs.Engines.{CanTell, InstallsAreUpTo, Pairwise, Told, fired_if, new_member, told_at}
-use Rattle.ncq_engine.specs.Firing.{fires, is_new, mark, sources_of}
-use Rattle.ncq_engine.specs.History.{History, Subscription, changes, created, creates as creates_of, is_named, last_change, live, now, sources, start_of, world}
+use Rattle.ncq_engine.specs.Firing.{fires, is_new}
+use Rattle.ncq_engine.specs.History.{History, Subscription, changes, created, creates as creates_of, is_named, live, now, sources, start_of, world}
 use Rattle.ncq_engine.specs.Languages.{binding_refusal, language_of}
-use Rattle.ncq_engine.specs.Marks.{first_mark, noted}
-use Rattle.ncq_engine.specs.Notices.{fired_at, firings, kind_in, notice_at, told}
+use Rattle.ncq_engine.specs.Marks.{noted}
+use Rattle.ncq_engine.specs.Notices.{firings, kind_in, notice_at, told}
 use Rattle.ncq_engine.specs.Output.{first_refusal, is_at_odds, notices, or_else, refused_if}
 use Rattle.ncq_engine.specs.Joins.{timed}
 use Rattle.ncq_engine.specs.Stands.{AreContents, EngineState, Follows, Keeps}
-use Rattle.ncq_engine.specs.Tellings.{firing_text, has_started, noted_by, started_at}
+use Rattle.ncq_engine.specs.Tellings.{has_started, started_at}
 use Rattle.ncq_engine.proofs.ByInstall.{firings_of, found_first, found_behind}
-use Rattle.ncq_engine.proofs.ChangeLaws.{some_if}
 use Rattle.ncq_engine.proofs.CommandLaws.{engine}
 use Rattle.ncq_engine.proofs.ContentLaws.{contents_installed}
 use Rattle.ncq_engine.proofs.EngineLaws.{accepts, gives_up, pairwise_any, refuses, rises_quietly}

@@ -19,7 +19,7 @@ use Rattle.ncq_engine.specs.History.{History, Subscription, moved, now}
 use Rattle.ncq_engine.specs.Marks.{IsRising}
 use Rattle.ncq_engine.specs.Languages.{language_of}
 use Rattle.ncq_engine.specs.Notices.{fired_at, notice_at, told}
-use Rattle.ncq_engine.specs.Output.{expired_text, first_refusal, notices}
+use Rattle.ncq_engine.specs.Output.{closing_text, first_refusal, notices}
 use Rattle.ncq_engine.specs.Stands.{EngineState, Follows, Keeps}
 use Rattle.ncq_engine.proofs.Keeping.{keeps_quiet}
 
@@ -41,7 +41,7 @@ pub record Tells (old : EngineState) (command : Command) (new : EngineState) (te
   pub accepted : (h : History) → Follows old h → (first_refusal (language_of old.labels) h command ≡ None) × Follows new (command ∷ h)
   pub tells : (h : History) → Follows old h → text ≡ notices (language_of old.labels) h command
   pub counts : (h : History) → Follows old h → count ≡ times (λ fired. nat_lt 0 (length (notice_at (language_of old.labels) h command fired))) (told h command)
-  pub ends : (h : History) → Follows old h → rest ≡ expired_text command h
+  pub ends : (h : History) → Follows old h → rest ≡ closing_text (language_of old.labels) command h
   pub counted : new.count ≡ old.count + 1
   pub named : new.labels ≡ old.labels
 

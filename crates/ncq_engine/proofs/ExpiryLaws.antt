@@ -3,9 +3,9 @@ use Rattle.std.proofs.Common.{◌≡◌, ℕ, ◌-◌, ◌||◌, Bool, true, fal
 use Rattle.std.specs.Prelude.{Option, Some, None, nat_eq, IfSome}
 use Rattle.std.specs.FinMap.{get}
 use Rattle.std.proofs.lemmas.Bool.{cases_eq}
-use Rattle.std.specs.List.{filter, flat_map, list_any, AllByRecursion}
+use Rattle.std.specs.List.{filter, flat_map, list_any}
 use Rattle.ncq_book.specs.declared.member.Member.{Member}
-use Rattle.ncq_book.specs.Books.{InstallsRise, is_of, member_of, timing_of}
+use Rattle.ncq_book.specs.Books.{InstallsRise, is_of, timing_of}
 use Rattle.ncq_group.specs.Releases.{IsReleased, with_use_less}
 use Rattle.ncq_roll.specs.Rolls.{RollState}
 use Rattle.ncq_shelf.specs.KeptFiles.{KeptFile, Files}

@@ -1,12 +1,10 @@
 -- The firings that the book tells, against the members that fire.
-use Rattle.std.proofs.Common.{◌≡◌, ℕ, ◌+◌, Bool, true, false, ◌&&◌, ◌||◌, ◌==◌, cond, List, [], ◌∷◌, ◌++◌, map, length, slice_get, refl, sym, ◌∙◌, ap, arith}
-use Rattle.std.specs.Prelude.{Option, Some, None, if◌then◌else◌, nat_eq, nat_le, nat_lt, IsSome, is_some}
-use Rattle.std.proofs.lemmas.Bool.Decides.{nat_tests}
-use Rattle.std.specs.List.{filter, flat_map, list_any, AllByRecursion}
-use Rattle.std.specs.Str.{bytes_eq}
+use Rattle.std.proofs.Common.{◌≡◌, ℕ, ◌+◌, Bool, true, false, cond, List, [], ◌∷◌, ◌++◌, map, length, refl, sym, ◌∙◌, ap}
+use Rattle.std.specs.Prelude.{Option, Some, None, if◌then◌else◌, nat_lt}
+use Rattle.std.specs.List.{filter, flat_map}
 use Rattle.ncq_base.specs.Keys.{times}
 use Rattle.ncq_book.specs.declared.member.Member.{Member}
-use Rattle.ncq_book.specs.Books.{InstallsRise, member_of, timing_of, watchers_of, watches}
+use Rattle.ncq_book.specs.Books.{InstallsRise, member_of, timing_of}
 use Rattle.ncq_callback.specs.Labels.{Label}
 use Rattle.ncq_event.specs.declared.firing.Firing.{Firing}
 use Rattle.ncq_event.specs.Calendars.{due_firings, due_of, firing_at}
@@ -16,7 +14,7 @@ use Rattle.ncq_event.proofs.OrderLaws.{order_unique, ordered_rising, ordered_tim
 use Rattle.ncq_event.proofs.CalendarLaws.{filter_rising, times_kept}
 use Rattle.ncq_source.specs.StoreStates.{StoreState}
 use Rattle.ncq_engine.specs.Engines.{Told, has_news_in, mark_in, moved_instant, told_at, told_text}
-use Rattle.ncq_engine.specs.Tellings.{firing_text, has_started, has_its_news, is_news_at, started_at, text_of}
+use Rattle.ncq_engine.specs.Tellings.{firing_text, has_its_news, is_news_at, text_of}
 use Rattle.ncq_engine.proofs.ByInstall.{AreFound, firings_of, found_each}
 use Rattle.ncq_engine.proofs.Lists.{filter_append}
 use Rattle.ncq_engine.proofs.ToldLaws.{order_made, times_ordered, told_of}

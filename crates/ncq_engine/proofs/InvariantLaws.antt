@@ -1,13 +1,11 @@
 -- What holds of an engine whatever was answered, behind each step of the code.
-use Rattle.std.proofs.Common.{◌≡◌, ℕ, zero, suc, ◌+◌, ◌*◌, ◌<◌, ◌≤◌, Bool, true, false, ◌||◌, cond, List, [], ◌∷◌, ◌++◌, map, length, slice_get, get_or, refl, sym, ◌∙◌, ap, subst, arith}
-use Rattle.std.specs.Prelude.{Some, None, not, nat_eq, if◌then◌else◌}
+use Rattle.std.proofs.Common.{◌≡◌, ℕ, zero, suc, ◌+◌, ◌*◌, ◌<◌, ◌≤◌, Bool, true, false, cond, List, [], ◌∷◌, ◌++◌, map, slice_get, refl, sym, ◌∙◌, ap, subst, arith}
+use Rattle.std.specs.Prelude.{Some, not, nat_eq}
 use Rattle.std.specs.List.{filter, list_any, position, AllByRecursion}
 use Rattle.std.specs.Str.{bytes_eq}
-use Rattle.std.specs.FinMap.{empty}
 use Rattle.ncq_change.specs.Stores.{kept_in, world_in}
 use Rattle.ncq_change.specs.Entries.{after_in, world_of}
 use Rattle.ncq_change.proofs.CommitLaws.{commits_after, found_name}
-use Rattle.ncq_event.specs.declared.firing.Firing.{Firing}
 use Rattle.ncq_feed.specs.Feeds.{AreFed, IsPreparedFrom, name_at, name_in, world_after}
 use Rattle.ncq_group.specs.Installs.{IsInstalled}
 use Rattle.ncq_group.specs.Tables.{TableState}
@@ -26,11 +24,11 @@ use Rattle.ncq_source.specs.Changes.{Chains}
 use Rattle.ncq_source.specs.Prepared.{IsPrepared}
 use Rattle.ncq_source.specs.declared.key.Key.{Key}
 use Rattle.ncq_source.specs.Stores.{Source as Declared, without_room}
-use Rattle.ncq_source.specs.StoreStates.{StoreState, At, Declares, IsAlike, IsCommitted, found, names}
+use Rattle.ncq_source.specs.StoreStates.{StoreState, At, Declares, IsAlike, IsCommitted, found}
 use Rattle.ncq_book.specs.declared.member.Member.{Member}
 use Rattle.ncq_book.specs.Books.{InstallsRise}
-use Rattle.ncq_engine.specs.Engines.{CanTell, InstallsAreUpTo, IsEngine, fired_if, last_in, noted_at}
-use Rattle.ncq_engine.specs.History.{Source, world}
+use Rattle.ncq_engine.specs.Engines.{CanTell, InstallsAreUpTo, IsEngine, fired_if, last_in}
+use Rattle.ncq_engine.specs.History.{world}
 use Rattle.ncq_engine.specs.Stands.{EngineState, content_of}
 use Rattle.ncq_engine.specs.Tellings.{AreOf, IsLeftBy}
 use Rattle.ncq_engine.proofs.HistoryLaws.{key_is}

@@ -1,16 +1,15 @@
 -- What is kept of a subscription stays its own behind a command, with what is written down of its firing.
-use Rattle.std.proofs.Common.{◌≡◌, ℕ, ◌≤◌, max, Bool, true, false, ◌==◌, List, [], ◌∷◌, map, refl, sym, ◌∙◌, ap, subst, arith, true≢false}
-use Rattle.std.specs.Prelude.{Option, Some, None, nat_le, is_some, if◌then◌else◌}
+use Rattle.std.proofs.Common.{◌≡◌, ℕ, ◌≤◌, max, Bool, true, false, ◌==◌, List, [], ◌∷◌, map, refl, sym, ◌∙◌, ap, arith, true≢false}
+use Rattle.std.specs.Prelude.{Option, Some, None, is_some, if◌then◌else◌}
 use Rattle.std.specs.Option.{option_map}
-use Rattle.std.proofs.lemmas.Bool.Decides.{nat_tests}
 use Rattle.ncq_callback.specs.Labels.{Label}
 use Rattle.ncq_script.specs.declared.command.Command.{Command}
 use Rattle.ncq_source.specs.StoreStates.{StoreState}
 use Rattle.ncq_book.specs.declared.member.Member.{Member}
-use Rattle.ncq_engine.specs.Engines.{Pairwise, fired_if, last_in, latest_in, mark_in, noted_at}
+use Rattle.ncq_engine.specs.Engines.{Pairwise, fired_if, last_in, latest_in, mark_in}
 use Rattle.ncq_engine.specs.Firing.{fires, mark, marked, sources_of}
 use Rattle.ncq_engine.specs.History.{History, Subscription, changes, last_change}
-use Rattle.ncq_engine.specs.Marks.{IsRising, first_mark, first_marked, latest_change, mark_from, noted}
+use Rattle.ncq_engine.specs.Marks.{IsRising, first_mark, first_marked, latest_change, noted}
 use Rattle.ncq_engine.specs.Stands.{Keeps}
 use Rattle.ncq_engine.proofs.MarkLaws.{marks_follow}
 

@@ -36,3 +36,6 @@ pub mod CreateAnswers
 pub mod WorkLaws
 pub mod QuietLaws
 pub mod FedTexts
+pub mod PartLaws
+pub mod ReportLaws
+pub mod ReportAnswers

@@ -1,7 +1,6 @@
 -- What a firing tells: the text of the notice, and the mark that follows from what is written down.
-use Rattle.std.proofs.Common.{◌≡◌, ℕ, zero, suc, ◌<◌, ◌≤◌, max, Bool, true, false, not, List, [], ◌∷◌, ◌++◌, length, take, get_or, ◌+◌, refl, sym, ◌∙◌, ap, subst, arith}
-use Rattle.std.specs.Prelude.{Option, Some, None, nat_lt, ◌==◌, slice_get, IfSome, if◌then◌else◌}
-use Rattle.std.specs.FinMap.{get}
+use Rattle.std.proofs.Common.{◌≡◌, ℕ, zero, suc, ◌<◌, ◌≤◌, max, true, false, List, [], ◌∷◌, ◌++◌, length, refl, sym, ◌∙◌, ap, subst, arith}
+use Rattle.std.specs.Prelude.{Option, ◌==◌, slice_get, IfSome}
 use Rattle.std.specs.List.{AllByRecursion}
 use Rattle.std.specs.Option.{option_map}
 use Rattle.ncq_bag.specs.declared.bag.Difference.{Difference}
@@ -10,7 +9,6 @@ use Rattle.std.proofs.lemmas.Bool.Decides.{nat_tests}
 use Rattle.ncq_callback.specs.Labels.{Label}
 use Rattle.ncq_callback.specs.Texts.{render}
 use Rattle.ncq_callback.specs.declared.notice.Kind.{Kind}
-use Rattle.ncq_callback.specs.declared.notice.Kind.TheVariants.{Print, Count, MailTo}
 use Rattle.ncq_book.specs.declared.member.Member.{Member}
 use Rattle.ncq_midfile.specs.Content.{IsSoundAt}
 use Rattle.ncq_midfile.specs.Files.{FileState}

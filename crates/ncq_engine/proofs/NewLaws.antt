@@ -1,7 +1,6 @@
 -- A new engine: nothing is declared, nobody is there, and no file.
-use Rattle.std.proofs.Common.{◌≡◌, ℕ, ◌*◌, ◌≤◌, List, [], refl, sym, ◌∙◌, ap, subst, arith}
-use Rattle.std.specs.Prelude.{None}
-use Rattle.std.specs.FinMap.{empty, get}
+use Rattle.std.proofs.Common.{◌≡◌, ℕ, ◌*◌, ◌≤◌, List, [], refl, sym, subst, arith}
+use Rattle.std.specs.FinMap.{empty}
 use Rattle.ncq_book.specs.declared.member.Member.{Member}
 use Rattle.ncq_callback.specs.Labels.{Label}
 use Rattle.ncq_group.specs.Tables.{TableState}
@@ -9,7 +8,7 @@ use Rattle.ncq_group.proofs.Empty.{nothing_there}
 use Rattle.ncq_roll.specs.Shares.{Shares}
 use Rattle.ncq_source.specs.StoreStates.{StoreState}
 use Rattle.ncq_engine.specs.Engines.{IsEngine, last_in}
-use Rattle.ncq_engine.specs.Stands.{EngineState, Follows, Stands}
+use Rattle.ncq_engine.specs.Stands.{Follows, Stands}
 use Rattle.ncq_engine.proofs.CommandLaws.{engine}
 
 abbrev nothing : StoreState

@@ -1,10 +1,9 @@
 -- What a member is told is what the notice of its subscription says.
-use Rattle.std.proofs.Common.{◌≡◌, ℕ, ◌≤◌, true, List, [], ◌∷◌, map, refl, sym, ◌∙◌, ap, subst, arith}
+use Rattle.std.proofs.Common.{◌≡◌, ℕ, ◌≤◌, true, List, [], ◌∷◌, map, refl, ◌∙◌, ap, subst, arith}
 use Rattle.std.specs.Prelude.{Option, Some, None, Ok, IfSome, nat_le}
 use Rattle.std.specs.List.{filter}
 use Rattle.std.proofs.lemmas.Bool.Decides.{nat_tests}
 use Rattle.ncq_bag.specs.Bags.{difference}
-use Rattle.ncq_bag.specs.declared.bag.Difference.{Difference}
 use Rattle.ncq_bind.specs.Answers.{answer}
 use Rattle.ncq_bind.specs.Bindings.{Binds, Roots}
 use Rattle.ncq_bind.proofs.AnswerLaws.{plan_answers}

@@ -1,21 +1,20 @@
 -- Who is live, fires at changes and has started has fired: so a change is never a first firing, and nothing has to be written down at it.
-use Rattle.std.proofs.Common.{◌≡◌, ℕ, ◌+◌, ◌-◌, ◌%◌, ◌<◌, ◌≤◌, max, Bool, true, false, not, ◌&&◌, ◌==◌, cond, List, [], ◌∷◌, ◌++◌, refl, sym, ◌∙◌, ap, arith, true≢false, inl, inr}
-use Rattle.std.specs.Prelude.{Option, Some, None, nat_le, nat_lt, if◌then◌else◌}
+use Rattle.std.proofs.Common.{◌≡◌, ℕ, ◌-◌, ◌%◌, ◌<◌, ◌≤◌, Bool, true, false, not, ◌&&◌, ◌==◌, cond, List, [], ◌∷◌, refl, sym, ◌∙◌, arith, true≢false, inl, inr}
+use Rattle.std.specs.Prelude.{Option, Some, None, nat_le, if◌then◌else◌}
 use Rattle.std.specs.List.{filter, list_any, AllByRecursion}
 use Rattle.std.specs.Str.{bytes_eq}
 use Rattle.std.proofs.lemmas.Bool.{cases_lt}
 use Rattle.std.proofs.lemmas.Bool.Decides.{nat_tests}
-use Rattle.ncq_base.proofs.Tests.{both_true}
 use Rattle.ncq_script.specs.declared.command.Command.{Command}
 use Rattle.ncq_script.specs.declared.command.Command.TheVariants.{Declare, Delta, Create, Delete, Clock, Report, Malformed}
 use Rattle.ncq_event.specs.declared.timing.Timing.{Timing}
-use Rattle.ncq_event.specs.Instants.{due, is_expired, is_instant, is_past, IsDue}
+use Rattle.ncq_event.specs.Instants.{due, is_expired, is_instant, is_past}
 use Rattle.ncq_event.proofs.DueLaws.{due_none}
 use Rattle.ncq_xmlql.specs.declared.model.Statement.{Statement}
-use Rattle.ncq_engine.specs.History.{History, moved, now, changes, creates, Subscription, created, is_named, live, start_of, timing_of}
-use Rattle.ncq_engine.specs.Firing.{fires, fires_at, has_news, is_installed, is_new, is_told_of, mark, marked, sources_of}
+use Rattle.ncq_engine.specs.History.{History, now, changes, creates, Subscription, created, is_named, live, start_of, timing_of}
+use Rattle.ncq_engine.specs.Firing.{fires, has_news, is_installed, is_new, is_told_of, mark, marked, sources_of}
 use Rattle.ncq_engine.specs.Marks.{first_mark, first_marked, noted}
-use Rattle.ncq_engine.proofs.HistoryLaws.{Installed, installed}
+use Rattle.ncq_engine.proofs.HistoryLaws.{installed}
 use Rattle.ncq_engine.proofs.Lists.{each_both, each_filter, each_more, each_push}
 
 -- it has a number of a first firing

@@ -1,13 +1,11 @@
 -- Members that can be told stay so: behind a change of the store, of the files, and of what is written down.
-use Rattle.std.proofs.Common.{◌≡◌, ◌≢◌, ℕ, ◌+◌, ◌<◌, ◌≤◌, max, Bool, true, false, ◌==◌, List, [], ◌∷◌, ◌++◌, map, length, refl, sym, ◌∙◌, ap, subst, arith, inl, inr}
+use Rattle.std.proofs.Common.{◌≡◌, ℕ, ◌+◌, ◌<◌, ◌≤◌, max, Bool, true, false, ◌==◌, List, [], ◌∷◌, length, refl, sym, ◌∙◌, ap, subst, arith, inl, inr}
 use Rattle.std.specs.Prelude.{Option, Some, None, IfSome, if◌then◌else◌}
 use Rattle.std.specs.FinMap.{get}
 use Rattle.std.specs.Option.{option_map}
-use Rattle.std.specs.List.{AllByRecursion}
 use Rattle.std.proofs.lemmas.Bool.{cases_eq}
 use Rattle.ncq_book.specs.declared.member.Member.{Member}
 use Rattle.ncq_callback.specs.Labels.{Label}
-use Rattle.ncq_change.specs.Stores.{world_in}
 use Rattle.ncq_feed.specs.Feeds.{AreFed}
 use Rattle.ncq_feed.proofs.ContentLaws.{content_sound, up_before}
 use Rattle.std.specs.FinMap.{same_map, nat_cmp-IsAntisymmetric}
@@ -26,9 +24,8 @@ use Rattle.ncq_shelf.specs.Contents.{AreUpTo, Fits, cut_to}
 use Rattle.ncq_midfile.specs.declared.signed.SignedRow.{SignedRow}
 use Rattle.ncq_source.specs.ChangeStates.{ChangeState}
 use Rattle.ncq_source.specs.StoreStates.{StoreState}
-use Rattle.ncq_engine.specs.Engines.{CanTell, fired_if, last_in, latest_in, mark_in, noted_at}
+use Rattle.ncq_engine.specs.Engines.{CanTell, fired_if, last_in, latest_in, mark_in}
 use Rattle.ncq_engine.specs.Tellings.{AreOf}
-use Rattle.ncq_engine.proofs.Lists.{each_both, each_more}
 
 -- files that tell a world are sound
 pub fits_sound : (now : ℕ) (w : World) (files : Files) → Fits now w files → (number : ℕ) (file : KeptFile) → get files number ≡ Some file → IsSoundAt now file.content.rows

@@ -1,11 +1,11 @@
 -- A loop over firings that appends their notices: what is made so far, with one more.
 use Rattle.std.proofs.Common.{◌≡◌, ℕ, zero, suc, ◌+◌, ◌<◌, ◌≤◌, Bool, true, false, cond, List, [], ◌∷◌, ◌++◌, map, length, take, get_or, refl, sym, ◌∙◌, ap, subst, arith, append_assoc, length-append, true≢false}
-use Rattle.std.specs.Prelude.{Option, Some, None, IfSome, IsSome, is_some, if◌then◌else◌, nat_lt, ◌==◌}
+use Rattle.std.specs.Prelude.{Option, Some, None, IsSome, is_some, if◌then◌else◌, nat_lt}
 use Rattle.std.specs.Borrow.{Bor}
 use Rattle.std.specs.Option.{option_copied}
 use Rattle.std.proofs.lemmas.Bool.Decides.{nat_tests}
 use Rattle.std.proofs.lemmas.List.{append-nil, length-take-le}
-use Rattle.std.specs.List.{find, flat_map, AllByRecursion}
+use Rattle.std.specs.List.{flat_map, AllByRecursion}
 use Rattle.ncq_base.specs.Keys.{times}
 use Rattle.ncq_book.specs.declared.member.Member.{Member}
 use Rattle.ncq_book.specs.Books.{is_of, member_of}
@@ -15,7 +15,7 @@ use Rattle.ncq_source.specs.StoreStates.{StoreState}
 use Rattle.ncq_engine.specs.Engines.{Pairwise, told_text}
 use Rattle.ncq_shelf.specs.KeptFiles.{Files}
 use Rattle.ncq_engine.specs.Tellings.{firing_text, text_of}
-use Rattle.ncq_engine.proofs.Lists.{each_push, flat_map_append, times_push}
+use Rattle.ncq_engine.proofs.Lists.{flat_map_append, times_push}
 
 pub pairwise_push : {A B : Type 0} (R : A → B → Type 0) (xs : List A) (ys : List B) (x : A) (y : B) → Pairwise R xs ys → R x y → Pairwise R (xs ++ x ∷ []) (ys ++ y ∷ [])
 pairwise_push R [] [] x y h r = (r, tt)

@@ -73,10 +73,10 @@ find_none number (e ∷ es) low =
 
 -- the entries of files, each found by its number, have distinct expressions
 module _ (files : Files) (grounded : IsGrounded files) where
-  abbrev IsThere : ℕ × KeptFile → Type 0
+  abbrev pub IsThere : ℕ × KeptFile → Type 0
   IsThere entry = get files entry.0 ≡ Some entry.1
 
-  all_there : (es : List (ℕ × KeptFile)) → is_sorted nat_cmp es ≡ true → ((number : ℕ) (file : KeptFile) → find nat_cmp number es ≡ Some file → get files number ≡ Some file) → AllByRecursion IsThere es
+  pub all_there : (es : List (ℕ × KeptFile)) → is_sorted nat_cmp es ≡ true → ((number : ℕ) (file : KeptFile) → find nat_cmp number es ≡ Some file → get files number ≡ Some file) → AllByRecursion IsThere es
   all_there [] sorted is = tt
   all_there (e ∷ es) sorted is =
       let b = both_true (below_all nat_cmp e.0 es) (is_sorted nat_cmp es) sorted in
@@ -87,7 +87,7 @@ module _ (files : Files) (grounded : IsGrounded files) where
       later number file at low (inr differs) = find_behind number e es differs ∙ at
 
   -- a file has not the expression of one with a greater number
-  apart_exprs : (e : ℕ × KeptFile) (es : List (ℕ × KeptFile)) → IsThere e → below_all nat_cmp e.0 es ≡ true → AllByRecursion IsThere es → AllByRecursion (λ x. e.1.expr ≢ x.1.expr) es
+  pub apart_exprs : (e : ℕ × KeptFile) (es : List (ℕ × KeptFile)) → IsThere e → below_all nat_cmp e.0 es ≡ true → AllByRecursion IsThere es → AllByRecursion (λ x. e.1.expr ≢ x.1.expr) es
   apart_exprs e [] at low all = tt
   apart_exprs e (x ∷ es) at low all =
       let b = both_true (is_lt (nat_cmp e.0 x.0)) (below_all nat_cmp e.0 es) low in (

@@ -1,9 +1,9 @@
 -- An engine and its subscriptions, as contracts see them, and what a firing makes of a
 -- subscription.
-use Rattle.std.specs.Prelude.{◌≡◌, ◌<◌, ◌≤◌, ◌==◌, ◌&&◌, ℕ, Bool, true, false, if◌then◌else◌}
+use Rattle.std.specs.Prelude.{◌≡◌, ◌<◌, ◌≤◌, ◌==◌, ◌&&◌, ℕ, Bool, true, if◌then◌else◌}
 use Rattle.std.specs.Prelude.{List, [], max, ◌*◌}
 use Rattle.std.specs.Prelude.{◌∷◌, length}
-use Rattle.std.specs.Prelude.{Option, Some, None, nat_lt, nat_le, slice_get, map, ◌+◌, IfSome}
+use Rattle.std.specs.Prelude.{Option, Some, None, nat_lt, nat_le, slice_get, ◌+◌, IfSome}
 use Rattle.std.specs.FinMap.{get}
 use Rattle.std.specs.Option.{option_map, unwrap_or}
 use Rattle.std.specs.List.{list_any, AllByRecursion}
@@ -20,10 +20,9 @@ use Rattle.ncq_plan.specs.WellFormed.{IsWellFormed}
 use Rattle.ncq_midfile.specs.Content.{IsSoundAt}
 use Rattle.ncq_midfile.specs.declared.signed.SignedRow.{SignedRow}
 use Rattle.ncq_shelf.specs.KeptFiles.{KeptFile, Files}
-use Rattle.ncq_shelf.specs.Stands.{Stands as HasFile}
 use Rattle.ncq_shelf.specs.Contents.{Fits}
 use Rattle.ncq_group.specs.Tables.{TableState}
-use Rattle.ncq_source.specs.StoreStates.{StoreState, found}
+use Rattle.ncq_source.specs.StoreStates.{StoreState}
 use Rattle.ncq_source.specs.Stores.{Source}
 use Rattle.ncq_book.specs.declared.member.Member.{Member}
 use Rattle.ncq_book.specs.Books.{InstallsRise}

@@ -1,20 +1,16 @@
 -- A subscription that a create makes, where nothing refuses it.
-use Rattle.std.specs.Prelude.{◌≡◌, ◌<◌, ℕ, Bool, false, map, Some, Ok, length}
+use Rattle.std.specs.Prelude.{◌≡◌, ◌<◌, ℕ, false, Ok, length}
 use Rattle.std.specs.List.{list_any}
 use Rattle.std.specs.Str.{bytes_eq}
-use Rattle.ncq_base.specs.declared.atom.FileId.{FileId}
 use Rattle.ncq_bind.specs.Bindings.{Binds, roots_in}
 use Rattle.ncq_book.specs.declared.member.Member.{Member}
 use Rattle.ncq_event.specs.declared.timing.Timing.{Timing}
 use Rattle.ncq_event.specs.Instants.{is_expired}
-use Rattle.ncq_plan.specs.declared.query.NormalQuery.{NormalQuery}
 use Rattle.ncq_plan.specs.WellFormed.{IsWellFormed}
-use Rattle.ncq_source.specs.StoreStates.{found}
 use Rattle.ncq_xmlql.specs.declared.model.Statement.{Statement}
 use Rattle.ncq_xmlql.specs.WellFormed.{IsWellFormed as IsWhole}
 use Rattle.ncq_engine.specs.Applies.{kind_at}
 use Rattle.ncq_engine.specs.Engines.{new_member}
-use Rattle.ncq_engine.specs.Firing.{sources_of}
 use Rattle.ncq_engine.specs.History.{start_of}
 use Rattle.ncq_engine.specs.Notices.{kind_in}
 use Rattle.ncq_engine.specs.Output.{is_at_odds}

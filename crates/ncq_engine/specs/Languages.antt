@@ -1,10 +1,13 @@
--- The language of this engine: what queries answer, which of them bind, and its handlers.
+-- The language of this engine: what queries answer, which of them bind, their plans, and its
+-- handlers.
 use Rattle.std.specs.Prelude.{if◌then◌else◌, List, Option, Some, None}
 use Rattle.std.specs.Option.{option_map}
 use Rattle.ncq_bind.specs.Answers.{answer}
 use Rattle.ncq_bind.specs.Bindings.{Roots, are_declared, have_roots}
 use Rattle.ncq_bind.specs.Bound.{query_is_bound}
+use Rattle.ncq_bind.specs.NormalQueries.{normal_query}
 use Rattle.ncq_callback.specs.Labels.{Label}
+use Rattle.ncq_plan.specs.Plans.{plan_of}
 use Rattle.ncq_script.specs.declared.refusal.Refusal.{Refusal}
 use Rattle.ncq_script.specs.declared.refusal.Refusal.TheVariants as refusal
 use Rattle.ncq_xmlql.specs.declared.model.Query.{Query}
@@ -29,5 +32,6 @@ abbrev pub language_of : List Label → Language
 language_of labels = record {
   answer = answer;
   binding = λ query sources. binding_refusal query (roots_of sources);
+  plan = λ query. plan_of (normal_query query);
   handlers = labels;
 }

@@ -1,6 +1,7 @@
 pub mod History
 pub mod Firing
 pub mod Notices
+pub mod Reports
 pub mod Output
 pub mod Alone
 pub mod Marks
@@ -11,3 +12,4 @@ pub mod Applies
 pub mod Tellings
 pub mod Joins
 pub mod Works
+pub mod Summaries

@@ -15,16 +15,19 @@ use Rattle.ncq_script.specs.declared.command.Command.TheVariants.{Create}
 use Rattle.ncq_script.specs.declared.refusal.Refusal.{Refusal}
 use Rattle.ncq_event.specs.declared.firing.Firing.{Firing}
 use Rattle.ncq_event.specs.Orders.{ordered_by}
+use Rattle.ncq_plan.specs.declared.expr.Expr.{Expr}
 use Rattle.ncq_plan.specs.Exprs.{World}
 use Rattle.ncq_engine.specs.History.{History, Source, sources, world, up_to, Subscription, created}
 use Rattle.ncq_engine.specs.History.{live}
 use Rattle.ncq_engine.specs.Firing.{mark, fires}
 
 -- what the history leaves to the crates below: the answer of a query over a world, the refusal of
--- binding a query to the declared sources, and the kind of the handler of each name
+-- binding a query to the declared sources, the plan of a query that binds, and the kind of the
+-- handler of each name
 pub record Language : Type 0 where
   pub answer : Query → World → List (List Node)
   pub binding : Query → List Source → Option Refusal
+  pub plan : Query → Expr
   pub handlers : List (List ℕ × Kind)
 
 -- the kind of the handler of this name

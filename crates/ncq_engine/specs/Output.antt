@@ -20,6 +20,8 @@ use Rattle.ncq_event.specs.Instants.{is_past, is_expired}
 use Rattle.ncq_engine.specs.History.{History, Source, now, sources, source_in, Subscription}
 use Rattle.ncq_engine.specs.History.{start_of, timing_of, is_named, live}
 use Rattle.ncq_engine.specs.Notices.{Language, kind_in, notice_at, told}
+use Rattle.ncq_engine.specs.Reports.{summary}
+use Rattle.ncq_report.specs.Texts.{report_text}
 
 -- the first of the refusals that stands
 abbrev pub or_else : Option Refusal → Option Refusal → Option Refusal
@@ -86,17 +88,23 @@ module _ (language : Language) where
       (refused_if (ends_early statement (now history)) refusal.Times)))
   first_refusal history (Delete name) = refused_if (not (is_taken name history)) refusal.NoName
   first_refusal history (Clock instant) = refused_if (nat_lt instant (now history)) refusal.Clock
-  first_refusal history Report = Some refusal.Unbuilt
+  first_refusal history Report = None
   first_refusal history (Malformed why) = Some why
 
   -- the notices of a command, by instant and then by install number
   abbrev pub notices : History → Command → List ℕ
   notices history command = flat_map (notice_at language history command) (told history command)
 
+  -- what stands behind the notices: the lines of those that a move of the clock ends, or the report
+  abbrev pub closing_text : Command → History → List ℕ
+  closing_text (Clock instant) history = expired_text (Clock instant) history
+  closing_text Report history = report_text (summary language history)
+  closing_text command history = []
+
   -- the answer to an accepted command with this number
   abbrev pub accepted_text : History → ℕ → Command → List ℕ
   accepted_text history number command =
-      decimal number ++ codes " ok\n" ++ notices history command ++ expired_text command history
+      decimal number ++ codes " ok\n" ++ notices history command ++ closing_text command history
 
   abbrev pub answered : History → ℕ → Command → Option Refusal → List ℕ
   answered history number command None = accepted_text history number command

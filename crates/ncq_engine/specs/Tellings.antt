@@ -1,5 +1,5 @@
 -- Who fires and what they are told, by install numbers. Only the crate's private clauses cite it.
-use Rattle.std.specs.Prelude.{◌≡◌, ◌&&◌, ◌==◌, ◌++◌, ℕ, Bool, true, false, nat_le, nat_lt, nat_eq}
+use Rattle.std.specs.Prelude.{◌≡◌, ◌++◌, ℕ, Bool, false, nat_le, nat_lt, nat_eq}
 use Rattle.std.specs.Prelude.{List, [], ◌∷◌, length}
 use Rattle.std.specs.Prelude.{Option, Some, None, if◌then◌else◌, map, not}
 use Rattle.std.specs.FinMap.{get}

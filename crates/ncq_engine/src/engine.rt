@@ -9,6 +9,7 @@ ghost use Rattle.ncq_bind.specs.Bindings.{are_declared, roots_in};
 ghost use Rattle.ncq_callback.specs.Labels.{labels};
 ghost use Rattle.ncq_engine.specs.Firing.{source_of};
 ghost use Rattle.ncq_engine.specs.Stands.{EngineState, Stands};
+ghost use Rattle.ncq_engine.specs.Summaries.{IsSummary};
 ghost use Rattle.ncq_engine.specs.Works.{IsWithinWork};
 ghost use Rattle.ncq_roll.specs.Shares.{Shares};
 ghost use Rattle.ncq_engine.specs.Applies.{Applies, WritesNotices, IfAnswered, IfRefused, OfEach};
@@ -38,6 +39,7 @@ use ncq_callback::{Handlers, Kind};
 use ncq_event::{Timing, is_expired};
 use ncq_plan::{NormalQuery, plan};
 use ncq_pyx::Items;
+use ncq_report::{Summary, write_report};
 use ncq_roll::Roll;
 use ncq_script::{Command, Refusal};
 use ncq_source::{ChangeError, DeclareError, Key, Store};
@@ -251,7 +253,7 @@ impl Engine {
             Command::Create { statement } => self.create(alloc, statement, handlers, out, steps),
             Command::Delete { name } => self.delete(&name, out),
             Command::Clock { instant } => self.move_clock(alloc, instant, handlers, out),
-            Command::Report => self.refuse(Refusal::Unbuilt),
+            Command::Report => self.report(alloc, out),
             Command::Malformed { refusal } => self.refuse(refusal),
         }
     }
@@ -495,6 +497,33 @@ impl Engine {
         self.roll.facts();
         self.count += 1;
         Ok(applied)
+    }
+
+    /// Tells what is shared.
+    fn report(&mut self, alloc: Global, out: &mut Vec<u8>) -> Result<Applied, ApplyError>
+        requires few { self.old.count < 2 ^ 48 }
+        ensures applies { Applies self.old Command.Report
+            out.old.items result self.new out.new.items }
+    {
+        let applied = write_accepted(self.count + 1, out)?;
+        self.roll.shares();
+        let summary = self.summary(alloc)?;
+        write_report(&summary, out)?;
+        self.count += 1;
+        Ok(applied)
+    }
+
+    /// How much there is, and the groups of the files.
+    fn summary(&self, alloc: Global) -> Result<Summary, AllocError>
+        ensures { IfOk result (IsSummary self.now) }
+    {
+        Ok(Summary {
+            queries: self.live() as u64,
+            sources: self.store.count() as u64,
+            changes: self.store.changes(),
+            files: self.roll.groups().files() as u64,
+            groups: self.roll.groups().groups(alloc)?,
+        })
     }
 
     /// Counts a command that is refused.

@@ -23,7 +23,6 @@ word_of refusal.Action = codes "13 action"
 word_of refusal.Times = codes "14 times"
 word_of (refusal.Limit which) = codes "15 limit"
 word_of refusal.Unfinished = codes "16 unfinished"
-word_of refusal.Unbuilt = codes "99 unbuilt"
 
 -- the word of a limit
 abbrev pub limit_word : Limit → List ℕ
@@ -53,7 +52,6 @@ shown refusal.Root = []
 shown refusal.Action = []
 shown refusal.Times = []
 shown refusal.Unfinished = []
-shown refusal.Unbuilt = []
 
 -- `<k> refused <number> <word>`, and the shown value
 abbrev pub refused_text : ℕ → Refusal → List ℕ

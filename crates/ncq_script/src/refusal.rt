@@ -40,8 +40,6 @@ pub enum Refusal {
     Limit { which: Limit },
     /// The input ended inside the block.
     Unfinished,
-    /// The command is not built yet.
-    Unbuilt,
 }
 
 /// Appends the line `<k> refused <number> <word>`, with the shown value where there is one. After
@@ -91,7 +89,6 @@ fn word_of(refusal: &Refusal) -> &[u8]
         Refusal::Times => b"14 times",
         Refusal::Limit { .. } => b"15 limit",
         Refusal::Unfinished => b"16 unfinished",
-        Refusal::Unbuilt => b"99 unbuilt",
     }
 }
 

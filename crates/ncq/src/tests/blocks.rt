@@ -17,13 +17,13 @@ const ENDS: &[(&str, &str)] = &[
     ("delta quotes\n..\n", "2 refused 16 unfinished\n"),
     ("delta quotes\n.\r\r\n", "2 refused 16 unfinished\n"),
     (
-        "delta quotes\n. \n.\nreport\n",
-        "2 refused 5 pyx 1\n3 refused 99 unbuilt\n",
+        "delta quotes\n. \n.\nclock 0\n",
+        "2 refused 5 pyx 1\n3 ok\n",
     ),
     // A dot begins longer lines too.
     ("delta quotes\n.x\n.\n", "2 refused 5 pyx 1\n"),
     ("delta quotes\n.\n.\n", "2 ok\n3 refused 1 command\n"),
-    ("delta quotes\n.\nreport", "2 ok\n3 refused 99 unbuilt\n"),
+    ("delta quotes\n.\nclock 0", "2 ok\n3 ok\n"),
 ];
 
 /// The line that opens a block: blanks and case are free.
@@ -46,8 +46,8 @@ const OPENINGS: &[(&str, &str)] = &[
     ),
     // Whatever else the line holds, it opens a block.
     (
-        "delta\n(Quote\n)Quote\n.\nreport\n",
-        "2 refused 1 command\n3 refused 99 unbuilt\n",
+        "delta\n(Quote\n)Quote\n.\nclock 0\n",
+        "2 refused 1 command\n3 ok\n",
     ),
     ("delta\nreport\n", "2 refused 1 command\n"),
 ];

@@ -151,13 +151,13 @@ fn refuse_words<I: Source, O: Sink>(rt: &impl Abort, alloc: Global, input: &mut 
 fn other_words_read_and_write_nothing(rt: HostRuntime) -> Result<(), Fail> {
     let alloc = rt.alloc();
     let none = calls_of(alloc, &[])?;
-    let mut input = memory_source(bytes_of(alloc, b"report\n")?, 64, none);
+    let mut input = memory_source(bytes_of(alloc, b"clock 0\n")?, 64, none);
     let mut output = memory_sink(alloc, 64, calls_of(alloc, &[])?)?;
     refuse_words(&rt, alloc, &mut input, &mut output);
     assert!(rt; output.held().is_empty());
     let status = run_program(alloc, &["run"], &mut input, &mut output);
     assert!(rt; status == Status::Done);
-    expect_bytes(&rt, output.held(), b"1 refused 99 unbuilt\n", "");
+    expect_bytes(&rt, output.held(), b"1 ok\n", "");
     Ok(())
 }
 

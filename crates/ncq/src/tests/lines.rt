@@ -17,10 +17,7 @@ const COMMENTS: &[(&str, &str)] = &[
     ("# x\rreport\n", ""),
     ("#report\n", ""),
     // They have no number.
-    (
-        "#\n\nclock 1\n  # x\nreport\n#",
-        "1 ok\n2 refused 99 unbuilt\n",
-    ),
+    ("#\n\nclock 1\n  # x\nclock 1\n#", "1 ok\n2 ok\n"),
     // Behind a word it is no comment.
     ("report # x\n", "1 refused 1 command\n"),
     ("report#\n", "1 refused 1 command\n"),
@@ -28,20 +25,17 @@ const COMMENTS: &[(&str, &str)] = &[
 
 /// "One CR at the end of a line is dropped." A last line needs no line feed.
 const ENDS: &[(&str, &str)] = &[
-    ("report", "1 refused 99 unbuilt\n"),
-    ("report\n", "1 refused 99 unbuilt\n"),
-    ("report\r", "1 refused 99 unbuilt\n"),
-    ("report\r\n", "1 refused 99 unbuilt\n"),
-    ("report\r\r\n", "1 refused 99 unbuilt\n"),
-    ("report\n\r", "1 refused 99 unbuilt\n"),
-    (
-        "report\n\n\r\nreport",
-        "1 refused 99 unbuilt\n2 refused 99 unbuilt\n",
-    ),
+    ("clock 0", "1 ok\n"),
+    ("clock 0\n", "1 ok\n"),
+    ("clock 0\r", "1 ok\n"),
+    ("clock 0\r\n", "1 ok\n"),
+    ("clock 0\r\r\n", "1 ok\n"),
+    ("clock 0\n\r", "1 ok\n"),
+    ("clock 0\n\n\r\nclock 0", "1 ok\n2 ok\n"),
     // A carriage return in a line parts words and ends no line.
     ("report\rreport\n", "1 refused 1 command\n"),
     ("clock\r1\n", "1 ok\n"),
-    ("\rreport\n", "1 refused 99 unbuilt\n"),
+    ("\rclock 0\n", "1 ok\n"),
 ];
 
 /// "Every other byte belongs to a word": form feeds, vertical tabs, zeros, and the bytes of other blanks and marks.
@@ -70,11 +64,11 @@ const COMMANDS: &[(&str, &str)] = &[
     ),
     (
         "REPORT\nClock 1\ndElEtE w\n",
-        "1 refused 99 unbuilt\n2 ok\n3 refused 9 no-name\n",
+        "1 ok\nqueries 0\nsources 0\nchanges 0\nfiles 0\ngroups 0\nend\n2 ok\n3 refused 9 no-name\n",
     ),
     (
         "clock\nclock 1\nclock x\nclock 1 1\nreport\nreport 1\n",
-        "1 refused 1 command\n2 ok\n3 refused 1 command\n4 refused 1 command\n5 refused 99 unbuilt\n6 refused 1 command\n",
+        "1 refused 1 command\n2 ok\n3 refused 1 command\n4 refused 1 command\n5 ok\nqueries 0\nsources 0\nchanges 0\nfiles 0\ngroups 0\nend\n6 refused 1 command\n",
     ),
     (
         "delete\ndelete w\ndelete w w\n",

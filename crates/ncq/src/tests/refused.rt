@@ -63,7 +63,6 @@ const COMMANDS: &[(&str, [&str; 5])] = &[
     ("source quotes root Quotes key\n", ["1 command"; 5]),
     ("delete v\n", ["9 no-name"; 5]),
     ("clock -1\n", ["1 command"; 5]),
-    ("report\n", ["99 unbuilt"; 5]),
     ("delta quotes\n(Quote\n.\n", ["5 pyx 2"; 5]),
     ("delta nothing\n.\n", ["4 no-source"; 5]),
     ("create w\n.\n", ["10 query"; 5]),

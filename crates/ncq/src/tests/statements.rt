@@ -479,14 +479,11 @@ const BLOCKS: &[(&str, &str)] = &[
         "create\x0cw\n.\n",
         "2 refused 1 command\n3 refused 1 command\n",
     ),
-    (
-        "create\n.\nreport\n",
-        "2 refused 10 query\n3 refused 99 unbuilt\n",
-    ),
+    ("create\n.\nclock 0\n", "2 refused 10 query\n3 ok\n"),
     // Commands in it are words of the statement.
     (
-        "create w\nsource a root A key k\ndelta quotes\n.\nreport\n",
-        "2 refused 10 query\n3 refused 99 unbuilt\n",
+        "create w\nsource a root A key k\ndelta quotes\n.\nclock 0\n",
+        "2 refused 10 query\n3 ok\n",
     ),
 ];
 

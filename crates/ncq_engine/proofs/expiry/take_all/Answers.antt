@@ -1,10 +1,10 @@
-use Rattle.std.proofs.Common.{◌≡◌, ◌∙◌, ◌+◌, ◌<◌, ◌≤◌, arith, take, length, get_or, refl, subst, sym, ap, Some, None, List, ℕ}
+use Rattle.std.proofs.Common.{◌≡◌, ◌+◌, ◌≤◌, arith, take, length, get_or, subst, ap, List, ℕ}
 use Rattle.std.proofs.lemmas.List.{take_all, take_more}
 use Rattle.std.specs.Prelude.{Option, IfNone}
 use Rattle.ncq_book.specs.Books.{member_of}
 use Rattle.ncq_book.specs.declared.member.Member.{Member}
 use Rattle.ncq_group.specs.Tables.{TableState}
-use Rattle.ncq_engine.specs.Tellings.{AreOf, IsLeftBy}
+use Rattle.ncq_engine.specs.Tellings.{IsLeftBy}
 use Rattle.ncq_engine.proofs.ExpiryLaws.{left_more, left_none, removed_of}
 use Rattle.ncq_engine.proofs.expiry.take_all.Goals as goal
 

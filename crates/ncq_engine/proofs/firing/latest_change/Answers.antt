@@ -1,4 +1,4 @@
-use Rattle.std.proofs.Common.{◌≡◌, ◌∙◌, ◌+◌, ◌<◌, arith, take, length, get_or, sym, ap, max, [], ◌∷◌, ◌++◌, ℕ, List}
+use Rattle.std.proofs.Common.{◌≡◌, ◌∙◌, ◌+◌, arith, take, sym, ap, max, [], ◌∷◌, ◌++◌, ℕ, List}
 use Rattle.std.proofs.lemmas.List.{take_more}
 use Rattle.ncq_engine.specs.Engines.{last_in, latest_in}
 use Rattle.ncq_engine.proofs.MemberLaws.{latest_push}

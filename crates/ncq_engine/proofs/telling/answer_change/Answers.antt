@@ -1,4 +1,4 @@
-use Rattle.std.proofs.Common.{◌≡◌, ◌∙◌, ◌++◌, ◌∷◌, [], List, ℕ, nat_lt, length, ap, subst, sym}
+use Rattle.std.proofs.Common.{◌≡◌, ◌∙◌, ◌++◌, List, ℕ, nat_lt, length, ap, subst, sym}
 use Rattle.std.specs.Prelude.{IsSome}
 use Rattle.std.specs.List.{flat_map, AllByRecursion}
 use Rattle.ncq_base.specs.Keys.{times}
@@ -6,7 +6,6 @@ use Rattle.ncq_book.specs.Books.{BookState, member_of, watchers_of}
 use Rattle.ncq_callback.specs.Labels.{labels}
 use Rattle.ncq_event.specs.declared.firing.Firing.{Firing}
 use Rattle.ncq_engine.specs.declared.engine.Applied.{Applied}
-use Rattle.ncq_engine.specs.Applies.{ok_text}
 use Rattle.ncq_engine.specs.Tellings.{firing_text, started_at}
 use Rattle.ncq_engine.proofs.BookLaws.{started_there}
 use Rattle.ncq_engine.proofs.telling.answer_change.Goals as goal

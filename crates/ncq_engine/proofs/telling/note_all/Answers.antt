@@ -1,10 +1,6 @@
-use Rattle.std.proofs.Common.{◌≡◌, ◌∙◌, ◌+◌, ◌<◌, ◌≤◌, ◌∷◌, [], arith, drop, length, get_or, ap, sym, List, map}
-use Rattle.std.specs.Prelude.{if◌then◌else◌}
+use Rattle.std.proofs.Common.{◌≡◌, ◌∙◌, ◌+◌, ◌<◌, ◌≤◌, ◌∷◌, arith, drop, length, get_or, ap, sym, List}
 use Rattle.std.proofs.lemmas.List.{drop_more, drop_all}
-use Rattle.ncq_book.specs.Books.{is_of}
-use Rattle.ncq_book.specs.declared.member.Member.{Member}
 use Rattle.ncq_event.specs.declared.firing.Firing.{Firing}
-use Rattle.ncq_engine.specs.Engines.{noted_at}
 use Rattle.ncq_engine.specs.Tellings.{noted_by}
 use Rattle.ncq_engine.proofs.NotedLaws.{noted_none, noted_twice}
 use Rattle.ncq_engine.proofs.telling.note_all.Goals as goal

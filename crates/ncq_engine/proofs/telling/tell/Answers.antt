@@ -1,6 +1,6 @@
-use Rattle.std.proofs.Common.{◌≡◌, ◌++◌, ◌∷◌, [], List, ℕ, nat_lt, length, take, get_or, ◌+◌, ◌<◌, ◌≤◌, arith, rules, sym, refl, subst, ◌∙◌, ap}
+use Rattle.std.proofs.Common.{◌≡◌, ◌++◌, ◌∷◌, [], List, ℕ, nat_lt, length, take, get_or, ◌+◌, ◌<◌, ◌≤◌, arith, rules, sym, subst, ◌∙◌, ap}
 use Rattle.std.specs.Prelude.{Some, IsSome, if◌then◌else◌}
-use Rattle.std.specs.List.{flat_map, AllByRecursion}
+use Rattle.std.specs.List.{flat_map}
 use Rattle.std.proofs.lemmas.List.{take_more, take_all}
 use Rattle.ncq_base.specs.Keys.{times}
 use Rattle.ncq_book.specs.declared.member.Member.{Member}
@@ -11,7 +11,7 @@ use Rattle.ncq_group.specs.Tables.{TableState}
 use Rattle.ncq_shelf.specs.KeptFiles.{Files}
 use Rattle.ncq_engine.specs.Engines.{CanTell, told_text}
 use Rattle.ncq_engine.specs.Tellings.{firing_text}
-use Rattle.ncq_engine.proofs.TellingLoops.{at_most_one, counted, each_here, found_as, found_has, longer, not_missing, text_found, text_on, times_on}
+use Rattle.ncq_engine.proofs.TellingLoops.{at_most_one, counted, each_here, found_has, longer, not_missing, text_found, text_on, times_on}
 use Rattle.ncq_engine.proofs.telling.tell.Goals as goal
 
 pub unreachable-requires : goal.unreachable-requires

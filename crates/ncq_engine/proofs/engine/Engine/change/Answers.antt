@@ -1,27 +1,24 @@
-use Rattle.std.proofs.Common.{◌≡◌, ◌∙◌, ◌+◌, ◌++◌, ◌<◌, ◌≤◌, arith, length, ap, refl, subst, sym, List, ℕ}
+use Rattle.std.proofs.Common.{◌≡◌, ◌∙◌, ◌+◌, ◌++◌, arith, ap, refl, subst, sym, List, ℕ}
 use Rattle.std.specs.Prelude.{Ok, IfSome, Some}
-use Rattle.std.specs.List.{flat_map, AllByRecursion}
+use Rattle.std.specs.List.{flat_map}
 use Rattle.std.specs.FinMap.{get}
 use Rattle.std.specs.Option.{option_map}
 use Rattle.ncq_callback.specs.Labels.{Label, labels}
-use Rattle.ncq_feed.specs.Feeds.{IsPreparedFrom}
 use Rattle.ncq_group.specs.Tables.{TableState}
-use Rattle.ncq_roll.specs.Rolls.{RollState}
 use Rattle.ncq_script.specs.declared.command.Command.TheVariants.{Delta}
 use Rattle.ncq_shelf.specs.Contents.{cut_to}
 use Rattle.ncq_source.specs.StoreStates.{StoreState, found}
 use Rattle.ncq_book.specs.declared.member.Member.{Member}
-use Rattle.ncq_source.specs.declared.change.SourceId.{SourceId}
 use Rattle.ncq_engine.specs.Applies.{change_refusal, ok_text}
 use Rattle.ncq_engine.specs.Tellings.{IsAnswered, firing_text, started_at}
 use Rattle.ncq_book.specs.Books.{watchers_of}
 use Rattle.ncq_engine.specs.Engines.{IsEngine}
 use Rattle.ncq_engine.specs.Stands.{EngineState}
-use Rattle.ncq_engine.proofs.ChangeAnswers.{IsFed, IsTold, can_tell, change_answers, holds_changed, mid_engine}
+use Rattle.ncq_engine.proofs.ChangeAnswers.{IsFed, can_tell, change_answers, holds_changed, mid_engine}
 use Rattle.ncq_engine.proofs.ChangeLaws.{change_refused, good_entries}
 use Rattle.ncq_engine.proofs.CommandLaws.{engine, told_as}
-use Rattle.ncq_engine.proofs.InvariantLaws.{Invariant, invariant_alike, invariant_counted, prepared_from}
-use Rattle.ncq_engine.proofs.TableLaws.{fed_base, table_back}
+use Rattle.ncq_engine.proofs.InvariantLaws.{invariant_alike, prepared_from}
+use Rattle.ncq_engine.proofs.TableLaws.{table_back}
 use Rattle.ncq_engine.specs.declared.engine.Applied.{Applied}
 use Rattle.ncq_engine.specs.Works.{IsWithinWork}
 use Rattle.ncq_engine.proofs.WorkLaws.{change_steps}

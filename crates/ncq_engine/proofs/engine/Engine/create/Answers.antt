@@ -1,34 +1,21 @@
-use Rattle.std.proofs.Common.{◌≡◌, ◌∙◌, ◌++◌, ◌∷◌, ◌+◌, ◌<◌, ◌*◌, ◌≤◌, [], ap, subst, sym, refl, arith, length, List, ℕ, true, false, not}
-use Rattle.std.specs.Prelude.{Err, Ok, if◌then◌else◌, nat_lt, IsSome}
-use Rattle.std.specs.List.{list_any, flat_map, AllByRecursion}
+use Rattle.std.proofs.Common.{◌≡◌, ◌∙◌, ap, subst, sym, arith, List, true, false}
+use Rattle.std.specs.Prelude.{Err, Ok}
+use Rattle.std.specs.List.{list_any}
 use Rattle.std.specs.Str.{bytes_eq}
-use Rattle.ncq_base.specs.Keys.{times}
-use Rattle.ncq_bind.specs.Bindings.{Binds, are_declared, roots_in}
+use Rattle.ncq_bind.specs.Bindings.{Binds, roots_in}
 use Rattle.ncq_book.specs.declared.member.Member.{Member}
-use Rattle.ncq_book.specs.Books.{BookState, member_of}
+use Rattle.ncq_book.specs.Books.{BookState}
 use Rattle.ncq_callback.specs.Labels.{Label, labels}
-use Rattle.ncq_event.specs.declared.firing.Firing.{Firing}
 use Rattle.ncq_event.specs.declared.timing.Timing.{Timing}
 use Rattle.ncq_event.specs.Instants.{is_expired}
-use Rattle.ncq_group.specs.Installs.{IsInstalled}
-use Rattle.ncq_plan.specs.Plans.{plan_of}
-use Rattle.ncq_plan.specs.WellFormed.{IsWellFormed}
-use Rattle.ncq_roll.specs.Rolls.{RollState}
 use Rattle.ncq_source.specs.StoreStates.{StoreState}
-use Rattle.ncq_engine.specs.declared.engine.Applied.{Applied}
-use Rattle.ncq_script.specs.declared.command.Command.TheVariants.{Create}
-use Rattle.ncq_engine.specs.Applies.{Applies, kind_at}
-use Rattle.ncq_engine.specs.Engines.{new_member}
 use Rattle.ncq_engine.specs.Joins.{timed}
 use Rattle.ncq_engine.specs.Notices.{kind_in}
 use Rattle.ncq_engine.specs.Output.{is_at_odds}
 use Rattle.ncq_engine.specs.Stands.{EngineState}
-use Rattle.ncq_engine.specs.Tellings.{firing_text, noted_by, started_at}
-use Rattle.ncq_engine.proofs.ClockAnswers.{counted_engine}
 use Rattle.ncq_engine.proofs.CommandLaws.{engine}
 use Rattle.ncq_engine.proofs.CreateAnswers.{member_of_it}
 use Rattle.ncq_engine.proofs.CreateLaws.{create_late, create_odd, create_taken, create_unbound}
-use Rattle.ncq_engine.proofs.InvariantLaws.{Invariant}
 use Rattle.ncq_engine.proofs.engine.Engine.create.Goals as goal
 
 pub returns-then-has-clause-applies : goal.returns-then-has-clause-applies

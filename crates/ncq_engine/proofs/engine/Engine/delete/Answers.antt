@@ -1,16 +1,10 @@
-use Rattle.std.proofs.Common.{◌≡◌, ◌∙◌, ◌+◌, ◌++◌, ap, refl, subst, sym, List, Some, None, false}
-use Rattle.std.specs.Prelude.{Result, Ok}
-use Rattle.std.specs.List.{list_any}
-use Rattle.std.specs.Str.{bytes_eq}
-use Rattle.ncq_book.specs.declared.member.Member.{Member}
+use Rattle.std.proofs.Common.{◌≡◌, ◌∙◌, ◌+◌, ◌++◌, ap, refl, sym, Some, None}
+use Rattle.std.specs.Prelude.{Ok}
 use Rattle.ncq_book.specs.Books.{BookState}
 use Rattle.ncq_book.specs.Kept.{install_of}
-use Rattle.ncq_script.specs.declared.command.Command.TheVariants.{Delete}
-use Rattle.ncq_engine.specs.declared.engine.Applied.{Applied}
-use Rattle.ncq_engine.specs.declared.engine.ApplyError.{ApplyError}
-use Rattle.ncq_engine.specs.Applies.{Applies, ok_text}
+use Rattle.ncq_engine.specs.Applies.{ok_text}
 use Rattle.ncq_engine.specs.Stands.{EngineState}
-use Rattle.ncq_engine.proofs.CommandLaws.{delete_answers, delete_refused, engine, none_named, told_as}
+use Rattle.ncq_engine.proofs.CommandLaws.{delete_answers, delete_refused, engine, none_named}
 use Rattle.ncq_engine.proofs.InvariantLaws.{invariant_counted, left_holds}
 use Rattle.ncq_engine.proofs.engine.Engine.delete.Goals as goal
 

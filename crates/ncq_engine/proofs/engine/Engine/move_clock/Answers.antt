@@ -1,5 +1,5 @@
-use Rattle.std.proofs.Common.{◌≡◌, ◌∙◌, ◌++◌, ◌∷◌, ◌+◌, ◌<◌, ◌*◌, ◌≤◌, [], ap, subst, sym, refl, arith, map, length, List, ℕ, true, false, not}
-use Rattle.std.specs.Prelude.{Err, Ok, nat_lt, IsSome}
+use Rattle.std.proofs.Common.{◌≡◌, ◌∙◌, ◌++◌, ◌+◌, ◌≤◌, ap, subst, sym, refl, arith, map, length, List, ℕ, false}
+use Rattle.std.specs.Prelude.{nat_lt, IsSome}
 use Rattle.std.specs.List.{filter, flat_map, AllByRecursion}
 use Rattle.std.proofs.lemmas.Bool.Decides.{nat_tests}
 use Rattle.ncq_base.specs.Keys.{times}
@@ -10,13 +10,12 @@ use Rattle.ncq_event.specs.Calendars.{due_firings, expired_at}
 use Rattle.ncq_event.specs.declared.firing.Firing.{Firing}
 use Rattle.ncq_group.specs.Tables.{TableState}
 use Rattle.ncq_roll.specs.Rolls.{RollState}
-use Rattle.ncq_script.specs.declared.command.Command.TheVariants.{Clock}
 use Rattle.ncq_engine.specs.declared.engine.Applied.{Applied}
-use Rattle.ncq_engine.specs.Applies.{Applies, ok_text}
+use Rattle.ncq_engine.specs.Applies.{ok_text}
 use Rattle.ncq_engine.specs.Engines.{IsEngine}
 use Rattle.ncq_engine.specs.Stands.{EngineState}
 use Rattle.ncq_engine.specs.Tellings.{IsLeftBy, expired_of, firing_text, is_news_at, noted_by}
-use Rattle.ncq_engine.proofs.ClockAnswers.{AreAsked, IsMoved, IsWritten, clock_answers, clock_can, clock_holds, clock_there, counted_engine}
+use Rattle.ncq_engine.proofs.ClockAnswers.{AreAsked, IsMoved, clock_answers, clock_can, clock_holds, clock_there, counted_engine}
 use Rattle.ncq_engine.proofs.CommandLaws.{engine}
 use Rattle.ncq_engine.proofs.InvariantLaws.{Invariant}
 use Rattle.ncq_engine.proofs.engine.Engine.move_clock.Goals as goal

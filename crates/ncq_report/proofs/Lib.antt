@@ -1,0 +1,4 @@
+pub mod DistinctLaws
+pub mod GroupLaws
+pub mod LineLaws
+pub mod LoadLaws
