@@ -9,6 +9,7 @@ mod lists;
 mod queries;
 mod shown;
 mod stores;
+mod tables;
 mod texts;
 
 /// The texts, one behind the other.

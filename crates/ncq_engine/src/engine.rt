@@ -159,9 +159,11 @@ impl Engine {
 
     /// Answers a command. Ok appends the answer of an accepted one: the line `<k> ok` with its
     /// number, the notices by instant and then by install number, and a line for each subscription
-    /// that expires. `Refused` comes exactly with the first refusal that the command meets; then
-    /// `out` is as before, and the engine stands for what it stood for. Either counts the command.
-    /// After want of memory the engine can only be dropped.
+    /// that expires, or the report. `Refused` comes exactly with the first refusal that the command
+    /// meets; then `out` is as before, and the engine stands for what it stood for. Either counts
+    /// the command. Each row that is made is one step. Where memory runs out, `out` is cut back and
+    /// what the command had taken is given up, but no clause says so: the engine can only be
+    /// dropped.
     ///
     /// The handlers are those that the engine was made for. The command is one that a
     /// `ScriptReader` gives: the elements that it puts are proper, and its statement is well

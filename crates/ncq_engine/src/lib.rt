@@ -2,11 +2,11 @@
 //!
 //! What is answered is defined by the history of the accepted commands alone: the sources, the
 //! clock, the live subscriptions, when each fires, and what its answer over the whole sources
-//! gained and lost since its latest firing. The engine stands for that history (`specs/Stands`): its
-//! store has the sources, its files are those of the subexpressions of the live queries, one each,
-//! with the rows that these had at each change, and each subscription has the file of its plan. A
-//! firing tells what the rows of that file since its mark add up to. `report` is refused as not
-//! built yet: that is the one command whose answer is not that of the whole language.
+//! gained and lost since its latest firing. The engine stands for that history (`specs/Stands`):
+//! its store has the sources, its files are those of the subexpressions of the live queries, one
+//! each, with the rows that these had at each change, and each subscription has the file of its
+//! plan. A firing tells what the rows of that file since its mark add up to, and a report what the
+//! live queries share. The rows that a command makes are at most its work (`specs/Works`).
 #![tactic(auto)]
 
 mod engine;

@@ -20,7 +20,7 @@ fn declare(alloc: Global, store: &mut Store, name: &str, root: &str) -> Result<(
 }
 
 /// The sources `quotes`, `companies` and `c`, with the roots `Quotes`, `Companies` and `Cs`.
-fn sources(alloc: Global, seed: RandomState) -> Result<Store, Fail> {
+pub(super) fn sources(alloc: Global, seed: RandomState) -> Result<Store, Fail> {
     let mut store = Store::new(alloc, seed);
     declare(alloc, &mut store, "quotes", "Quotes")?;
     declare(alloc, &mut store, "companies", "Companies")?;
