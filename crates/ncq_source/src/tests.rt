@@ -1,4 +1,7 @@
-use crate::{ChangeError, DeclareError, Entry, Key, SourceId, Store, child_value, key_of};
+ghost use Rattle.std.specs.Prelude.{◌<◌, ◌^◌, ◌-◌};
+ghost use Rattle.ncq_source.specs.StoreStates.{IsDeclared};
+
+use crate::{Change, ChangeError, DeclareError, Entry, Key, SourceId, Store, child_value, key_of};
 use ncq_base::{Bytes, Lines, Shared, bytes_of, is_line};
 use ncq_pyx::{Item, Items, read_block, write_element};
 use ncq_tree::{Attribute, Attributes, Element, Forest, Node, string_value};
@@ -19,22 +22,37 @@ fn items_of(alloc: Global, text: &str) -> Result<Items, AllocError> {
     read_block(alloc, &lines).map_err(|_| AllocError)
 }
 
-/// The first element that the lines put.
-fn element_of(alloc: Global, text: &str) -> Result<Element, AllocError> {
-    for item in items_of(alloc, text)?.into_vec() {
-        if let Item::Put(element) = item {
-            return Ok(element);
-        }
+/// The element that the item puts.
+fn put_by(item: Option<Item>) -> Result<Element, AllocError> {
+    match item {
+        Some(Item::Put(element)) => Ok(element),
+        _ => Err(AllocError),
     }
-    Err(AllocError)
+}
+
+/// The element that the lines put last.
+fn element_of(alloc: Global, text: &str) -> Result<Element, AllocError> {
+    let mut items = items_of(alloc, text)?.into_vec();
+    put_by(items.pop())
 }
 
 fn child(alloc: Global, name: &str) -> Result<Key, AllocError> {
-    Ok(Key::Child(bytes_of(alloc, name.as_bytes())?))
+    let name = bytes_of(alloc, name.as_bytes())?;
+    Ok(Key::Child(name))
 }
 
 fn attribute(alloc: Global, name: &str) -> Result<Key, AllocError> {
-    Ok(Key::Attribute(bytes_of(alloc, name.as_bytes())?))
+    let name = bytes_of(alloc, name.as_bytes())?;
+    Ok(Key::Attribute(name))
+}
+
+/// Whether a source was declared.
+fn is_new(answer: Result<SourceId, DeclareError>) -> Result<bool, AllocError> {
+    match answer {
+        Ok(_) => Ok(true),
+        Err(DeclareError::Exists) => Ok(false),
+        Err(DeclareError::OutOfMemory) => Err(AllocError),
+    }
 }
 
 /// Declares a source, and tells whether there was none of its name.
@@ -47,33 +65,61 @@ fn declare(
 ) -> Result<bool, AllocError> {
     let name = bytes_of(alloc, name.as_bytes())?;
     let root = bytes_of(alloc, root.as_bytes())?;
-    match store.declare(alloc, name, root, key) {
-        Ok(_) => Ok(true),
-        Err(DeclareError::Exists) => Ok(false),
-        Err(DeclareError::OutOfMemory) => Err(AllocError),
-    }
+    is_new(store.declare(alloc, name, root, key))
+}
+
+/// Declares a source whose key is a child.
+fn declare_by_child(
+    alloc: Global,
+    store: &mut Store,
+    name: &str,
+    root: &str,
+    key: &str,
+) -> Result<bool, AllocError> {
+    let key = child(alloc, key)?;
+    declare(alloc, store, name, root, key)
+}
+
+/// Declares a source whose key is an attribute.
+fn declare_by_attribute(
+    alloc: Global,
+    store: &mut Store,
+    name: &str,
+    root: &str,
+    key: &str,
+) -> Result<bool, AllocError> {
+    let key = attribute(alloc, key)?;
+    declare(alloc, store, name, root, key)
 }
 
 /// A store with the sources `quotes` and `companies`, whose key is the child `Symbol`, and `c`,
 /// whose key is the attribute `id`.
 fn sources(alloc: Global, seed: RandomState) -> Result<Store, AllocError> {
     let mut store = Store::new(alloc, seed);
-    let _new = declare(
-        alloc,
-        &mut store,
-        "quotes",
-        "Quotes",
-        child(alloc, "Symbol")?,
-    )?;
-    let _new = declare(
-        alloc,
-        &mut store,
-        "companies",
-        "Companies",
-        child(alloc, "Symbol")?,
-    )?;
-    let _new = declare(alloc, &mut store, "c", "Cs", attribute(alloc, "id")?)?;
+    declare_by_child(alloc, &mut store, "quotes", "Quotes", "Symbol")?;
+    declare_by_child(alloc, &mut store, "companies", "Companies", "Symbol")?;
+    declare_by_attribute(alloc, &mut store, "c", "Cs", "id")?;
     Ok(store)
+}
+
+/// Gives the change room and commits it: its number.
+fn commit(alloc: Global, store: &mut Store, change: Change) -> Result<String, AllocError>
+    requires declared { IsDeclared store.old change.source }
+    requires more { store.old.changes < 2 ^ 64 - 1 }
+{
+    store.reserve(&change)?;
+    store.commit(change);
+    format!(in alloc; "ok {}", store.changes())
+}
+
+/// Why there is no change.
+fn reason(alloc: Global, error: ChangeError) -> Result<String, AllocError> {
+    match error {
+        ChangeError::NoSource => format!(in alloc; "no source"),
+        ChangeError::BadKey { position } => format!(in alloc; "key {position}"),
+        ChangeError::NoSuchKey { position } => format!(in alloc; "no key {position}"),
+        ChangeError::OutOfMemory => Err(AllocError),
+    }
 }
 
 /// The change that the lines ask for, prepared, given room and committed: its number, or why there
@@ -82,34 +128,57 @@ fn deliver(alloc: Global, store: &mut Store, name: &str, text: &str) -> Result<S
     if store.changes() == u64::MAX {
         return Err(AllocError);
     }
-    match store.prepare(alloc, name.as_bytes(), items_of(alloc, text)?) {
-        Ok(change) => {
-            store.reserve(&change)?;
-            store.commit(change);
-            format!(in alloc; "ok {}", store.changes())
-        }
-        Err(ChangeError::NoSource) => format!(in alloc; "no source"),
-        Err(ChangeError::BadKey { position }) => format!(in alloc; "key {position}"),
-        Err(ChangeError::NoSuchKey { position }) => format!(in alloc; "no key {position}"),
-        Err(ChangeError::OutOfMemory) => Err(AllocError),
+    let items = items_of(alloc, text)?;
+    match store.prepare(alloc, name.as_bytes(), items) {
+        Ok(change) => commit(alloc, store, change),
+        Err(error) => reason(alloc, error),
     }
 }
 
-/// The string values of the elements that the source shows, rising, each ended by a bar.
-fn shown(alloc: Global, store: &Store, name: &str) -> Result<Vec<u8>, AllocError> {
+/// Whether the lines get this answer.
+fn is_answered(
+    alloc: Global,
+    store: &mut Store,
+    name: &str,
+    text: &str,
+    want: &str,
+) -> Result<bool, AllocError> {
+    let answer = deliver(alloc, store, name, text)?;
+    Ok(answer.as_str() == want)
+}
+
+/// The string values of the elements that the source shows.
+fn values_of(alloc: Global, store: &Store, name: &str) -> Result<Vec<Bytes>, AllocError> {
     let mut values = Vec::new(alloc);
     if let Some(id) = store.find(name.as_bytes()) {
         for at in 0..store.size(id) {
             values.push(string_value(alloc, &store.element(id, at).children)?)?;
         }
     }
-    values.sort()?;
+    Ok(values)
+}
+
+/// The values, each ended by a bar.
+fn barred(alloc: Global, values: &[Bytes]) -> Result<Vec<u8>, AllocError> {
     let mut text = Vec::new(alloc);
-    for value in &values {
+    for value in values {
         text.extend_from_slice(value.as_slice())?;
         text.push(b'|')?;
     }
     Ok(text)
+}
+
+/// The string values of the elements that the source shows, rising, each ended by a bar.
+fn shown(alloc: Global, store: &Store, name: &str) -> Result<Vec<u8>, AllocError> {
+    let mut values = values_of(alloc, store, name)?;
+    values.sort()?;
+    barred(alloc, values.as_slice())
+}
+
+/// Whether the source shows this.
+fn shows(alloc: Global, store: &Store, name: &str, want: &str) -> Result<bool, AllocError> {
+    let text = shown(alloc, store, name)?;
+    Ok(text.as_slice() == want.as_bytes())
 }
 
 /// Deltas in turn: the source, the lines, the answer, and what the source then shows.
@@ -215,13 +284,11 @@ fn expect_deltas(
 ) -> Result<(), AllocError> {
     let mut store = sources(alloc, seed)?;
     for (name, text, answer, elements) in deltas {
-        let got = deliver(alloc, &mut store, name, text)?;
-        assert_eq!(rt; got.as_str(), *answer, "at {text}");
-        assert_eq!(rt;
-            shown(alloc, &store, name)?.as_slice(),
-            elements.as_bytes(),
+        assert!(rt;
+            is_answered(alloc, &mut store, name, text, answer)?,
             "at {text}"
         );
+        assert!(rt; shows(alloc, &store, name, elements)?, "at {text}");
     }
     Ok(())
 }
@@ -246,52 +313,57 @@ const TOLD: &[(&str, &str, u64)] = &[
 fn expect_source(rt: &impl Abort, store: &Store, name: &str, root: &str, last: u64) {
     assert!(rt; store.find(name.as_bytes()).is_some());
     if let Some(id) = store.find(name.as_bytes()) {
-        assert_eq!(rt; store.name_of(id).as_slice(), name.as_bytes());
-        assert_eq!(rt; store.root_of(id).as_slice(), root.as_bytes());
-        assert_eq!(rt; store.last_change(id), last, "at {name}");
+        assert!(rt; store.name_of(id).as_slice() == name.as_bytes(), "{name}");
+        assert!(rt; store.root_of(id).as_slice() == root.as_bytes(), "{name}");
+        assert!(rt; store.last_change(id) == last, "{name}");
     }
+}
+
+/// Delivers deltas without items.
+fn deliver_nothing(alloc: Global, store: &mut Store, names: &[&str]) -> Result<(), AllocError> {
+    for name in names {
+        deliver(alloc, store, name, "")?;
+    }
+    Ok(())
 }
 
 #[test]
 fn sources_have_a_name_a_root_and_a_last_change(rt: HostRuntime) -> Result<(), Fail> {
     let alloc = rt.alloc();
     let mut store = sources(alloc, RandomState::new(&rt)?)?;
-    assert!(rt; !declare(alloc, &mut store, "quotes", "Q", attribute(alloc, "id")?)?);
-    assert_eq!(rt; store.count(), 3);
-    for name in ["quotes", "companies", "companies"] {
-        let _answer = deliver(alloc, &mut store, name, "")?;
-    }
+    assert!(rt; !declare_by_attribute(alloc, &mut store, "quotes", "Q", "id")?);
+    assert!(rt; store.count() == 3);
+    deliver_nothing(alloc, &mut store, &["quotes", "companies", "companies"])?;
     for (name, root, last) in TOLD {
         expect_source(&rt, &store, name, root, *last);
     }
     Ok(())
 }
 
-/// Compares the canonical lines of the one element of the source.
-fn expect_one(
-    rt: &impl Abort,
-    alloc: Global,
-    store: &Store,
-    name: &str,
-    want: &str,
-) -> Result<(), AllocError> {
+/// The canonical lines of the elements of the source.
+fn lines_of(alloc: Global, store: &Store, name: &str) -> Result<Vec<u8>, AllocError> {
     let mut out = Vec::new(alloc);
     if let Some(id) = store.find(name.as_bytes()) {
         for at in 0..store.size(id) {
             write_element(store.element(id, at), &mut out)?;
         }
     }
-    assert_eq!(rt; out.as_slice(), want.as_bytes());
-    Ok(())
+    Ok(out)
+}
+
+/// Whether the elements of the source have these canonical lines.
+fn has_lines(alloc: Global, store: &Store, name: &str, want: &str) -> Result<bool, AllocError> {
+    let lines = lines_of(alloc, store, name)?;
+    Ok(lines.as_slice() == want.as_bytes())
 }
 
 #[test]
 fn an_element_is_shown_as_it_was_put(rt: HostRuntime) -> Result<(), Fail> {
     let alloc = rt.alloc();
     let mut store = sources(alloc, RandomState::new(&rt)?)?;
-    let answer = deliver(alloc, &mut store, "c", "(C/Aid 7/-a/- b/?x/-\\n/)C")?;
-    assert_eq!(rt; answer.as_str(), "ok 1");
-    expect_one(&rt, alloc, &store, "c", "(C\nAid 7\n-a b\n)C\n")?;
+    let text = "(C/Aid 7/-a/- b/?x/-\\n/)C";
+    assert!(rt; is_answered(alloc, &mut store, "c", text, "ok 1")?);
+    assert!(rt; has_lines(alloc, &store, "c", "(C\nAid 7\n-a b\n)C\n")?);
     Ok(())
 }
 
@@ -302,19 +374,22 @@ const SEEN: (&str, &[(&str, &str)]) = (
     &[("|", "A"), ("A", "A 2"), ("A 2", "|")],
 );
 
-/// Compares the string value of an element, or a bar where there is none.
-fn expect_value(
-    rt: &impl Abort,
+/// The string value of an element, or a bar where there is none.
+fn value_of(alloc: Global, element: Option<&Shared<Element>>) -> Result<Bytes, AllocError> {
+    match element {
+        Some(element) => string_value(alloc, &element.get().children),
+        None => bytes_of(alloc, b"|"),
+    }
+}
+
+/// Whether this is the string value of an element, or a bar where there is none.
+fn has_value(
     alloc: Global,
     element: Option<&Shared<Element>>,
     want: &str,
-) -> Result<(), AllocError> {
-    let got = match element {
-        Some(element) => string_value(alloc, &element.get().children)?,
-        None => bytes_of(alloc, b"|")?,
-    };
-    assert_eq!(rt; got.as_slice(), want.as_bytes());
-    Ok(())
+) -> Result<bool, AllocError> {
+    let value = value_of(alloc, element)?;
+    Ok(value.as_slice() == want.as_bytes())
 }
 
 /// Compares the elements that each entry has of its key, before and after its item.
@@ -324,28 +399,36 @@ fn expect_entries(
     entries: &[Entry],
     wanted: &[(&str, &str)],
 ) -> Result<(), AllocError> {
-    assert_eq!(rt; entries.len(), wanted.len());
+    assert!(rt; entries.len() == wanted.len());
     for (entry, (before, after)) in entries.iter().zip(wanted) {
-        expect_value(rt, alloc, entry.before.as_ref(), before)?;
-        expect_value(rt, alloc, entry.after.as_ref(), after)?;
+        assert!(rt;
+            has_value(alloc, entry.before.as_ref(), before)?,
+            "before {after}"
+        );
+        assert!(rt;
+            has_value(alloc, entry.after.as_ref(), after)?,
+            "after {before}"
+        );
     }
     Ok(())
 }
 
+/// The change of the items, prepared for the source `quotes`.
+fn change_of(alloc: Global, seed: RandomState, items: Items) -> Result<Change, AllocError> {
+    let store = sources(alloc, seed)?;
+    match store.prepare(alloc, b"quotes", items) {
+        Ok(change) => Ok(change),
+        Err(_) => Err(AllocError),
+    }
+}
+
 #[test]
 fn an_entry_sees_the_items_before_it(rt: HostRuntime) -> Result<(), Fail> {
-    let alloc = rt.alloc();
     let (text, wanted) = SEEN;
-    let change = sources(alloc, RandomState::new(&rt)?)?.prepare(
-        alloc,
-        b"quotes",
-        items_of(alloc, text)?,
-    );
-    assert!(rt; change.is_ok());
-    if let Ok(change) = change {
-        assert_eq!(rt; change.source(), SourceId(0));
-        expect_entries(&rt, alloc, change.entries(), wanted)?;
-    }
+    let seed = RandomState::new(&rt)?;
+    let change = change_of(rt.alloc(), seed, items_of(rt.alloc(), text)?)?;
+    assert!(rt; change.source() == SourceId(0));
+    expect_entries(&rt, rt.alloc(), change.entries(), wanted)?;
     Ok(())
 }
 
@@ -387,6 +470,33 @@ fn bytes_in(key: Option<&Bytes>) -> &[u8] {
     }
 }
 
+/// Whether the element has this key by the rule of the source.
+fn has_key(
+    alloc: Global,
+    store: &Store,
+    name: &str,
+    element: &Element,
+    want: &str,
+) -> Result<bool, AllocError> {
+    let Some(id) = store.find(name.as_bytes()) else {
+        return Ok(false);
+    };
+    let key = store.key_of(alloc, id, element)?;
+    Ok(bytes_in(key.as_ref()) == want.as_bytes())
+}
+
+/// Whether the element that the lines put has this key by the rule of the source.
+fn puts_key(
+    alloc: Global,
+    store: &Store,
+    name: &str,
+    text: &str,
+    want: &str,
+) -> Result<bool, AllocError> {
+    let element = element_of(alloc, text)?;
+    has_key(alloc, store, name, &element, want)
+}
+
 /// Compares the key of each element by the rule of the source.
 fn expect_keys(
     rt: &impl Abort,
@@ -396,12 +506,8 @@ fn expect_keys(
     cases: &[(&str, &str)],
 ) -> Result<(), AllocError> {
     let store = sources(alloc, seed)?;
-    assert!(rt; store.find(name.as_bytes()).is_some());
-    if let Some(id) = store.find(name.as_bytes()) {
-        for (text, want) in cases {
-            let key = store.key_of(alloc, id, &element_of(alloc, text)?)?;
-            assert_eq!(rt; bytes_in(key.as_ref()), want.as_bytes(), "at {text}");
-        }
+    for (text, want) in cases {
+        assert!(rt; puts_key(alloc, &store, name, text, want)?, "at {text}");
     }
     Ok(())
 }
@@ -414,26 +520,69 @@ fn a_key_is_one_value_that_is_not_empty(rt: HostRuntime) -> Result<(), Fail> {
     Ok(())
 }
 
-#[test]
-fn keys_of_elements_made_by_hand(rt: HostRuntime) -> Result<(), Fail> {
-    let alloc = rt.alloc();
-    let name = bytes_of(alloc, b"id")?;
+fn attribute_of(alloc: Global, name: &[u8], value: &[u8]) -> Result<Attribute, AllocError> {
+    let name = bytes_of(alloc, name)?;
+    let value = bytes_of(alloc, value)?;
+    Ok(Attribute { name, value })
+}
+
+/// Two attributes of one name.
+fn same_attributes(alloc: Global) -> Result<Attributes, AllocError> {
     let mut attributes = Attributes::new(alloc);
     for _ in 0..2 {
-        attributes.push(Attribute {
-            name: bytes_of(alloc, b"id")?,
-            value: bytes_of(alloc, b"7")?,
-        })?;
+        attributes.push(attribute_of(alloc, b"id", b"7")?)?;
     }
-    let twice = Element {
-        name: bytes_of(alloc, b"id")?,
+    Ok(attributes)
+}
+
+/// `<id id=7 id=7/>`, which no lines spell.
+fn twice_keyed(alloc: Global) -> Result<Element, AllocError> {
+    let attributes = same_attributes(alloc)?;
+    let name = bytes_of(alloc, b"id")?;
+    Ok(Element {
+        name,
         attributes,
         children: Forest::new(alloc),
-    };
-    assert!(rt; key_of(alloc, &attribute(alloc, "id")?, &twice)?.is_none());
-    let value = child_value(alloc, &name, &Node::Element(twice))?;
-    assert!(rt; value.is_some_and(|v| v.as_slice().is_empty()));
-    let value = child_value(alloc, &name, &Node::Text(bytes_of(alloc, b"id")?))?;
-    assert!(rt; value.is_none());
+    })
+}
+
+/// Whether the element has no key by the attribute `id`.
+fn has_no_id(alloc: Global, element: &Element) -> Result<bool, AllocError> {
+    let rule = attribute(alloc, "id")?;
+    let key = key_of(alloc, &rule, element)?;
+    Ok(key.is_none())
+}
+
+/// The value of the node, where it is an element `id`.
+fn id_value(alloc: Global, node: &Node) -> Result<Option<Bytes>, AllocError> {
+    let name = bytes_of(alloc, b"id")?;
+    child_value(alloc, &name, node)
+}
+
+/// Whether the node is an element `id` without a text.
+fn is_empty_id(alloc: Global, node: &Node) -> Result<bool, AllocError> {
+    let value = id_value(alloc, node)?;
+    Ok(value.is_some_and(|v| v.as_slice().is_empty()))
+}
+
+/// Whether the node is no element `id`.
+fn is_no_id(alloc: Global, node: &Node) -> Result<bool, AllocError> {
+    let value = id_value(alloc, node)?;
+    Ok(value.is_none())
+}
+
+#[test]
+fn keys_of_elements_made_by_hand(rt: HostRuntime) -> Result<(), Fail> {
+    let element = twice_keyed(rt.alloc())?;
+    assert!(rt; has_no_id(rt.alloc(), &element)?);
+    let node = Node::Element(element);
+    assert!(rt; is_empty_id(rt.alloc(), &node)?);
+    Ok(())
+}
+
+#[test]
+fn a_text_is_no_child(rt: HostRuntime) -> Result<(), Fail> {
+    let text = Node::Text(bytes_of(rt.alloc(), b"id")?);
+    assert!(rt; is_no_id(rt.alloc(), &text)?);
     Ok(())
 }
