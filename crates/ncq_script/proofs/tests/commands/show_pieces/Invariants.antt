@@ -1,6 +1,6 @@
 use Rattle.std.proofs.Common.{◌≡◌}
 use Rattle.std.specs.Prelude.{false}
-use Rattle.ncq_script.proofs.tests.shown_in_pieces.Given as goal
+use Rattle.ncq_script.proofs.tests.commands.show_pieces.Given as goal
 
 abbrev pub invariant-loop : goal.invariant-loop
 invariant-loop l = l.reader.lines.finished ≡ false
