@@ -11,89 +11,180 @@ use ncq_row::{Names, Shape, ShapeContent, ShapeSuffix, Shapes};
 use std::alloc::{AllocError, Global};
 use std::test::Fail;
 
-/// A shape whose parts have values.
-fn shape(
+/// Letters, and the text of the signature of their expression.
+const TEXTS: &[(&str, &str)] = &[
+    ("w=", "eq(scan(quotes,Quote(Symbol=)!e),0)"),
+    ("p1", "eq(scan(quotes,Quote(Price=)),0)"),
+    ("p^", "range(scan(quotes,Quote(Price=)),0)"),
+    ("p^=", "eq(range(scan(quotes,Quote(Price=)),0,(10,90.5]),0)"),
+    ("p=1", "eq(eq(scan(quotes,Quote(Price=)),0,\"INTC\"),0)"),
+    ("p1-", "eq(eq(scan(quotes,Quote(Price=)),0,100),12)"),
+    ("p-<", "range(eq(scan(quotes,Quote(Price=)),12,-0.5),0)"),
+    (
+        "p\"1",
+        "eq(eq(scan(quotes,Quote(Price=)),0,\"a\\\"\\\\\\n\\t\\r\"),0)",
+    ),
+    (
+        "p<>",
+        "range(range(scan(quotes,Quote(Price=)),0,(-,-0.5)),0)",
+    ),
+    ("p><", "range(range(scan(quotes,Quote(Price=)),0,[0,-)),0)"),
+    (
+        "qq+",
+        "join(scan(quotes,Quote(Symbol=,Price=)),scan(quotes,Quote(Symbol=,Price=)),1=1)",
+    ),
+    (
+        "qc*",
+        "join(scan(quotes,Quote(Symbol=,Price=)),scan(companies,Company(Symbol=,Area=)),0=0)",
+    ),
+    ("rr.", "join(scan(s,R),scan(s,R),)"),
+    (
+        "rn/",
+        "join(scan(s,R),scan(s,A@i@k(B(C=,D=),E!e)!c),1=1;0=12)",
+    ),
+    (
+        "p1r.-",
+        "eq(join(eq(scan(quotes,Quote(Price=)),0,100),scan(s,R),),12)",
+    ),
+];
+
+fn names(alloc: Global, from: &[&str]) -> Result<Names, AllocError> {
+    let mut names = Names::new(alloc);
+    for name in from {
+        names.push(bytes_of(alloc, name.as_bytes())?)?;
+    }
+    Ok(names)
+}
+
+/// A part that is a value.
+fn part(alloc: Global, tag: &str) -> Result<Shape, AllocError> {
+    let tag = bytes_of(alloc, tag.as_bytes())?;
+    Ok(Shape {
+        tag,
+        attributes: Names::new(alloc),
+        content: ShapeContent::Value,
+        suffix: ShapeSuffix::Plain,
+    })
+}
+
+/// Parts that are values.
+fn parts(alloc: Global, tags: &[&str]) -> Result<Shapes, AllocError> {
+    let mut parts = Shapes::new(alloc);
+    for tag in tags {
+        parts.push(part(alloc, tag)?)?;
+    }
+    Ok(parts)
+}
+
+/// A shape of these parts.
+fn shape_with(
     alloc: Global,
     tag: &str,
-    parts: &[&str],
+    attributes: Names,
+    parts: Shapes,
     suffix: ShapeSuffix,
 ) -> Result<Shape, AllocError> {
-    let mut shapes = Shapes::new(alloc);
-    for part in parts {
-        shapes.push(Shape {
-            tag: bytes_of(alloc, part.as_bytes())?,
-            attributes: Names::new(alloc),
-            content: ShapeContent::Value,
-            suffix: ShapeSuffix::Plain,
-        })?;
-    }
+    let tag = bytes_of(alloc, tag.as_bytes())?;
     Ok(Shape {
-        tag: bytes_of(alloc, tag.as_bytes())?,
-        attributes: Names::new(alloc),
-        content: ShapeContent::Parts(shapes),
+        tag,
+        attributes,
+        content: ShapeContent::Parts(parts),
         suffix,
     })
 }
 
-/// A shape with two attributes, and a part in it that has parts.
-fn nested(alloc: Global) -> Result<Shape, AllocError> {
-    let mut outer = shape(alloc, "A", &[], ShapeSuffix::Content)?;
-    outer.attributes.push(bytes_of(alloc, b"i")?)?;
-    outer.attributes.push(bytes_of(alloc, b"k")?)?;
+/// A shape whose parts have values.
+fn shape(
+    alloc: Global,
+    tag: &str,
+    tags: &[&str],
+    suffix: ShapeSuffix,
+) -> Result<Shape, AllocError> {
+    let parts = parts(alloc, tags)?;
+    shape_with(alloc, tag, Names::new(alloc), parts, suffix)
+}
+
+/// A part that has parts, and one that is an element.
+fn nested_parts(alloc: Global) -> Result<Shapes, AllocError> {
     let mut parts = Shapes::new(alloc);
     parts.push(shape(alloc, "B", &["C", "D"], ShapeSuffix::Plain)?)?;
     parts.push(shape(alloc, "E", &[], ShapeSuffix::Element)?)?;
-    outer.content = ShapeContent::Parts(parts);
-    Ok(outer)
+    Ok(parts)
 }
 
-fn scan(alloc: Global, letter: u8) -> Result<Expr, AllocError> {
-    let source = match letter {
-        b'c' => "companies",
-        b'n' | b'r' => "s",
-        _ => "quotes",
-    };
+/// A shape with two attributes, and a part in it that has parts.
+fn nested(alloc: Global) -> Result<Shape, AllocError> {
+    let attributes = names(alloc, &["i", "k"])?;
+    let parts = nested_parts(alloc)?;
+    shape_with(alloc, "A", attributes, parts, ShapeSuffix::Content)
+}
+
+/// The shape of this letter.
+fn shape_of(alloc: Global, letter: u8) -> Result<Shape, AllocError> {
     let plain = ShapeSuffix::Plain;
-    let shape = match letter {
+    match letter {
         b'c' => shape(alloc, "Company", &["Symbol", "Area"], plain),
         b'n' => nested(alloc),
         b'p' => shape(alloc, "Quote", &["Price"], plain),
         b'q' => shape(alloc, "Quote", &["Symbol", "Price"], plain),
         b'w' => shape(alloc, "Quote", &["Symbol"], ShapeSuffix::Element),
         _ => shape(alloc, "R", &[], plain),
-    }?;
-    Ok(Expr::Scan {
-        source: bytes_of(alloc, source.as_bytes())?,
-        shape,
-    })
+    }
 }
 
-fn equal(alloc: Global, input: Expr, slot: usize, constant: Atom) -> Result<Expr, AllocError> {
-    Ok(Expr::EqSel {
-        input: Own::new(alloc, input)?,
-        slot,
-        constant,
-    })
+/// The source of this letter.
+fn source_of(letter: u8) -> &'static str {
+    match letter {
+        b'c' => "companies",
+        b'n' | b'r' => "s",
+        _ => "quotes",
+    }
 }
 
-fn range(alloc: Global, input: Expr, low: End, high: End) -> Result<Expr, AllocError> {
-    Ok(Expr::RangeSel {
-        input: Own::new(alloc, input)?,
-        slot: 0,
-        interval: Interval { low, high },
-    })
+/// The scan of this letter.
+fn scan(alloc: Global, letter: u8) -> Result<Own<Expr>, AllocError> {
+    let source = bytes_of(alloc, source_of(letter).as_bytes())?;
+    let shape = shape_of(alloc, letter)?;
+    Own::new(alloc, Expr::Scan { source, shape })
+}
+
+fn equal(
+    alloc: Global,
+    input: Own<Expr>,
+    slot: usize,
+    constant: Atom,
+) -> Result<Own<Expr>, AllocError> {
+    Own::new(
+        alloc,
+        Expr::EqSel {
+            input,
+            slot,
+            constant,
+        },
+    )
+}
+
+fn equal_text(alloc: Global, input: Own<Expr>, text: &[u8]) -> Result<Own<Expr>, AllocError> {
+    let text = bytes_of(alloc, text)?;
+    equal(alloc, input, 0, Atom::Text(text))
+}
+
+fn range(alloc: Global, input: Own<Expr>, low: End, high: End) -> Result<Own<Expr>, AllocError> {
+    Own::new(
+        alloc,
+        Expr::RangeSel {
+            input,
+            slot: 0,
+            interval: Interval { low, high },
+        },
+    )
 }
 
 /// The selection of this letter over the input.
-fn selected(alloc: Global, letter: u8, input: Expr) -> Result<Expr, AllocError> {
+fn selected(alloc: Global, letter: u8, input: Own<Expr>) -> Result<Own<Expr>, AllocError> {
     match letter {
-        b'=' => equal(alloc, input, 0, Atom::Text(bytes_of(alloc, b"INTC")?)),
-        b'"' => equal(
-            alloc,
-            input,
-            0,
-            Atom::Text(bytes_of(alloc, b"a\"\\\n\t\r")?),
-        ),
+        b'=' => equal_text(alloc, input, b"INTC"),
+        b'"' => equal_text(alloc, input, b"a\"\\\n\t\r"),
         b'1' => equal(alloc, input, 0, Atom::Num(100_000_000)),
         b'-' => equal(alloc, input, 12, Atom::Num(-500_000)),
         b'<' => range(alloc, input, End::Unbounded, End::Excluded(-500_000)),
@@ -107,46 +198,71 @@ fn selected(alloc: Global, letter: u8, input: Expr) -> Result<Expr, AllocError> 
     }
 }
 
-/// The join of this letter: the product, or by one or two pairs.
-fn joined(alloc: Global, letter: u8, left: Expr, right: Expr) -> Result<Expr, AllocError> {
-    let mut pairs = Pairs::new(alloc);
-    if letter == b'*' {
-        pairs.push(Pair { left: 0, right: 0 })?;
+/// The left and the right slots of the join of this letter.
+fn slots_of(letter: u8) -> &'static [(usize, usize)] {
+    match letter {
+        b'*' => &[(0, 0)],
+        b'+' => &[(1, 1)],
+        b'/' => &[(1, 1), (0, 12)],
+        _ => &[],
     }
-    if letter == b'+' || letter == b'/' {
-        pairs.push(Pair { left: 1, right: 1 })?;
-    }
-    if letter == b'/' {
-        pairs.push(Pair { left: 0, right: 12 })?;
-    }
-    Ok(Expr::Join {
-        left: Own::new(alloc, left)?,
-        right: Own::new(alloc, right)?,
-        pairs,
-    })
 }
 
-/// One letter more of the expressions that wait, the newest last.
-fn add_letter(alloc: Global, waiting: &mut Vec<Expr>, letter: u8) -> Result<(), AllocError> {
-    if letter.is_ascii_lowercase() {
-        waiting.push(scan(alloc, letter)?)?;
-        return Ok(());
+fn pairs(alloc: Global, slots: &[(usize, usize)]) -> Result<Pairs, AllocError> {
+    let mut pairs = Pairs::new(alloc);
+    for &(left, right) in slots {
+        pairs.push(Pair { left, right })?;
     }
-    let Some(top) = waiting.pop() else {
-        return Ok(());
-    };
-    let joins = letter == b'.' || letter == b'*' || letter == b'+' || letter == b'/';
-    if !joins {
-        waiting.push(selected(alloc, letter, top)?)?;
-        return Ok(());
-    }
-    if let Some(left) = waiting.pop() {
-        waiting.push(joined(alloc, letter, left, top)?)?;
-    }
+    Ok(pairs)
+}
+
+/// The join of this letter: the product, or by one or two pairs.
+fn joined(
+    alloc: Global,
+    letter: u8,
+    left: Own<Expr>,
+    right: Own<Expr>,
+) -> Result<Own<Expr>, AllocError> {
+    let pairs = pairs(alloc, slots_of(letter))?;
+    Own::new(alloc, Expr::Join { left, right, pairs })
+}
+
+/// One expression more that waits.
+fn wait(waiting: &mut Vec<Own<Expr>>, expr: Own<Expr>) -> Result<(), AllocError> {
+    waiting.push(expr)?;
     Ok(())
 }
 
-fn expr(alloc: Global, letters: &str) -> Result<Expr, AllocError> {
+/// A selection in place of the newest expression that waits.
+fn add_selection(
+    alloc: Global,
+    waiting: &mut Vec<Own<Expr>>,
+    letter: u8,
+) -> Result<(), AllocError> {
+    match waiting.pop() {
+        Some(input) => wait(waiting, selected(alloc, letter, input)?),
+        None => Ok(()),
+    }
+}
+
+/// A join in place of the newest two expressions that wait.
+fn add_join(alloc: Global, waiting: &mut Vec<Own<Expr>>, letter: u8) -> Result<(), AllocError> {
+    match (waiting.pop(), waiting.pop()) {
+        (Some(right), Some(left)) => wait(waiting, joined(alloc, letter, left, right)?),
+        _ => Ok(()),
+    }
+}
+
+/// One letter more of the expressions that wait, the newest last.
+fn add_letter(alloc: Global, waiting: &mut Vec<Own<Expr>>, letter: u8) -> Result<(), AllocError> {
+    match letter {
+        b'a'..=b'z' => wait(waiting, scan(alloc, letter)?),
+        b'.' | b'*' | b'+' | b'/' => add_join(alloc, waiting, letter),
+        _ => add_selection(alloc, waiting, letter),
+    }
+}
+
+fn expr(alloc: Global, letters: &str) -> Result<Own<Expr>, AllocError> {
     let mut waiting = Vec::new(alloc);
     for letter in letters.as_bytes() {
         add_letter(alloc, &mut waiting, *letter)?;
@@ -157,62 +273,29 @@ fn expr(alloc: Global, letters: &str) -> Result<Expr, AllocError> {
     }
 }
 
-/// The signature of the expression of these letters.
-fn signature(alloc: Global, letters: &str) -> Result<Signature, AllocError> {
-    let whole = expr(alloc, letters)?;
-    signature_of(alloc, &whole)
+fn text_of(alloc: Global, signature: &Signature) -> Result<Vec<u8>, AllocError> {
+    let mut out = Vec::new(alloc);
+    write_signature(signature, &mut out)?;
+    Ok(out)
 }
 
-fn text(alloc: Global, letters: &str) -> Result<Vec<u8>, AllocError> {
-    let signature = signature(alloc, letters)?;
-    let mut out = Vec::new(alloc);
-    write_signature(&signature, &mut out)?;
-    Ok(out)
+/// The text of the signature of the expression.
+fn text(alloc: Global, expr: &Expr) -> Result<Vec<u8>, AllocError> {
+    let signature = signature_of(alloc, expr)?;
+    text_of(alloc, &signature)
+}
+
+/// Whether the signature of the expression of these letters has this text.
+fn has_text(alloc: Global, letters: &str, want: &str) -> Result<bool, AllocError> {
+    let whole = expr(alloc, letters)?;
+    let text = text(alloc, whole.get())?;
+    Ok(text.as_slice() == want.as_bytes())
 }
 
 #[test]
 fn a_signature_shows_all_but_the_last_constant(rt: HostRuntime) -> Result<(), Fail> {
-    let alloc = rt.alloc();
-    for (letters, want) in [
-        ("w=", "eq(scan(quotes,Quote(Symbol=)!e),0)"),
-        ("p1", "eq(scan(quotes,Quote(Price=)),0)"),
-        ("p^", "range(scan(quotes,Quote(Price=)),0)"),
-        ("p^=", "eq(range(scan(quotes,Quote(Price=)),0,(10,90.5]),0)"),
-        ("p=1", "eq(eq(scan(quotes,Quote(Price=)),0,\"INTC\"),0)"),
-        ("p1-", "eq(eq(scan(quotes,Quote(Price=)),0,100),12)"),
-        ("p-<", "range(eq(scan(quotes,Quote(Price=)),12,-0.5),0)"),
-        (
-            "p\"1",
-            "eq(eq(scan(quotes,Quote(Price=)),0,\"a\\\"\\\\\\n\\t\\r\"),0)",
-        ),
-        (
-            "p<>",
-            "range(range(scan(quotes,Quote(Price=)),0,(-,-0.5)),0)",
-        ),
-        ("p><", "range(range(scan(quotes,Quote(Price=)),0,[0,-)),0)"),
-        (
-            "qq+",
-            "join(scan(quotes,Quote(Symbol=,Price=)),scan(quotes,Quote(Symbol=,Price=)),1=1)",
-        ),
-        (
-            "qc*",
-            "join(scan(quotes,Quote(Symbol=,Price=)),scan(companies,Company(Symbol=,Area=)),0=0)",
-        ),
-        ("rr.", "join(scan(s,R),scan(s,R),)"),
-        (
-            "rn/",
-            "join(scan(s,R),scan(s,A@i@k(B(C=,D=),E!e)!c),1=1;0=12)",
-        ),
-        (
-            "p1r.-",
-            "eq(join(eq(scan(quotes,Quote(Price=)),0,100),scan(s,R),),12)",
-        ),
-    ] {
-        assert_eq!(rt;
-            text(alloc, letters)?.as_slice(),
-            want.as_bytes(),
-            "{letters}"
-        );
+    for (letters, want) in TEXTS {
+        assert!(rt; has_text(rt.alloc(), letters, want)?, "{letters}");
     }
     Ok(())
 }

@@ -1,12 +1,12 @@
 //! The plans of three statements, and their texts worked out by hand.
-ghost use Rattle.std.specs.Prelude.{◌≡◌, ◌≤◌, ◌+◌, [], length, IfOk};
+ghost use Rattle.std.specs.Prelude.{◌≡◌, ◌≤◌, ◌+◌, ◌∷◌, [], length, IfOk};
 ghost use Rattle.std.specs.List.{sum_by};
 ghost use Rattle.ncq_row.specs.Widths.{width, suffix_width};
 ghost use Rattle.ncq_plan.specs.Products.{arm_width};
 ghost use Rattle.ncq_plan.specs.WellFormed.{arms_width, equals_in, ranges_in, ArmsFit};
 ghost use Rattle.ncq_plan.specs.WellFormed.{IsWellFormed};
 
-use crate::{signature_of, write_signature};
+use super::text;
 use ncq_base::{Atom, bytes_of, write_atom};
 use ncq_plan::{
     Arm, Arms, EqualTo, EqualTos, Expr, NormalQuery, Pair, Pairs, SlotTemplate, Tests, Withins,
@@ -14,6 +14,7 @@ use ncq_plan::{
 };
 use ncq_row::{Names, Shape, ShapeContent, ShapeSuffix, Shapes};
 use std::alloc::{AllocError, Global};
+use std::process::Abort;
 use std::test::Fail;
 
 /// A part that is a value.
@@ -21,30 +22,41 @@ use std::test::Fail;
 fn part(alloc: Global, tag: &str) -> Result<Shape, AllocError>
     ensures { IfOk result (λ s. width s ≡ 1) }
 {
+    let tag = bytes_of(alloc, tag.as_bytes())?;
     Ok(Shape {
-        tag: bytes_of(alloc, tag.as_bytes())?,
+        tag,
         attributes: Names::new(alloc),
         content: ShapeContent::Value,
         suffix: ShapeSuffix::Plain,
     })
 }
 
-/// The arm of quotes with these parts.
+/// The shape of quotes with these parts.
 #[tactic(auto, using(ncq_row::proofs::ShapeLaws::width_is))]
+fn quote_shape(alloc: Global, parts: Shapes, suffix: ShapeSuffix) -> Result<Shape, AllocError>
+    ensures { IfOk result (λ s. width s ≡ sum_by width parts + suffix_width suffix) }
+{
+    let tag = bytes_of(alloc, b"Quote")?;
+    Ok(Shape {
+        tag,
+        attributes: Names::new(alloc),
+        content: ShapeContent::Parts(parts),
+        suffix,
+    })
+}
+
+/// The arm of quotes with these parts.
 fn quotes(alloc: Global, parts: Shapes, suffix: ShapeSuffix) -> Result<Arm, AllocError>
     ensures width { IfOk result (λ a. arm_width a ≡ sum_by width parts + suffix_width suffix) }
     ensures equals { IfOk result (λ a. a.equals ≡ []) }
     ensures ranges { IfOk result (λ a. a.ranges ≡ []) }
     ensures pairs { IfOk result (λ a. a.pairs ≡ []) }
 {
+    let shape = quote_shape(alloc, parts, suffix)?;
+    let source = bytes_of(alloc, b"quotes")?;
     Ok(Arm {
-        source: bytes_of(alloc, b"quotes")?,
-        shape: Shape {
-            tag: bytes_of(alloc, b"Quote")?,
-            attributes: Names::new(alloc),
-            content: ShapeContent::Parts(parts),
-            suffix,
-        },
+        source,
+        shape,
         equals: EqualTos::new(alloc),
         ranges: Withins::new(alloc),
         pairs: Pairs::new(alloc),
@@ -68,6 +80,23 @@ fn query(alloc: Global, arms: Arms) -> Result<NormalQuery, AllocError>
     })
 }
 
+/// One part that is a value.
+fn lone_part(alloc: Global, tag: &str) -> Result<Shapes, AllocError>
+    ensures { IfOk result (λ parts. sum_by width parts ≡ 1) }
+{
+    let mut parts = Shapes::new(alloc);
+    parts.push(part(alloc, tag)?)?;
+    Ok(parts)
+}
+
+fn lone_arm(alloc: Global, arm: Arm) -> Result<Arms, AllocError>
+    ensures { IfOk result (λ arms. arms ≡ arm ∷ []) }
+{
+    let mut arms = Arms::new(alloc);
+    arms.push(arm)?;
+    Ok(arms)
+}
+
 /// The query of quotes with one part, whose first slot is the constant.
 fn equal_quotes(
     alloc: Global,
@@ -77,12 +106,10 @@ fn equal_quotes(
 ) -> Result<NormalQuery, AllocError>
     ensures { IfOk result IsWellFormed }
 {
-    let mut parts = Shapes::new(alloc);
-    parts.push(part(alloc, tag)?)?;
+    let parts = lone_part(alloc, tag)?;
     let mut arm = quotes(alloc, parts, suffix)?;
     arm.equals.push(EqualTo { slot: 0, constant })?;
-    let mut arms = Arms::new(alloc);
-    arms.push(arm)?;
+    let arms = lone_arm(alloc, arm)?;
     query(alloc, arms)
 }
 
@@ -120,14 +147,18 @@ fn close(out: &mut Vec<u8>, constant: &Atom) -> Result<(), AllocError> {
     Ok(())
 }
 
-/// The text of an expression: that of its signature, with the constant of an equality.
-fn text(alloc: Global, expr: &Expr) -> Result<Vec<u8>, AllocError> {
-    let signature = signature_of(alloc, expr)?;
-    let mut out = Vec::new(alloc);
-    write_signature(&signature, &mut out)?;
-    if let Expr::EqSel { constant, .. } = expr {
-        close(&mut out, constant)?;
+/// The constant in place of the last bracket, where the expression ends in an equality.
+fn close_equality(out: &mut Vec<u8>, expr: &Expr) -> Result<(), AllocError> {
+    match expr {
+        Expr::EqSel { constant, .. } => close(out, constant),
+        _ => Ok(()),
     }
+}
+
+/// The text of an expression: that of its signature, with the constant of an equality.
+fn whole_text(alloc: Global, expr: &Expr) -> Result<Vec<u8>, AllocError> {
+    let mut out = text(alloc, expr)?;
+    close_equality(&mut out, expr)?;
     Ok(out)
 }
 
@@ -136,28 +167,45 @@ fn plan_text(alloc: Global, query: &NormalQuery) -> Result<Vec<u8>, AllocError>
     requires { IsWellFormed query.now }
 {
     let whole = plan(alloc, query)?;
-    text(alloc, &whole)
+    whole_text(alloc, &whole)
+}
+
+/// Compares the text of the plan of a query.
+fn expect_plan(
+    rt: &impl Abort,
+    alloc: Global,
+    query: NormalQuery,
+    want: &str,
+) -> Result<(), AllocError>
+    requires { IsWellFormed query }
+{
+    let text = plan_text(alloc, &query)?;
+    assert!(rt; text.as_slice() == want.as_bytes(), "{want}");
+    Ok(())
 }
 
 #[test]
-fn plans_have_these_texts(rt: HostRuntime) -> Result<(), Fail> {
-    let alloc = rt.alloc();
-    let intc = Atom::Text(bytes_of(alloc, b"INTC")?);
-    let symbol = equal_quotes(alloc, "Symbol", ShapeSuffix::Element, intc)?;
-    assert_eq!(rt;
-        plan_text(alloc, &symbol)?.as_slice(),
-        "eq(scan(quotes,Quote(Symbol=)!e),0,\"INTC\")".as_bytes()
-    );
+fn an_equality_of_a_text(rt: HostRuntime) -> Result<(), Fail> {
+    let intc = Atom::Text(bytes_of(rt.alloc(), b"INTC")?);
+    let query = equal_quotes(rt.alloc(), "Symbol", ShapeSuffix::Element, intc)?;
+    let want = "eq(scan(quotes,Quote(Symbol=)!e),0,\"INTC\")";
+    expect_plan(&rt, rt.alloc(), query, want)?;
+    Ok(())
+}
+
+#[test]
+fn an_equality_of_a_number(rt: HostRuntime) -> Result<(), Fail> {
     let hundred = Atom::Num(100_000_000);
-    let price = equal_quotes(alloc, "Price", ShapeSuffix::Plain, hundred)?;
-    assert_eq!(rt;
-        plan_text(alloc, &price)?.as_slice(),
-        "eq(scan(quotes,Quote(Price=)),0,100)".as_bytes()
-    );
-    let pairs = paired_quotes(alloc)?;
-    assert_eq!(rt;
-        plan_text(alloc, &pairs)?.as_slice(),
-        "join(scan(quotes,Quote(Symbol=,Price=)),scan(quotes,Quote(Symbol=,Price=)),1=1)".as_bytes()
-    );
+    let query = equal_quotes(rt.alloc(), "Price", ShapeSuffix::Plain, hundred)?;
+    let want = "eq(scan(quotes,Quote(Price=)),0,100)";
+    expect_plan(&rt, rt.alloc(), query, want)?;
+    Ok(())
+}
+
+#[test]
+fn a_join_by_one_pair(rt: HostRuntime) -> Result<(), Fail> {
+    let query = paired_quotes(rt.alloc())?;
+    let want = "join(scan(quotes,Quote(Symbol=,Price=)),scan(quotes,Quote(Symbol=,Price=)),1=1)";
+    expect_plan(&rt, rt.alloc(), query, want)?;
     Ok(())
 }
