@@ -5,10 +5,11 @@ use crate::tree::{Tree, lone};
 use crate::{EqTable, RangeTable};
 use ncq_base::{Atom, End, FileId, Interval, bytes_of, in_interval};
 use std::alloc::{AllocError, Global};
+use std::process::Abort;
 use std::test::Fail;
 
 /// The intervals of the files 1, 2, 3 and so on. An end that is not there is `-`.
-const INTERVALS: [(char, i128, i128, char); 11] = [
+const INTERVALS: &[(char, i128, i128, char)] = &[
     ('(', 10, 20, ']'),
     ('[', 15, 0, '-'),
     // The ends at one number: only where both are included it is in the interval.
@@ -26,7 +27,7 @@ const INTERVALS: [(char, i128, i128, char); 11] = [
 ];
 
 /// A value, and the files that take it.
-const TAKERS: [(i128, &[u64]); 7] = [
+const TAKERS: &[(i128, &[u64])] = &[
     (-9, &[7, 8, 9]),
     (9, &[7, 8, 9]),
     (10, &[3, 8, 9]),
@@ -37,7 +38,7 @@ const TAKERS: [(i128, &[u64]); 7] = [
 ];
 
 /// And with the first two intervals alone.
-const FEWER: [(i128, &[u64]); 4] = [(10, &[]), (15, &[1, 2]), (20, &[1, 2]), (21, &[2])];
+const FEWER: &[(i128, &[u64])] = &[(10, &[]), (15, &[1, 2]), (20, &[1, 2]), (21, &[2])];
 
 fn end(mark: char, n: i128) -> End {
     match mark {
@@ -62,6 +63,19 @@ fn put(table: &mut RangeTable, interval: Interval, file: u64) -> Result<(), Allo
     table.insert(interval, FileId(file))
 }
 
+/// Whether these are the files.
+fn are_files(files: &[FileId], want: &[u64]) -> bool {
+    if files.len() != want.len() {
+        return false;
+    }
+    for i in 0..want.len() {
+        if files[i].0 != want[i] {
+            return false;
+        }
+    }
+    true
+}
+
 /// Whether these are the files that take the value.
 fn are_takers(
     alloc: Global,
@@ -70,15 +84,31 @@ fn are_takers(
     want: &[u64],
 ) -> Result<bool, AllocError> {
     let files = table.takers(alloc, value)?;
-    if files.len() != want.len() {
-        return Ok(false);
+    Ok(are_files(files.as_slice(), want))
+}
+
+/// The files of each row take its number.
+fn expect_takers(
+    rt: &impl Abort,
+    alloc: Global,
+    table: &RangeTable,
+    rows: &[(i128, &[u64])],
+) -> Result<(), AllocError> {
+    for (n, want) in rows {
+        assert!(rt; are_takers(alloc, table, &Atom::Num(*n), want)?, "{n}");
     }
-    for i in 0..want.len() {
-        if files.as_slice()[i].0 != want[i] {
-            return Ok(false);
-        }
-    }
-    Ok(true)
+    Ok(())
+}
+
+/// Whether no file takes the text.
+fn takes_no_text(alloc: Global, table: &RangeTable, text: &[u8]) -> Result<bool, AllocError> {
+    let text = text_atom(alloc, text)?;
+    are_takers(alloc, table, &text, &[])
+}
+
+fn text_atom(alloc: Global, text: &[u8]) -> Result<Atom, AllocError> {
+    let text = bytes_of(alloc, text)?;
+    Ok(Atom::Text(text))
 }
 
 /// The table of all the intervals, the last one first.
@@ -92,41 +122,74 @@ fn table(alloc: Global) -> Result<RangeTable, AllocError> {
     Ok(table)
 }
 
+/// Takes the intervals away, and each a second time: it is there once.
+fn expect_removed(rt: &impl Abort, table: &mut RangeTable, rows: &[(char, i128, i128, char)]) {
+    for row in rows {
+        assert!(rt; table.remove(&interval(*row)).is_some());
+        assert!(rt; table.remove(&interval(*row)).is_none());
+    }
+}
+
 #[test]
 fn an_interval_takes_the_numbers_between_its_ends(rt: HostRuntime) -> Result<(), Fail> {
     let alloc = rt.alloc();
     let mut table = table(alloc)?;
     assert!(rt; table.len() == 11);
-    for (n, files) in TAKERS {
-        assert!(rt; are_takers(alloc, &table, &Atom::Num(n), files)?, "{n}");
-    }
-    for row in &INTERVALS[2..] {
-        assert!(rt; table.remove(&interval(*row)).is_some());
-        assert!(rt; table.remove(&interval(*row)).is_none());
-    }
+    expect_takers(&rt, alloc, &table, TAKERS)?;
+    expect_removed(&rt, &mut table, &INTERVALS[2..]);
     assert!(rt; table.len() == 2);
-    for (n, files) in FEWER {
-        assert!(rt; are_takers(alloc, &table, &Atom::Num(n), files)?, "{n}");
-    }
-    let text = Atom::Text(bytes_of(alloc, b"15")?);
-    assert!(rt; are_takers(alloc, &table, &text, &[])?);
+    expect_takers(&rt, alloc, &table, FEWER)?;
+    assert!(rt; takes_no_text(alloc, &table, b"15")?);
     Ok(())
+}
+
+/// The file of a number.
+fn file_of(table: &EqTable, n: i128) -> Option<FileId> {
+    table.find(&Atom::Num(n))
+}
+
+/// The file of a text.
+fn file_of_text(alloc: Global, table: &EqTable, text: &[u8]) -> Result<Option<FileId>, AllocError> {
+    let text = text_atom(alloc, text)?;
+    Ok(table.find(&text))
+}
+
+/// Adds the number, where it is not there.
+fn put_number(table: &mut EqTable, n: i128, file: u64) -> Result<(), AllocError> {
+    if table.find(&Atom::Num(n)).is_some() {
+        return Ok(());
+    }
+    table.insert(Atom::Num(n), FileId(file))
+}
+
+/// Takes the number away: the file that it had.
+fn take_number(table: &mut EqTable, n: i128) -> Option<FileId> {
+    table.remove(&Atom::Num(n))
+}
+
+/// Takes the text away: the file that it had.
+fn take_text(
+    alloc: Global,
+    table: &mut EqTable,
+    text: &[u8],
+) -> Result<Option<FileId>, AllocError> {
+    let text = text_atom(alloc, text)?;
+    Ok(table.remove(&text))
 }
 
 #[test]
 fn an_atom_has_the_file_that_it_was_put_in_with(rt: HostRuntime) -> Result<(), Fail> {
     let alloc = rt.alloc();
     let mut table = EqTable::new(alloc)?;
-    let text = Atom::Text(bytes_of(alloc, b"100 ")?);
-    assert!(rt; table.find(&Atom::Num(100)).is_none() && table.find(&text).is_none());
-    if table.find(&Atom::Num(100)).is_none() {
-        table.insert(Atom::Num(100), FileId(7))?;
-    }
-    assert!(rt; table.find(&Atom::Num(100)) == Some(FileId(7)));
-    assert!(rt; table.find(&text).is_none() && table.len() == 1);
-    assert!(rt; table.remove(&text).is_none() && table.len() == 1);
-    assert!(rt; table.remove(&Atom::Num(100)) == Some(FileId(7)));
-    assert!(rt; table.find(&Atom::Num(100)).is_none() && table.len() == 0);
+    assert!(rt; file_of(&table, 100).is_none());
+    assert!(rt; file_of_text(alloc, &table, b"100 ")?.is_none());
+    put_number(&mut table, 100, 7)?;
+    assert!(rt; file_of(&table, 100) == Some(FileId(7)) && table.len() == 1);
+    assert!(rt; file_of_text(alloc, &table, b"100 ")?.is_none());
+    assert!(rt; take_text(alloc, &mut table, b"100 ")?.is_none());
+    assert!(rt; table.len() == 1);
+    assert!(rt; take_number(&mut table, 100) == Some(FileId(7)));
+    assert!(rt; file_of(&table, 100).is_none() && table.len() == 0);
     Ok(())
 }
 
@@ -141,11 +204,21 @@ fn count(intervals: &[Interval], value: &Atom) -> usize {
     count
 }
 
+/// Whether of the value the table tells as many files as the intervals that hold it.
+fn is_told(
+    alloc: Global,
+    table: &RangeTable,
+    intervals: &[Interval],
+    value: &Atom,
+) -> Result<bool, AllocError> {
+    let files = table.takers(alloc, value)?;
+    Ok(files.len() == count(intervals, value))
+}
+
 /// Whether of each value up to 1,100 the table tells as many files as the intervals that hold it.
 fn are_told(alloc: Global, table: &RangeTable, intervals: &[Interval]) -> Result<bool, AllocError> {
     for n in 0..1100u32 {
-        let value = Atom::Num(n as i128);
-        if table.takers(alloc, &value)?.len() != count(intervals, &value) {
+        if !is_told(alloc, table, intervals, &Atom::Num(n as i128))? {
             return Ok(false);
         }
     }
@@ -183,6 +256,12 @@ fn listed(alloc: Global, thirds: bool) -> Result<Vec<Interval>, AllocError> {
     Ok(list)
 }
 
+/// Whether the table tells what the list tells.
+fn is_told_as_listed(alloc: Global, table: &RangeTable, thirds: bool) -> Result<bool, AllocError> {
+    let list = listed(alloc, thirds)?;
+    are_told(alloc, table, list.as_slice())
+}
+
 /// Leaves each third in the table. Whether each of the others was there with its file.
 fn thin_out(table: &mut RangeTable) -> bool {
     for i in 0..1000u32 {
@@ -198,10 +277,10 @@ fn a_thousand_intervals_are_told_as_a_plain_list_tells_them(rt: HostRuntime) -> 
     let alloc = rt.alloc();
     let mut table = filled(alloc)?;
     assert!(rt; table.len() == 1000);
-    assert!(rt; are_told(alloc, &table, listed(alloc, false)?.as_slice())?);
+    assert!(rt; is_told_as_listed(alloc, &table, false)?);
     assert!(rt; thin_out(&mut table));
     assert!(rt; table.len() == 334);
-    assert!(rt; are_told(alloc, &table, listed(alloc, true)?.as_slice())?);
+    assert!(rt; is_told_as_listed(alloc, &table, true)?);
     Ok(())
 }
 
@@ -217,18 +296,30 @@ fn ordered(order: u32, i: u32) -> Interval
     }
 }
 
-/// How many levels a tree of a thousand has, and how many it has without the first 900.
-fn levels(alloc: Global, order: u32) -> Result<(u64, u64), AllocError> {
+/// The tree of a thousand.
+fn grown(alloc: Global, order: u32) -> Result<Tree, AllocError> {
     let mut tree = Tree::new();
     for i in 0..1000u32 {
         tree = tree.with(lone(alloc, ordered(order, i), FileId(i as u64))?);
     }
-    let whole = tree.height();
+    Ok(tree)
+}
+
+/// The tree without the first 900.
+fn cut(tree: Tree, order: u32) -> Tree {
+    let mut left = tree;
     for i in 0..900u32 {
-        let (_, rest) = tree.without(&(ordered(order, i), FileId(i as u64)));
-        tree = rest;
+        let (_, rest) = left.without(&(ordered(order, i), FileId(i as u64)));
+        left = rest;
     }
-    Ok((whole, tree.height()))
+    left
+}
+
+/// How many levels a tree of a thousand has, and how many it has without the first 900.
+fn levels(alloc: Global, order: u32) -> Result<(u64, u64), AllocError> {
+    let tree = grown(alloc, order)?;
+    let whole = tree.height();
+    Ok((whole, cut(tree, order).height()))
 }
 
 #[test]
