@@ -1,10 +1,10 @@
 //! A book of three members, by values worked out by hand.
-ghost use Rattle.std.specs.Prelude.{◌≡◌, ◌<◌, ◌+◌, [], IfOk};
+ghost use Rattle.std.specs.Prelude.{◌≡◌, ◌<◌, ◌+◌, [], IfOk, OnOk};
 ghost use Rattle.std.specs.List.{AllByRecursion};
 
 use crate::{Book, Member};
 use ncq_base::{Bytes, FileId, Sequence, bytes_of};
-use ncq_event::{Firing, Firings, Installs, Timing};
+use ncq_event::{Firings, Timing};
 use ncq_plan::{Arms, NormalQuery, SlotTemplate, Tests};
 use std::alloc::{AllocError, Global};
 use std::hash::RandomState;
@@ -34,7 +34,7 @@ const LAST: Row = (
 );
 
 /// Files, and whether the last member watches one of them.
-const LAST_WATCHERS: [(&[u64], &[u64]); 3] = [
+const LAST_WATCHERS: &[(&[u64], &[u64])] = &[
     (&[18446744073709551614], &[]),
     (&[18446744073709551615], &[18446744073709551615]),
     (
@@ -44,7 +44,7 @@ const LAST_WATCHERS: [(&[u64], &[u64]); 3] = [
 ];
 
 /// The last firing of the last member.
-const LAST_DUE: [(u64, &[(u64, u64)]); 2] = [
+const LAST_DUE: &[(u64, &[(u64, u64)])] = &[
     (18446744073709551614, &[]),
     (
         18446744073709551615,
@@ -54,7 +54,7 @@ const LAST_DUE: [(u64, &[(u64, u64)]); 2] = [
 
 /// Files, and who watches one of them: install numbers rise whatever the order of the files, a file
 /// that is named twice counts once, and the timer is not told.
-const WATCHERS: [(&[u64], &[u64]); 11] = [
+const WATCHERS: &[(&[u64], &[u64])] = &[
     (&[7], &[3]),
     (&[9], &[2]),
     (&[7, 9], &[2, 3]),
@@ -69,7 +69,7 @@ const WATCHERS: [(&[u64], &[u64]); 11] = [
 ];
 
 /// The instant that the clock is moved to, from 0, and who is due.
-const DUE: [(u64, &[(u64, u64)]); 5] = [
+const DUE: &[(u64, &[(u64, u64)])] = &[
     (0, &[]),
     (9, &[]),
     (10, &[(10, 1)]),
@@ -78,7 +78,7 @@ const DUE: [(u64, &[(u64, u64)]); 5] = [
 ];
 
 /// And from 10.
-const DUE_LATER: [(u64, &[(u64, u64)]); 4] = [
+const DUE_LATER: &[(u64, &[(u64, u64)])] = &[
     (10, &[]),
     (19, &[]),
     (20, &[(20, 1)]),
@@ -86,7 +86,7 @@ const DUE_LATER: [(u64, &[(u64, u64)]); 4] = [
 ];
 
 /// An instant, and who has expired.
-const EXPIRED: [(u64, &[u64]); 6] = [
+const EXPIRED: &[(u64, &[u64])] = &[
     (0, &[]),
     (40, &[]),
     (41, &[3]),
@@ -141,32 +141,61 @@ fn put(alloc: Global, book: &mut Book, install: u64, row: &Row) -> Result<bool, 
     Ok(true)
 }
 
-/// The three members under 1, 2 and 3.
+/// Puts three members in, under 1, 2 and 3.
+fn put_three(alloc: Global, book: &mut Book) -> Result<(), AllocError>
+    requires { book.old.members ≡ [] }
+    ensures { OnOk result (AllByRecursion (λ m. m.install < 4) book.new.members) }
+{
+    put(alloc, book, 1, &TIMER)?;
+    put(alloc, book, 2, &CHANGES)?;
+    put(alloc, book, 3, &PENDING)?;
+    Ok(())
+}
+
+/// The three members.
 fn three(alloc: Global, seed: RandomState) -> Result<Book, AllocError>
     ensures { IfOk result (λ book. AllByRecursion (λ m. m.install < 4) book.members) }
 {
     let mut book = Book::new(alloc, seed);
-    put(alloc, &mut book, 1, &TIMER)?;
-    put(alloc, &mut book, 2, &CHANGES)?;
-    put(alloc, &mut book, 3, &PENDING)?;
+    put_three(alloc, &mut book)?;
     Ok(book)
 }
 
-fn numbers(alloc: Global, from: &[u64]) -> Result<Installs, AllocError> {
-    let mut numbers = Installs::new(alloc);
-    for number in from {
-        numbers.push(*number)?;
+/// Whether the firings are those of these instants and install numbers.
+fn are_firings(firings: &Firings, want: &[(u64, u64)]) -> bool {
+    let told = firings.as_slice();
+    if told.len() != want.len() {
+        return false;
     }
-    Ok(numbers)
+    for i in 0..want.len() {
+        if (told[i].instant, told[i].install) != want[i] {
+            return false;
+        }
+    }
+    true
 }
 
-/// Firings of instants and install numbers.
-fn firings(alloc: Global, pairs: &[(u64, u64)]) -> Result<Firings, AllocError> {
-    let mut firings = Firings::new(alloc);
-    for &(instant, install) in pairs {
-        firings.push(Firing { instant, install })?;
-    }
-    Ok(firings)
+/// Whether the files are watched by these.
+fn are_watchers(
+    alloc: Global,
+    book: &Book,
+    files: &[u64],
+    want: &[u64],
+) -> Result<bool, AllocError> {
+    let told = book.watchers(alloc, files)?;
+    Ok(told.as_slice() == want)
+}
+
+/// Whether these have expired at this instant.
+fn are_expired(alloc: Global, book: &Book, at: u64, want: &[u64]) -> Result<bool, AllocError> {
+    let told = book.expired(alloc, at)?;
+    Ok(told.as_slice() == want)
+}
+
+/// Whether a move to this instant makes these due.
+fn are_due(alloc: Global, book: &Book, to: u64, want: &[(u64, u64)]) -> Result<bool, AllocError> {
+    let told = book.due(alloc, to)?;
+    Ok(are_firings(&told, want))
 }
 
 /// What is noted of the member, where there is a member and a note.
@@ -185,8 +214,7 @@ fn expect_watchers(
     rows: &[(&[u64], &[u64])],
 ) -> Result<(), AllocError> {
     for (files, want) in rows {
-        let told = book.watchers(alloc, files)?;
-        assert!(rt; told == numbers(alloc, want)?, "{files:?}");
+        assert!(rt; are_watchers(alloc, book, files, want)?, "{files:?}");
     }
     Ok(())
 }
@@ -199,8 +227,7 @@ fn expect_expired(
     rows: &[(u64, &[u64])],
 ) -> Result<(), AllocError> {
     for (at, want) in rows {
-        let told = book.expired(alloc, *at)?;
-        assert!(rt; told == numbers(alloc, want)?, "{at}");
+        assert!(rt; are_expired(alloc, book, *at, want)?, "{at}");
     }
     Ok(())
 }
@@ -213,15 +240,15 @@ fn expect_due(
     rows: &[(u64, &[(u64, u64)])],
 ) -> Result<(), AllocError> {
     for (to, want) in rows {
-        let told = book.due(alloc, *to)?;
-        assert!(rt; told == firings(alloc, want)?, "{to}");
+        assert!(rt; are_due(alloc, book, *to, want)?, "{to}");
     }
     Ok(())
 }
 
 /// Whether a member has the name.
 fn has(alloc: Global, book: &Book, name: &str) -> Result<bool, AllocError> {
-    Ok(book.has(&bytes_of(alloc, name.as_bytes())?))
+    let name = bytes_of(alloc, name.as_bytes())?;
+    Ok(book.has(&name))
 }
 
 /// Takes the member of the name away, and tells whether it was there.
@@ -245,11 +272,11 @@ fn expect_named(rt: &impl Abort, alloc: Global, book: &Book) -> Result<(), Alloc
 }
 
 fn expect_moved(rt: &impl Abort, alloc: Global, book: &mut Book) -> Result<(), AllocError> {
-    expect_due(rt, alloc, book, &DUE)?;
+    expect_due(rt, alloc, book, DUE)?;
     assert!(rt; book.instant() <= 10);
     book.move_to(alloc, 10)?;
     assert!(rt; book.instant() == 10);
-    expect_due(rt, alloc, book, &DUE_LATER)
+    expect_due(rt, alloc, book, DUE_LATER)
 }
 
 fn expect_noted(rt: &impl Abort, book: &mut Book) {
@@ -282,8 +309,8 @@ fn expect_removed(rt: &impl Abort, alloc: Global, book: &mut Book) -> Result<(),
 }
 
 fn expect_left(rt: &impl Abort, alloc: Global, book: &mut Book) -> Result<(), AllocError> {
-    for install in [4, 6, 1] {
-        assert!(rt; book.take(install).is_some());
+    for install in &[4, 6, 1] {
+        assert!(rt; book.take(*install).is_some());
     }
     assert!(rt; book.take(2).is_none());
     assert!(rt; book.len() == 1 && book.get(3).is_some());
@@ -295,20 +322,32 @@ fn expect_last(rt: &impl Abort, alloc: Global, book: &mut Book) -> Result<(), Al
     requires { book.old.members ≡ [] }
 {
     assert!(rt; put(alloc, book, 18446744073709551615, &LAST)?);
-    expect_watchers(rt, alloc, book, &LAST_WATCHERS)?;
-    expect_due(rt, alloc, book, &LAST_DUE)?;
+    expect_watchers(rt, alloc, book, LAST_WATCHERS)?;
+    expect_due(rt, alloc, book, LAST_DUE)?;
     expect_expired(rt, alloc, book, &[(18446744073709551615, &[])])
+}
+
+fn expect_found(rt: &impl Abort, alloc: Global, book: &mut Book) -> Result<(), AllocError> {
+    expect_named(rt, alloc, book)?;
+    expect_watchers(rt, alloc, book, WATCHERS)?;
+    expect_expired(rt, alloc, book, EXPIRED)?;
+    expect_moved(rt, alloc, book)?;
+    expect_noted(rt, book);
+    Ok(())
+}
+
+fn expect_fewer(rt: &impl Abort, alloc: Global, book: &mut Book) -> Result<(), AllocError>
+    requires { AllByRecursion (λ m. m.install < 4) book.old.members }
+{
+    expect_removed(rt, alloc, book)?;
+    expect_left(rt, alloc, book)
 }
 
 #[test]
 fn members_are_found(rt: HostRuntime) -> Result<(), Fail> {
     let seed = RandomState::new(&rt)?;
     let mut book = three(rt.alloc(), seed)?;
-    expect_named(&rt, rt.alloc(), &book)?;
-    expect_watchers(&rt, rt.alloc(), &book, &WATCHERS)?;
-    expect_expired(&rt, rt.alloc(), &book, &EXPIRED)?;
-    expect_moved(&rt, rt.alloc(), &mut book)?;
-    expect_noted(&rt, &mut book);
+    expect_found(&rt, rt.alloc(), &mut book)?;
     Ok(())
 }
 
@@ -316,8 +355,7 @@ fn members_are_found(rt: HostRuntime) -> Result<(), Fail> {
 fn removed_members_are_not_found(rt: HostRuntime) -> Result<(), Fail> {
     let seed = RandomState::new(&rt)?;
     let mut book = three(rt.alloc(), seed)?;
-    expect_removed(&rt, rt.alloc(), &mut book)?;
-    expect_left(&rt, rt.alloc(), &mut book)?;
+    expect_fewer(&rt, rt.alloc(), &mut book)?;
     Ok(())
 }
 
