@@ -275,6 +275,19 @@ const IN_TURN: &[&[(&str, &str, &str, &str)]] = &[
     ],
 ];
 
+/// Delivers a delta, and compares.
+fn expect_delta(
+    rt: &impl Abort,
+    alloc: Global,
+    store: &mut Store,
+    delta: &(&str, &str, &str, &str),
+) -> Result<(), AllocError> {
+    let (name, text, answer, elements) = delta;
+    assert!(rt; is_answered(alloc, store, name, text, answer)?, "at {text}");
+    assert!(rt; shows(alloc, store, name, elements)?, "at {text}");
+    Ok(())
+}
+
 /// Delivers the deltas to a new store, and compares.
 fn expect_deltas(
     rt: &impl Abort,
@@ -283,12 +296,8 @@ fn expect_deltas(
     deltas: &[(&str, &str, &str, &str)],
 ) -> Result<(), AllocError> {
     let mut store = sources(alloc, seed)?;
-    for (name, text, answer, elements) in deltas {
-        assert!(rt;
-            is_answered(alloc, &mut store, name, text, answer)?,
-            "at {text}"
-        );
-        assert!(rt; shows(alloc, &store, name, elements)?, "at {text}");
+    for delta in deltas {
+        expect_delta(rt, alloc, &mut store, delta)?;
     }
     Ok(())
 }
@@ -327,16 +336,20 @@ fn deliver_nothing(alloc: Global, store: &mut Store, names: &[&str]) -> Result<(
     Ok(())
 }
 
+fn expect_told(rt: &impl Abort, alloc: Global, store: &mut Store) -> Result<(), AllocError> {
+    assert!(rt; !declare_by_attribute(alloc, store, "quotes", "Q", "id")?);
+    assert!(rt; store.count() == 3);
+    deliver_nothing(alloc, store, &["quotes", "companies", "companies"])?;
+    for (name, root, last) in TOLD {
+        expect_source(rt, store, name, root, *last);
+    }
+    Ok(())
+}
+
 #[test]
 fn sources_have_a_name_a_root_and_a_last_change(rt: HostRuntime) -> Result<(), Fail> {
-    let alloc = rt.alloc();
-    let mut store = sources(alloc, RandomState::new(&rt)?)?;
-    assert!(rt; !declare_by_attribute(alloc, &mut store, "quotes", "Q", "id")?);
-    assert!(rt; store.count() == 3);
-    deliver_nothing(alloc, &mut store, &["quotes", "companies", "companies"])?;
-    for (name, root, last) in TOLD {
-        expect_source(&rt, &store, name, root, *last);
-    }
+    let mut store = sources(rt.alloc(), RandomState::new(&rt)?)?;
+    expect_told(&rt, rt.alloc(), &mut store)?;
     Ok(())
 }
 
@@ -357,13 +370,17 @@ fn has_lines(alloc: Global, store: &Store, name: &str, want: &str) -> Result<boo
     Ok(lines.as_slice() == want.as_bytes())
 }
 
+fn expect_put(rt: &impl Abort, alloc: Global, store: &mut Store) -> Result<(), AllocError> {
+    let text = "(C/Aid 7/-a/- b/?x/-\\n/)C";
+    assert!(rt; is_answered(alloc, store, "c", text, "ok 1")?);
+    assert!(rt; has_lines(alloc, store, "c", "(C\nAid 7\n-a b\n)C\n")?);
+    Ok(())
+}
+
 #[test]
 fn an_element_is_shown_as_it_was_put(rt: HostRuntime) -> Result<(), Fail> {
-    let alloc = rt.alloc();
-    let mut store = sources(alloc, RandomState::new(&rt)?)?;
-    let text = "(C/Aid 7/-a/- b/?x/-\\n/)C";
-    assert!(rt; is_answered(alloc, &mut store, "c", text, "ok 1")?);
-    assert!(rt; has_lines(alloc, &store, "c", "(C\nAid 7\n-a b\n)C\n")?);
+    let mut store = sources(rt.alloc(), RandomState::new(&rt)?)?;
+    expect_put(&rt, rt.alloc(), &mut store)?;
     Ok(())
 }
 
