@@ -130,16 +130,24 @@ fn expect_removed(rt: &impl Abort, table: &mut RangeTable, rows: &[(char, i128, 
     }
 }
 
+fn expect_intervals(
+    rt: &impl Abort,
+    alloc: Global,
+    table: &mut RangeTable,
+) -> Result<(), AllocError> {
+    assert!(rt; table.len() == 11);
+    expect_takers(rt, alloc, table, TAKERS)?;
+    expect_removed(rt, table, &INTERVALS[2..]);
+    assert!(rt; table.len() == 2);
+    expect_takers(rt, alloc, table, FEWER)?;
+    assert!(rt; takes_no_text(alloc, table, b"15")?);
+    Ok(())
+}
+
 #[test]
 fn an_interval_takes_the_numbers_between_its_ends(rt: HostRuntime) -> Result<(), Fail> {
-    let alloc = rt.alloc();
-    let mut table = table(alloc)?;
-    assert!(rt; table.len() == 11);
-    expect_takers(&rt, alloc, &table, TAKERS)?;
-    expect_removed(&rt, &mut table, &INTERVALS[2..]);
-    assert!(rt; table.len() == 2);
-    expect_takers(&rt, alloc, &table, FEWER)?;
-    assert!(rt; takes_no_text(alloc, &table, b"15")?);
+    let mut table = table(rt.alloc())?;
+    expect_intervals(&rt, rt.alloc(), &mut table)?;
     Ok(())
 }
 
@@ -177,19 +185,23 @@ fn take_text(
     Ok(table.remove(&text))
 }
 
+fn expect_atoms(rt: &impl Abort, alloc: Global, table: &mut EqTable) -> Result<(), AllocError> {
+    assert!(rt; file_of(table, 100).is_none());
+    assert!(rt; file_of_text(alloc, table, b"100 ")?.is_none());
+    put_number(table, 100, 7)?;
+    assert!(rt; file_of(table, 100) == Some(FileId(7)) && table.len() == 1);
+    assert!(rt; file_of_text(alloc, table, b"100 ")?.is_none());
+    assert!(rt; take_text(alloc, table, b"100 ")?.is_none());
+    assert!(rt; table.len() == 1);
+    assert!(rt; take_number(table, 100) == Some(FileId(7)));
+    assert!(rt; file_of(table, 100).is_none() && table.len() == 0);
+    Ok(())
+}
+
 #[test]
 fn an_atom_has_the_file_that_it_was_put_in_with(rt: HostRuntime) -> Result<(), Fail> {
-    let alloc = rt.alloc();
-    let mut table = EqTable::new(alloc)?;
-    assert!(rt; file_of(&table, 100).is_none());
-    assert!(rt; file_of_text(alloc, &table, b"100 ")?.is_none());
-    put_number(&mut table, 100, 7)?;
-    assert!(rt; file_of(&table, 100) == Some(FileId(7)) && table.len() == 1);
-    assert!(rt; file_of_text(alloc, &table, b"100 ")?.is_none());
-    assert!(rt; take_text(alloc, &mut table, b"100 ")?.is_none());
-    assert!(rt; table.len() == 1);
-    assert!(rt; take_number(&mut table, 100) == Some(FileId(7)));
-    assert!(rt; file_of(&table, 100).is_none() && table.len() == 0);
+    let mut table = EqTable::new(rt.alloc())?;
+    expect_atoms(&rt, rt.alloc(), &mut table)?;
     Ok(())
 }
 
@@ -272,15 +284,23 @@ fn thin_out(table: &mut RangeTable) -> bool {
     true
 }
 
+fn expect_thousand(
+    rt: &impl Abort,
+    alloc: Global,
+    table: &mut RangeTable,
+) -> Result<(), AllocError> {
+    assert!(rt; table.len() == 1000);
+    assert!(rt; is_told_as_listed(alloc, table, false)?);
+    assert!(rt; thin_out(table));
+    assert!(rt; table.len() == 334);
+    assert!(rt; is_told_as_listed(alloc, table, true)?);
+    Ok(())
+}
+
 #[test]
 fn a_thousand_intervals_are_told_as_a_plain_list_tells_them(rt: HostRuntime) -> Result<(), Fail> {
-    let alloc = rt.alloc();
-    let mut table = filled(alloc)?;
-    assert!(rt; table.len() == 1000);
-    assert!(rt; is_told_as_listed(alloc, &table, false)?);
-    assert!(rt; thin_out(&mut table));
-    assert!(rt; table.len() == 334);
-    assert!(rt; is_told_as_listed(alloc, &table, true)?);
+    let mut table = filled(rt.alloc())?;
+    expect_thousand(&rt, rt.alloc(), &mut table)?;
     Ok(())
 }
 
