@@ -1,5 +1,5 @@
 //! Entries of rows and texts of notices, worked out by hand.
-ghost use Rattle.std.specs.Prelude.{◌≡◌, ◌<◌};
+ghost use Rattle.std.specs.Prelude.{◌≡◌, ◌<◌, ◌∷◌, [], IfOk};
 ghost use Rattle.ncq_callback.specs.Facts.{Writes};
 ghost use Rattle.ncq_callback.specs.Texts.{render};
 
@@ -20,62 +20,105 @@ use std::test::Fail;
 
 const VALUES: &[&str] = &["a", "b", "c", "no"];
 
-/// `<q><a>a</><a>b</><a>c</><a>no</></>`
-fn element(alloc: Global) -> Result<Element, AllocError> {
-    let mut children = Forest::new(alloc);
-    for value in VALUES {
-        let mut texts = Forest::new(alloc);
-        texts.push(Node::Text(bytes_of(alloc, value.as_bytes())?))?;
-        children.push(Node::Element(Element {
-            name: bytes_of(alloc, b"a")?,
-            attributes: Attributes::new(alloc),
-            children: texts,
-        }))?;
-    }
+fn text(alloc: Global, value: &str) -> Result<Node, AllocError> {
+    let text = bytes_of(alloc, value.as_bytes())?;
+    Ok(Node::Text(text))
+}
+
+fn texts(alloc: Global, value: &str) -> Result<Forest, AllocError> {
+    let mut texts = Forest::new(alloc);
+    texts.push(text(alloc, value)?)?;
+    Ok(texts)
+}
+
+fn element_with(alloc: Global, name: &str, children: Forest) -> Result<Element, AllocError> {
+    let name = bytes_of(alloc, name.as_bytes())?;
     Ok(Element {
-        name: bytes_of(alloc, b"q")?,
+        name,
         attributes: Attributes::new(alloc),
         children,
     })
 }
 
-/// `<q><a>$0</></> ELEMENT_AS $1`
-fn shape(alloc: Global) -> Result<Shape, AllocError> {
-    let mut parts = Shapes::new(alloc);
-    parts.push(Shape {
-        tag: bytes_of(alloc, b"a")?,
+/// `<a>value</>`
+fn child(alloc: Global, value: &str) -> Result<Node, AllocError> {
+    let texts = texts(alloc, value)?;
+    let element = element_with(alloc, "a", texts)?;
+    Ok(Node::Element(element))
+}
+
+fn children(alloc: Global, values: &[&str]) -> Result<Forest, AllocError> {
+    let mut children = Forest::new(alloc);
+    for value in values {
+        children.push(child(alloc, value)?)?;
+    }
+    Ok(children)
+}
+
+/// `<q><a>a</><a>b</><a>c</><a>no</></>`
+fn element(alloc: Global) -> Result<Element, AllocError> {
+    let children = children(alloc, VALUES)?;
+    element_with(alloc, "q", children)
+}
+
+/// `<a>$0</>`
+fn part(alloc: Global) -> Result<Shape, AllocError> {
+    let tag = bytes_of(alloc, b"a")?;
+    Ok(Shape {
+        tag,
         attributes: Names::new(alloc),
         content: ShapeContent::Value,
         suffix: ShapeSuffix::Plain,
-    })?;
+    })
+}
+
+fn parts(alloc: Global) -> Result<Shapes, AllocError> {
+    let mut parts = Shapes::new(alloc);
+    parts.push(part(alloc)?)?;
+    Ok(parts)
+}
+
+/// `<q><a>$0</></> ELEMENT_AS $1`
+fn shape(alloc: Global) -> Result<Shape, AllocError> {
+    let parts = parts(alloc)?;
+    let tag = bytes_of(alloc, b"q")?;
     Ok(Shape {
-        tag: bytes_of(alloc, b"q")?,
+        tag,
         attributes: Names::new(alloc),
         content: ShapeContent::Parts(parts),
         suffix: ShapeSuffix::Element,
     })
 }
 
-fn rows<L: Ledger>(alloc: Global, blank: Blank) -> Result<Rows, AllocError>
+fn rows<L: Ledger>(
+    alloc: Global,
+    blank: Blank,
+    shape: &Shape,
+    element: &Element,
+) -> Result<Rows, AllocError>
     requires name { blank.name ≡ L.name }
     requires parts { blank.parts ≡ L.parts }
     requires some { 0 < L.parts }
 {
     let mut steps = Steps::<L>::new(blank);
     let mut rows = Rows::new(alloc);
-    match_shape(
-        alloc,
-        &shape(alloc)?,
-        &element(alloc)?,
-        &mut rows,
-        &mut steps,
-    )?;
+    match_shape(alloc, shape, element, &mut rows, &mut steps)?;
     Ok(rows)
 }
 
 /// The rows of the element, one for each of the values.
 fn the_rows(alloc: Global) -> Result<Rows, AllocError> {
-    rows::<Brand>(alloc, Blank::new(1))
+    let shape = shape(alloc)?;
+    let element = element(alloc)?;
+    rows::<Brand>(alloc, Blank::new(1), &shape, &element)
+}
+
+fn lone_test(alloc: Global, test: Test) -> Result<Tests, AllocError>
+    ensures { IfOk result (λ tests. tests ≡ test ∷ []) }
+{
+    let mut tests = Tests::new(alloc);
+    tests.push(test)?;
+    Ok(tests)
 }
 
 /// Takes a row under the test that its value is not `no`.
@@ -89,14 +132,44 @@ fn take_other(
     if row.len() == 0 || gather.takes() >= Gather::MOST_TAKES {
         return Ok(());
     }
-    let mut tests = Tests::new(alloc);
     let right = Side::Constant(atom_of(alloc, b"no")?);
-    tests.push(Test {
+    let test = Test {
         op: Op::Ne,
         left: 0,
         right,
-    })?;
+    };
+    let tests = lone_test(alloc, test)?;
     gather.take(alloc, &tests, template, row, gain)
+}
+
+/// Takes a row under each of the templates.
+fn take_each(
+    alloc: Global,
+    gather: &mut Gather,
+    templates: &[SlotTemplate],
+    row: &Row,
+    gain: bool,
+) -> Result<(), AllocError> {
+    for template in templates {
+        take_other(alloc, gather, template, row, gain)?;
+    }
+    Ok(())
+}
+
+/// Takes the rows at these places, which come or go.
+fn take_places(
+    alloc: Global,
+    gather: &mut Gather,
+    rows: &Rows,
+    templates: &[SlotTemplate],
+    places: &[(usize, bool)],
+) -> Result<(), AllocError> {
+    for (place, gain) in places {
+        if let Some(row) = rows.get(*place) {
+            take_each(alloc, gather, templates, row, *gain)?;
+        }
+    }
+    Ok(())
 }
 
 /// What is told, under each of the templates, where the rows at these places come or go.
@@ -107,15 +180,10 @@ fn gathered(
     places: &[(usize, bool)],
 ) -> Result<(Entries, u64), AllocError> {
     let mut gather = Gather::new(alloc);
-    for (place, gain) in places {
-        if let Some(row) = rows.get(*place) {
-            for template in templates {
-                take_other(alloc, &mut gather, template, row, *gain)?;
-            }
-        }
-    }
+    take_places(alloc, &mut gather, rows, templates, places)?;
     let takes = gather.takes();
-    Ok((gather.finish(alloc)?, takes))
+    let entries = gather.finish(alloc)?;
+    Ok((entries, takes))
 }
 
 /// Whether the entries are these, with their sign and count.
@@ -135,68 +203,104 @@ fn are_entries(entries: &Entries, want: &[(bool, u64, &str)]) -> bool {
 
 const WHOLE: &str = "(q\n(a\n-a\n)a\n(a\n-b\n)a\n(a\n-c\n)a\n(a\n-no\n)a\n)q\n";
 
+/// Each row comes.
+const COMES: &[(usize, bool)] = &[(0, true), (1, true), (2, true), (3, true)];
+
+/// One value after the other, some again, one back and forth.
+const BACK_AND_FORTH: &[(usize, bool)] = &[
+    (1, false),
+    (0, true),
+    (3, true),
+    (0, true),
+    (0, true),
+    (0, false),
+    (2, true),
+    (2, false),
+    (2, false),
+    (2, true),
+    (1, true),
+    (1, false),
+];
+
+/// The slots of the templates, the places that come or go, how many rows were taken, and what is
+/// told.
+const GATHERED: &[(&[usize], &[(usize, bool)], u64, &[(bool, u64, &str)])] = &[
+    (&[0], &[], 0, &[]),
+    (
+        &[0],
+        BACK_AND_FORTH,
+        12,
+        &[(true, 2, "-a\n"), (false, 1, "-b\n")],
+    ),
+    // one element for all its rows
+    (&[1], COMES, 4, &[(true, 3, WHOLE)]),
+    // two templates in turn
+    (
+        &[0, 1],
+        COMES,
+        8,
+        &[
+            (true, 3, WHOLE),
+            (true, 1, "-a\n"),
+            (true, 1, "-b\n"),
+            (true, 1, "-c\n"),
+        ],
+    ),
+];
+
+fn templates(alloc: Global, slots: &[usize]) -> Result<Vec<SlotTemplate>, AllocError> {
+    let mut templates = Vec::new(alloc);
+    for slot in slots {
+        templates.push(SlotTemplate::Slot(*slot))?;
+    }
+    Ok(templates)
+}
+
+/// Whether so many rows are taken, and these entries told.
+fn are_gathered(
+    alloc: Global,
+    rows: &Rows,
+    templates: &[SlotTemplate],
+    places: &[(usize, bool)],
+    takes: u64,
+    want: &[(bool, u64, &str)],
+) -> Result<bool, AllocError> {
+    let (entries, taken) = gathered(alloc, rows, templates, places)?;
+    Ok(taken == takes && are_entries(&entries, want))
+}
+
+/// Compares what is told of the rows under templates that are these slots.
+fn expect_gathered(
+    rt: &impl Abort,
+    alloc: Global,
+    rows: &Rows,
+    row: &(&[usize], &[(usize, bool)], u64, &[(bool, u64, &str)]),
+) -> Result<(), AllocError> {
+    let (slots, places, takes, want) = row;
+    let templates = templates(alloc, slots)?;
+    assert!(rt; are_gathered(alloc, rows, templates.as_slice(), places, *takes, want)?);
+    Ok(())
+}
+
 #[test]
 fn rows_that_pass_make_entries(rt: HostRuntime) -> Result<(), Fail> {
-    let alloc = rt.alloc();
-    let rows = the_rows(alloc)?;
-    assert_eq!(rt; rows.len(), 4);
-    let value = vec![in alloc; SlotTemplate::Slot(0)]?;
-    let both = vec![in alloc; SlotTemplate::Slot(0), SlotTemplate::Slot(1)]?;
-    let element = vec![in alloc; SlotTemplate::Slot(1)]?;
-    let comes = [(0, true), (1, true), (2, true), (3, true)];
-    for (templates, places, takes, want) in [
-        (&value, [].as_slice(), 0, [].as_slice()),
-        // one value after the other, some again, one back and forth
-        (
-            &value,
-            [
-                (1, false),
-                (0, true),
-                (3, true),
-                (0, true),
-                (0, true),
-                (0, false),
-                (2, true),
-                (2, false),
-                (2, false),
-                (2, true),
-                (1, true),
-                (1, false),
-            ]
-            .as_slice(),
-            12,
-            [(true, 2, "-a\n"), (false, 1, "-b\n")].as_slice(),
-        ),
-        // one element for all its rows
-        (&element, comes.as_slice(), 4, [(true, 3, WHOLE)].as_slice()),
-        // two templates in turn
-        (
-            &both,
-            comes.as_slice(),
-            8,
-            [
-                (true, 3, WHOLE),
-                (true, 1, "-a\n"),
-                (true, 1, "-b\n"),
-                (true, 1, "-c\n"),
-            ]
-            .as_slice(),
-        ),
-    ] {
-        let (entries, taken) = gathered(alloc, &rows, templates, places)?;
-        assert!(rt; taken == takes && are_entries(&entries, want));
+    let rows = the_rows(rt.alloc())?;
+    assert!(rt; rows.len() == 4);
+    for row in GATHERED {
+        expect_gathered(&rt, rt.alloc(), &rows, row)?;
     }
     Ok(())
+}
+
+fn difference(alloc: Global, gain: bool, count: u64, text: &str) -> Result<Difference, AllocError> {
+    let bytes = bytes_of(alloc, text.as_bytes())?;
+    Ok(Difference { gain, count, bytes })
 }
 
 fn entries(alloc: Global, rows: &[(bool, u64, &str)]) -> Result<Entries, AllocError> {
     let mut items = Differences::new(alloc);
     for (gain, count, text) in rows {
-        items.push(Difference {
-            gain: *gain,
-            count: *count,
-            bytes: bytes_of(alloc, text.as_bytes())?,
-        })?;
+        items.push(difference(alloc, *gain, *count, text)?)?;
     }
     Ok(Entries::from_differences(items))
 }
@@ -249,6 +353,57 @@ const NOTICES: &[(&str, &str, &[(bool, u64, &str)], &str)] = &[
     ),
 ];
 
+/// The notice for `w` at 5.
+fn notice(alloc: Global, differs: &[(bool, u64, &str)]) -> Result<Notice, AllocError> {
+    let entries = entries(alloc, differs)?;
+    let name = bytes_of(alloc, b"w")?;
+    Ok(Notice {
+        name,
+        instant: 5,
+        entries,
+    })
+}
+
+/// Calls the handler of the name, where there is one.
+fn call(
+    handlers: &Handlers,
+    name: &str,
+    argument: &str,
+    notice: &Notice,
+    out: &mut Vec<u8>,
+) -> Result<(), AllocError> {
+    match handlers.find(name.as_bytes()) {
+        Some(at) => handlers.call(at, argument.as_bytes(), notice, out),
+        None => Ok(()),
+    }
+}
+
+/// What the handler of the name writes behind a dot.
+fn written(
+    alloc: Global,
+    handlers: &Handlers,
+    name: &str,
+    argument: &str,
+    notice: &Notice,
+) -> Result<Vec<u8>, AllocError> {
+    let mut out = vec![in alloc; b'.']?;
+    call(handlers, name, argument, notice, &mut out)?;
+    Ok(out)
+}
+
+/// Whether the handler of the name writes the text behind a dot.
+fn writes(
+    alloc: Global,
+    handlers: &Handlers,
+    name: &str,
+    argument: &str,
+    notice: &Notice,
+    want: &str,
+) -> Result<bool, AllocError> {
+    let out = written(alloc, handlers, name, argument, notice)?;
+    Ok(out.first() == Some(&b'.') && out.get(1..) == Some(want.as_bytes()))
+}
+
 /// The handler of the name writes the text behind what is there.
 fn expect_text(
     rt: &impl Abort,
@@ -257,19 +412,40 @@ fn expect_text(
     row: &(&str, &str, &[(bool, u64, &str)], &str),
 ) -> Result<(), AllocError> {
     let (name, argument, differs, text) = row;
-    let notice = Notice {
-        name: bytes_of(alloc, b"w")?,
-        instant: 5,
-        entries: entries(alloc, differs)?,
-    };
-    let mut out = vec![in alloc; b'.']?;
-    match handlers.find(name.as_bytes()) {
-        Some(at) => handlers.call(at, argument.as_bytes(), &notice, &mut out)?,
-        None => assert!(rt; false, "{name}"),
-    }
-    assert_eq!(rt; out.first(), Some(&b'.'));
-    assert_eq!(rt; out.get(1..), Some(text.as_bytes()), "{name} {text}");
+    let notice = notice(alloc, differs)?;
+    assert!(rt;
+        writes(alloc, handlers, name, argument, &notice, text)?,
+        "{name} {text}"
+    );
     Ok(())
+}
+
+fn expect_texts(rt: &impl Abort, alloc: Global, handlers: &Handlers) -> Result<(), AllocError> {
+    for row in NOTICES {
+        expect_text(rt, alloc, handlers, row)?;
+    }
+    Ok(())
+}
+
+/// Names, and the kind of the handler of the name.
+const KINDS: &[(&str, Option<Kind>)] = &[
+    ("print", Some(Kind::Print)),
+    ("count", Some(Kind::Count)),
+    ("mailto", Some(Kind::MailTo)),
+    ("fax", None),
+    ("mail", None),
+    ("", None),
+];
+
+fn kind_of(handlers: &Handlers, name: &str) -> Option<Kind> {
+    let at = handlers.find(name.as_bytes())?;
+    Some(handlers.kind(at))
+}
+
+fn expect_kinds(rt: &impl Abort, handlers: &Handlers) {
+    for (name, kind) in KINDS {
+        assert!(rt; kind_of(handlers, name) == *kind, "{name}");
+    }
 }
 
 /// What the handler of a kind is called.
@@ -340,23 +516,8 @@ fn handlers_write_the_text_of_their_kind(rt: HostRuntime) -> Result<(), Fail> {
         { print_notice(argument, notice, out) },
     )?;
     let second = put(alloc, &mut handlers, Kind::Print, again);
-    assert_eq!(rt; second, Err(AddError::NameTaken));
-    for (name, kind) in [
-        ("print", Some(Kind::Print)),
-        ("count", Some(Kind::Count)),
-        ("mailto", Some(Kind::MailTo)),
-        ("fax", None),
-        ("mail", None),
-        ("", None),
-    ] {
-        let found = match handlers.find(name.as_bytes()) {
-            Some(at) => Some(handlers.kind(at)),
-            None => None,
-        };
-        assert_eq!(rt; found, kind, "{name}");
-    }
-    for row in NOTICES {
-        expect_text(&rt, alloc, &handlers, row)?;
-    }
+    assert!(rt; second == Err(AddError::NameTaken));
+    expect_kinds(&rt, &handlers);
+    expect_texts(&rt, alloc, &handlers)?;
     Ok(())
 }
