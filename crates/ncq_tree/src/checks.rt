@@ -1,9 +1,10 @@
 //! Whether a forest is normal.
 ghost use Rattle.std.specs.Prelude.{◌≡◌};
 ghost use Rattle.std.specs.List.{list_all};
+ghost use Rattle.ncq_tree.specs.declared.model.Node.TheVariants.{Element as element_node};
 ghost use Rattle.ncq_tree.specs.Normal.{is_trim, are_apart, are_rising, is_normal, node_is_normal};
 
-use crate::model::{Attribute, Forest, Node};
+use crate::model::{Attribute, Element, Forest, Node};
 use ncq_base::{Bytes, is_space};
 
 /// Whether the forest is normal at every depth: attributes rise by name, no two texts are adjacent,
@@ -36,10 +37,17 @@ fn is_normal_node(node: &Node) -> bool
 {
     match node {
         Node::Text(text) => is_trim(text.as_slice()),
-        Node::Element(element) => {
-            are_rising(element.attributes.as_slice()) && is_normal(&element.children)
-        }
+        Node::Element(element) => is_normal_element(element),
     }
+}
+
+/// Whether the element is normal at every depth.
+#[cycle(normal)]
+#[tactic(auto, using(crate::proofs::NormalLaws::normal_is))]
+pub(crate) fn is_normal_element(element: &Element) -> bool
+    ensures { result ≡ node_is_normal (element_node element.now) }
+{
+    are_rising(element.attributes.as_slice()) && is_normal(&element.children)
 }
 
 /// Whether the text is not empty and has no white space at its ends.

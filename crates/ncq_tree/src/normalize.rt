@@ -7,6 +7,7 @@ ghost use Rattle.ncq_tree.specs.Normal.{text_nodes, sorted, whole_normal, node_i
 ghost use Rattle.ncq_tree.specs.declared.model.Node.TheVariants.{Element as element_node};
 ghost use Rattle.std.specs.List.{list_all, prefix_len, suffix_len};
 
+use crate::checks::is_normal_element;
 use crate::model::{Attributes, Element, Forest, Node};
 use ncq_base::{Bytes, bytes_of, is_space};
 use std::alloc::{AllocError, Global};
@@ -58,7 +59,7 @@ fn take_node(
         Node::Text(text) => merged(pending, text),
         Node::Element(element) => {
             push_text(alloc, pending, out)?;
-            out.push(Node::Element(normal_element(alloc, element)?))?;
+            out.push(Node::Element(made_normal(alloc, element)?))?;
             Ok(Bytes::new(alloc))
         }
     }
@@ -76,11 +77,22 @@ fn merged(front: Bytes, back: Bytes) -> Result<Bytes, AllocError>
     Ok(both)
 }
 
-/// The element with its attributes sorted by name and its children in normal form.
-/// The only error is want of memory.
+/// The element with its attributes sorted by name and its children in normal form. One that is
+/// normal already, as most often, is not made anew. The only error is want of memory.
+pub fn normal_element(alloc: Global, element: Element) -> Result<Element, AllocError>
+    ensures node { IfOk result (λ e. element_node e ≡ normal_of (element_node element)) }
+    ensures whole { IfOk result (λ e. e ≡ whole_normal element) }
+{
+    if is_normal_element(&element) {
+        return Ok(element);
+    }
+    made_normal(alloc, element)
+}
+
+/// The element in normal form, part by part.
 #[cycle(normalize)]
 #[tactic(auto, using(crate::proofs::NormalLaws::normal_of_is))]
-pub fn normal_element(alloc: Global, element: Element) -> Result<Element, AllocError>
+fn made_normal(alloc: Global, element: Element) -> Result<Element, AllocError>
     ensures node { IfOk result (λ e. element_node e ≡ normal_of (element_node element)) }
     ensures whole { IfOk result (λ e. e ≡ whole_normal element) }
 {

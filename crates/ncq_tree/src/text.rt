@@ -6,6 +6,9 @@ use crate::model::{Forest, Node};
 use ncq_base::{Bytes, Copied};
 use std::alloc::{AllocError, Global};
 
+/// The room that is taken at first: most string values are no longer.
+const SHORT: usize = 32;
+
 /// The texts of the forest in document order, joined by one space; an element without text adds
 /// none. One text is its own string value. The only error is want of memory.
 pub fn string_value(alloc: Global, forest: &Forest) -> Result<Bytes, AllocError>
@@ -17,7 +20,7 @@ pub fn string_value(alloc: Global, forest: &Forest) -> Result<Bytes, AllocError>
             return text.copy(alloc);
         }
     }
-    let mut out = Vec::new(alloc);
+    let mut out = Vec::with_capacity(alloc, SHORT)?;
     let _behind = append_forest(forest, false, &mut out)?;
     Ok(Bytes::from_vec(out))
 }
