@@ -1,6 +1,7 @@
 -- One source among others.
-use Rattle.std.proofs.Common.{◌≡◌, ℕ, zero, suc, Option, is_some, true≢false, ◌<◌, Bool, List, [], ◌∷◌, ◌++◌, map, length, set, get_or, slice_get, position, Some, None, cond, ◌||◌, ◌+◌, not, nat_lt, refl, sym, ap, ◌∙◌, subst}
+use Rattle.std.proofs.Common.{◌≡◌, ℕ, zero, suc, Option, is_some, true≢false, ◌<◌, Bool, true, false, arith, List, [], ◌∷◌, ◌++◌, map, length, set, get_or, slice_get, position, Some, None, cond, ◌||◌, ◌+◌, not, nat_lt, refl, sym, ap, ◌∙◌, subst}
 use Rattle.std.specs.Option.{unwrap_or}
+use Rattle.std.proofs.lemmas.Bool.Decides.{nat_tests}
 use Rattle.std.proofs.Math.Seq.{map-set_same}
 use Rattle.std.proofs.lemmas.Option.{unwrap_or-slice_get, slice_get_within}
 use Rattle.std.proofs.lemmas.List.{get_or-set_same}
@@ -39,6 +40,28 @@ module _ {A B : Type 0} (f : A → B) (test : B → Bool) where
   pub any_map : (xs : List A) → list_any (λ x. test (f x)) xs ≡ list_any test (map f xs)
   any_map [] = refl
   any_map (x ∷ xs) = ap (λ b. test (f x) || b) (any_map xs)
+
+module _ {A : Type 0} (test : A → Bool) where
+  if_some : (t : Bool) (n : ℕ) → is_some (cond t (Some n) None) ≡ t
+  if_some true n = refl
+  if_some false n = refl
+
+  none_before : (m : ℕ) → nat_lt 0 (suc m) ≡ true
+  none_before m = grind (arith, nat_tests)
+
+  both_less : (n m : ℕ) → nat_lt (1 + n) (suc m) ≡ nat_lt n m
+  both_less n m = grind (arith, nat_tests)
+
+  first_any : (xs : List A) → nat_lt (position_or_len test xs) (length xs) ≡ list_any test xs
+  first_any [] = refl
+  first_any (x ∷ xs) = elim (test x) as (λ t. nat_lt (cond (not t) (1 + position_or_len test xs) 0) (suc (length xs)) ≡ (t || list_any test xs)) [
+    | true ↦ none_before (length xs)
+    | false ↦ both_less (position_or_len test xs) (length xs) ∙ first_any xs
+  ]
+
+  -- a place is found exactly where an item passes
+  pub place_any : (xs : List A) → is_some (position test xs) ≡ list_any test xs
+  place_any xs = if_some (nat_lt (position_or_len test xs) (length xs)) (position_or_len test xs) ∙ first_any xs
 
 module _ {A B : Type 0} (f : A → B) where
   -- one more at the end

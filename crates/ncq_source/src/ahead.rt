@@ -44,6 +44,9 @@ impl<'a> Ahead<'a> {
     pub(crate) fn get(&self, key: &Bytes) -> Option<&Shared<Element>>
         ensures { option_copied result ≡ get self.now key.now }
     {
+        if self.changed.is_empty() {
+            return self.elements.get(key);
+        }
         match self.changed.get(key) {
             Some(after) => after.as_ref(),
             None => self.elements.get(key),

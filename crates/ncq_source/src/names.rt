@@ -9,6 +9,9 @@ use std::alloc::{AllocError, Global};
 use std::hash::RandomState;
 use std::marker::Model;
 
+/// Among so many names a look at each is cheaper than a hash.
+const FEW: usize = 8;
+
 /// Names, each once, that are found by their bytes.
 #[derive(Drop)]
 pub(crate) struct Names {
@@ -39,6 +42,9 @@ impl Names {
         ensures there { is_some result ≡ list_any (bytes_eq name.now) self.now }
         ensures within { IfSome result (λ at. at < length self.now) }
     {
+        if self.names.len() <= FEW {
+            return place_among(self.names.as_slice(), name);
+        }
         self.names.get_index_of(name)
     }
 
@@ -52,4 +58,12 @@ impl Names {
         self.names.insert(name)?;
         Ok(())
     }
+}
+
+/// The place of the name among these.
+fn place_among(names: &[Vec<u8>], name: &[u8]) -> Option<usize>
+    ensures place { result ≡ position (λ v. bytes_eq name.now v.items) names.now }
+    ensures within { IfSome result (λ at. at < length names.now) }
+{
+    names.iter().position(|known| name == known.as_slice())
 }
