@@ -1,3 +1,4 @@
+pub mod FewLaws
 pub mod LabelLaws
 pub mod LastLaws
 pub mod SharingLaws

@@ -1,18 +1,21 @@
 //! The answer that came last, with what it was made of: rows that have the same values there need
 //! no bytes of their own.
-ghost use Rattle.std.specs.Prelude.{◌≡◌, ◌+◌, ◌≤◌, ◌<◌, ◌^◌, ◌+ℤ◌, ℤ, Some};
+ghost use Rattle.std.specs.Prelude.{◌≡◌, ◌++◌, ◌+◌, ◌≤◌, ◌<◌, ◌^◌, ◌+ℤ◌, ℤ, Some};
 ghost use Rattle.std.specs.Prelude.{IsTrue, IsFalse, IfOk, OnOk, OnErr};
+ghost use Rattle.std.specs.Ordering.{nat_cmp};
+ghost use Rattle.std.specs.Cmp.Lexicographic.{slice_cmp};
 ghost use Rattle.ncq_base.specs.Keys.{ByBytes};
-ghost use Rattle.ncq_bag.specs.Bags.{added, signed};
+ghost use Rattle.ncq_bag.specs.Bags.{added, difference_of, signed};
 ghost use Rattle.ncq_callback.specs.Gathered.{answer_of};
 ghost use Rattle.ncq_callback.specs.LastAnswers.{with_last};
 
 use crate::sharing::makes_same;
-use ncq_bag::SignedBag;
-use ncq_base::{Bytes, Copied, Sequence};
+use ncq_bag::{Difference, Differences, SignedBag};
+use ncq_base::{Bytes, Copied, Own, Sequence};
 use ncq_plan::SlotTemplate;
 use ncq_row::{Row, Value};
 use std::alloc::{AllocError, Global};
+use std::cmp::Ordering;
 use std::marker::Model;
 
 /// What an answer was made of: a template, and the values of a row.
@@ -29,7 +32,7 @@ pub(crate) struct LastAnswer {
     answer: Bytes,
     times: u64,
     gain: bool,
-    making: Option<Making>,
+    making: Option<Own<Making>>,
 }
 
 impl Model for LastAnswer {
@@ -113,7 +116,10 @@ impl LastAnswer {
         ensures { IsTrue result → (self.now.answer ≡ answer_of template.now row.now) }
     {
         match &self.making {
-            Some(making) => makes_same(template, row, &making.template, making.values.as_slice()),
+            Some(making) => {
+                let making = making.get();
+                makes_same(template, row, &making.template, making.values.as_slice())
+            }
             None => false,
         }
     }
@@ -125,7 +131,7 @@ impl LastAnswer {
     {
         let template = template.copy(alloc)?;
         let values = values_of(alloc, row)?;
-        self.making = Some(Making { template, values });
+        self.making = Some(Own::new(alloc, Making { template, values })?);
         Ok(())
     }
 
@@ -166,6 +172,34 @@ impl LastAnswer {
         ensures err { OnErr result (bag.new ≡ bag.old) }
     {
         bag.add(self.answer.copy(alloc)?, self.times, self.gain)
+    }
+
+    /// How its bytes stand to those of the other.
+    pub(crate) fn compare(&self, other: &LastAnswer) -> Ordering
+        ensures { result ≡ slice_cmp nat_cmp self.now.answer other.now.answer }
+    {
+        self.answer.cmp(&other.answer)
+    }
+
+    /// Appends the difference that it makes.
+    pub(crate) fn push_to(self, out: &mut Differences) -> Result<(), AllocError>
+        ensures { OnOk result
+            (out.new ≡ out.old ++ difference_of (self.answer, signed self.gain self.times)) }
+    {
+        let LastAnswer {
+            answer,
+            times,
+            gain,
+            ..
+        } = self;
+        if times == 0 {
+            return Ok(());
+        }
+        out.push(Difference {
+            gain,
+            count: times,
+            bytes: answer,
+        })
     }
 }
 
