@@ -5,6 +5,7 @@
 ghost use Rattle.std.specs.Prelude.{◌≡◌, ◌++◌, [], ◌∷◌, ◌+◌, ◌≤◌, length, map};
 ghost use Rattle.std.specs.Prelude.{IfOk, OnOk, OnErr};
 ghost use Rattle.std.specs.List.{flat_map};
+ghost use Rattle.std.specs.Option.{option_to_list};
 ghost use Rattle.ncq_tree.specs.declared.model.Node.TheVariants.{Element as element_node};
 ghost use Rattle.ncq_row.specs.Embeddings.{paired, one_of_each, reached_at};
 ghost use Rattle.ncq_row.specs.Embeddings.{attribute_rows, suffix_rows, content_rows};
@@ -13,7 +14,7 @@ ghost use Rattle.ncq_row.specs.Found.{option_rows};
 
 use crate::attributes::attribute_values;
 use crate::lookahead::are_found;
-use crate::product::{append_found, extended, only, paired, preceded};
+use crate::product::{append_found, followed, only, paired, preceded, row_of};
 use crate::row::{Row, Rows};
 use crate::shape::{Shape, ShapeContent, ShapeSuffix};
 use crate::value::Value;
@@ -21,10 +22,6 @@ use ncq_base::{Copied, Steps};
 use ncq_tree::{Element, Forest, Node, copy_forest};
 use std::alloc::{AllocError, Global};
 use std::sync::ledger::Ledger;
-
-/// The places of a row for which room is taken at first. The block for three is no larger than the
-/// block for one.
-const FEW: usize = 3;
 
 /// Appends one row for each embedding of the shape in the element, with the values at the places of
 /// the shape in reading order: attributes, then parts or the value, then suffix. The choice of the
@@ -100,8 +97,8 @@ fn surrounded(
     if content.len() == 0 {
         return Ok(content);
     }
-    let behind = suffix_values(alloc, suffix, element)?;
-    let rows = extended(alloc, content, &behind)?;
+    let behind = suffix_value(alloc, suffix, element)?;
+    let rows = followed(alloc, content, behind)?;
     preceded(alloc, front, rows)
 }
 
@@ -121,7 +118,7 @@ fn found_in_content(
             parts.as_slice(),
             element.children.as_slice(),
         ),
-        ShapeContent::Value => only(alloc, children_of(alloc, element)?),
+        ShapeContent::Value => only(alloc, row_of(alloc, children_of(alloc, element)?)?),
     }
 }
 
@@ -175,38 +172,34 @@ fn add_found(alloc: Global, shape: &Shape, node: &Node, all: &mut Rows) -> Resul
     }
 }
 
-/// The value that the suffix takes.
-fn suffix_values(alloc: Global, suffix: ShapeSuffix, element: &Element) -> Result<Row, AllocError>
-    ensures { IfOk result (λ row. row ∷ [] ≡ suffix_rows suffix element.now) }
+/// The value that the suffix takes, if it takes one.
+fn suffix_value(
+    alloc: Global,
+    suffix: ShapeSuffix,
+    element: &Element,
+) -> Result<Option<Value>, AllocError>
+    ensures { IfOk result (λ value.
+        option_to_list value ∷ [] ≡ suffix_rows suffix element.now) }
 {
     match suffix {
-        ShapeSuffix::Plain => Ok(Row::new(alloc)),
-        ShapeSuffix::Element => whole(alloc, element),
-        ShapeSuffix::Content => children_of(alloc, element),
+        ShapeSuffix::Plain => Ok(None),
+        ShapeSuffix::Element => Ok(Some(whole(alloc, element)?)),
+        ShapeSuffix::Content => Ok(Some(children_of(alloc, element)?)),
     }
 }
 
 /// The element alone.
-fn whole(alloc: Global, element: &Element) -> Result<Row, AllocError>
-    ensures { IfOk result (λ row. row ≡ Value.Nodes (element_node element.now ∷ []) ∷ []) }
+fn whole(alloc: Global, element: &Element) -> Result<Value, AllocError>
+    ensures { IfOk result (λ value. value ≡ Value.Nodes (element_node element.now ∷ [])) }
 {
     let mut forest = Forest::with_capacity(alloc, 1)?;
     forest.push(Node::Element(element.copy(alloc)?))?;
-    of_nodes(alloc, forest)
+    Ok(Value::Nodes(forest))
 }
 
 /// The children of the element.
-fn children_of(alloc: Global, element: &Element) -> Result<Row, AllocError>
-    ensures { IfOk result (λ row. row ≡ Value.Nodes element.now.children ∷ []) }
+fn children_of(alloc: Global, element: &Element) -> Result<Value, AllocError>
+    ensures { IfOk result (λ value. value ≡ Value.Nodes element.now.children) }
 {
-    of_nodes(alloc, copy_forest(alloc, &element.children)?)
-}
-
-/// The one value.
-fn of_nodes(alloc: Global, forest: Forest) -> Result<Row, AllocError>
-    ensures { IfOk result (λ row. row ≡ Value.Nodes forest ∷ []) }
-{
-    let mut row = Row::with_room(alloc, FEW)?;
-    row.push(alloc, Value::Nodes(forest))?;
-    Ok(row)
+    Ok(Value::Nodes(copy_forest(alloc, &element.children)?))
 }
