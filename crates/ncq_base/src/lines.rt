@@ -6,6 +6,9 @@ ghost use Rattle.ncq_base.specs.Lines.{IsClean, ended, lines_in, text_of};
 use std::alloc::{AllocError, Global};
 use std::marker::Model;
 
+/// The room that is taken at first: most texts are no longer.
+const SHORT: usize = 128;
+
 /// Lines over one text in which a line feed ends each, so that a line takes its bytes and one more.
 /// Contracts see the list of the lines.
 #[derive(Debug, Drop)]
@@ -57,6 +60,9 @@ fn append_ended(text: &mut Vec<u8>, line: &[u8]) -> Result<(), AllocError>
     ensures ok { OnOk result (text.new.items ≡ text.old.items ++ ended line.now) }
     ensures err { OnErr result (text.new.items ≡ text.old.items) }
 {
+    if text.is_empty() {
+        text.reserve(SHORT)?;
+    }
     let before = text.len();
     text.extend_from_slice(line)?;
     if text.push(b'\n').is_err() {
