@@ -1,17 +1,20 @@
 -- Watches: a set of them with one more and with one less, those of a file, and those of some files.
-use Rattle.std.proofs.Common.{◌≡◌, ℕ, ◌+◌, ◌-◌, ◌^◌, ◌<◌, ◌==◌, ◌&&◌, ◌||◌, not, Bool, true, false, List, [], ◌∷◌, map, refl, sym, ◌∙◌, arith, cond, take, length, get_or}
+use Rattle.std.proofs.Common.{◌≡◌, ℕ, ◌++◌, ◌≤◌, ap, ◌+◌, ◌-◌, ◌^◌, ◌<◌, ◌==◌, ◌&&◌, ◌||◌, not, Bool, true, false, List, [], ◌∷◌, map, refl, sym, ◌∙◌, arith, cond, take, length, get_or}
 use Rattle.std.specs.Prelude.{nat_eq}
 use Rattle.std.specs.List.{filter, list_any}
 use Rattle.std.specs.declared.cmp.Ordering.{Ordering}
 use Rattle.std.specs.declared.cmp.Ordering.TheVariants.{Less, Equal, Greater}
 use Rattle.std.specs.declared.ops.Bound.TheVariants.{Included}
+use Rattle.std.specs.List.Sorted.{IsStrictlySortedBy}
+use Rattle.std.specs.Cmp.{nat_cmp_total}
+use Rattle.std.proofs.lemmas.Map.Keys.{sorted_from_all_adjacent}
 use Rattle.std.specs.Ordering.{nat_cmp, ordering_then, eq_by_cmp, match_ordering}
-use Rattle.std.specs.Set.{IsUnion, remove_key}
+use Rattle.std.specs.Set.{remove_key}
 use Rattle.std.specs.BTreeMap.{is_at}
 use Rattle.std.specs.BTreeMap.Range.{range_contains}
 use Rattle.std.specs.BTreeSet.{insert_key}
 use Rattle.std.proofs.lemmas.Bool.Decides.{nat_tests}
-use Rattle.std.proofs.lemmas.List.Folds.{list_any_more}
+use Rattle.std.proofs.lemmas.List.Folds.{list_any-append, list_any_more}
 use Rattle.ncq_book.specs.declared.watchers.Watch.{Watch}
 use Rattle.ncq_book.specs.Watches.{is_watch, is_watched, InstallsFit}
 use Rattle.ncq_book.proofs.Lists.{any_agree, any_mapped}
@@ -89,12 +92,28 @@ number_is n k = grind (arith, nat_tests)
 -- the install numbers of one file more
 pub file_more : (ws : List Watch) (files installs after : List ℕ) (i file : ℕ) → i < length files → file ≡ get_or files i 0
     → ((n : ℕ) → list_any (nat_eq n) installs ≡ is_watched ws (take i files) n)
-    → IsUnion (eq_by_cmp nat_cmp) installs (map (λ (w : Watch). w.install) (filter (λ w. w.file == file) ws)) after
+    → after ≡ installs ++ map (λ (w : Watch). w.install) (filter (λ w. w.file == file) ws)
     → (n : ℕ) → list_any (nat_eq n) after ≡ is_watched ws (take (i + 1) files) n
-file_more ws files installs after i file within here so_far union n =
-    let told : (ks : List ℕ) → list_any (eq_by_cmp nat_cmp n) ks ≡ list_any (nat_eq n) ks = any_agree (eq_by_cmp nat_cmp n) (nat_eq n) (number_is n) in
+file_more ws files installs after i file within here so_far more n =
     let those : List ℕ = map (λ (w : Watch). w.install) (filter (λ w. w.file == file) ws) in
-    sym (told after) ∙ union n
-    ∙ (λ j. (told installs ∙ so_far n) j || (told those ∙ watch_at file n ws) j)
+    ap (list_any (nat_eq n)) more ∙ list_any-append (nat_eq n) installs those
+    ∙ (λ j. so_far n j || watch_at file n ws j)
     ∙ (λ j. is_watched ws (take i files) n || list_any (is_watch (record { file = here j; install = n })) ws)
     ∙ sym (list_any_more (λ f. list_any (is_watch (record { file = f; install = n })) ws) files i 0 within)
+
+-- what a set of numbers has that was made of a list
+pub set_of : (numbers keys : List ℕ)
+    → ((n : ℕ) → list_any (eq_by_cmp nat_cmp n) keys ≡ list_any (eq_by_cmp nat_cmp n) numbers)
+    → (n : ℕ) → list_any (nat_eq n) keys ≡ list_any (nat_eq n) numbers
+set_of numbers keys same n =
+    let told : (ks : List ℕ) → list_any (eq_by_cmp nat_cmp n) ks ≡ list_any (nat_eq n) ks = any_agree (eq_by_cmp nat_cmp n) (nat_eq n) (number_is n) in
+    sym (told keys) ∙ same n ∙ told numbers
+
+-- numbers of which each is below the next
+pub below_next : (numbers : List ℕ) (at : ℕ) → length numbers ≤ at
+    → ((k : ℕ) → k + 1 < at → get_or numbers k 0 < get_or numbers (k + 1) 0) → IsStrictlySortedBy nat_cmp numbers
+below_next numbers at all below =
+    sorted_from_all_adjacent nat_cmp_total numbers 0 (λ k h. less_is (get_or numbers k 0) (get_or numbers (k + 1) 0) (below k (omega arith)))
+  where
+    less_is : (a b : ℕ) → a < b → nat_cmp a b ≡ Less
+    less_is a b h = grind (arith, nat_tests)

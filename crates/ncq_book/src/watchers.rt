@@ -1,5 +1,6 @@
 //! Who watches what.
 ghost use Rattle.std.specs.Prelude.{◌≡◌, ℕ, ◌&&◌, ◌||◌, [], not, nat_eq, IfOk, OnOk, OnErr};
+ghost use Rattle.std.specs.Prelude.{IsTrue};
 ghost use Rattle.std.specs.List.{list_any};
 ghost use Rattle.std.specs.List.Sorted.{IsStrictlySortedBy};
 ghost use Rattle.std.specs.Ordering.{nat_cmp};
@@ -58,7 +59,16 @@ impl Watchers {
             → list_any (nat_eq install) installs ≡ is_watched self.now files.now install) }
         ensures rising { IfOk result (IsStrictlySortedBy nat_cmp) }
     {
-        let mut installs = BTreeSet::new(alloc);
+        let installs = in_order(alloc, self.listed(alloc, files)?)?;
+        Ok(Installs::from_vec(installs))
+    }
+
+    /// The install numbers of those that watch one of the files, file by file.
+    fn listed(&self, alloc: Global, files: &[u64]) -> Result<Vec<u64>, AllocError>
+        ensures { IfOk result (λ installs. (install : ℕ)
+            → list_any (nat_eq install) installs.items ≡ is_watched self.now files.now install) }
+    {
+        let mut installs = Vec::new(alloc);
         for file in files {
             let first = Watch {
                 file: *file,
@@ -71,8 +81,7 @@ impl Watchers {
             let watches = self.watches.range(first..=last);
             installs.extend(watches.map(|watch| watch.install))?;
         }
-        let installs = installs.into_iter().collect(alloc)?;
-        Ok(Installs::from_vec(installs))
+        Ok(installs)
     }
 
     /// The member watches the file from now on. Where memory runs out, all is as before.
@@ -94,4 +103,29 @@ impl Watchers {
     {
         self.watches.remove(&Watch { file, install });
     }
+}
+
+/// The numbers, rising, each once. Those that rise already, as most often, stay as they are.
+fn in_order(alloc: Global, numbers: Vec<u64>) -> Result<Vec<u64>, AllocError>
+    ensures same { IfOk result (λ ordered. (number : ℕ)
+        → list_any (nat_eq number) ordered.items ≡ list_any (nat_eq number) numbers.items) }
+    ensures rising { IfOk result (λ ordered. IsStrictlySortedBy nat_cmp ordered.items) }
+{
+    if are_rising(numbers.as_slice()) {
+        return Ok(numbers);
+    }
+    let set: BTreeSet<u64> = numbers.into_iter().collect(alloc)?;
+    set.into_iter().collect(alloc)
+}
+
+/// Whether each number is below the next.
+fn are_rising(numbers: &[u64]) -> bool
+    ensures { IsTrue result → IsStrictlySortedBy nat_cmp numbers.now }
+{
+    for at in 1..numbers.len() {
+        if numbers[at - 1] >= numbers[at] {
+            return false;
+        }
+    }
+    true
 }

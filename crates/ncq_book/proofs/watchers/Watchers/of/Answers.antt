@@ -1,46 +1,15 @@
-use Rattle.std.proofs.Common.{◌≡◌, ◌∙◌, ◌==◌, ℕ, List, ap, refl, sym, subst, rules, map, get_or, length, arith, ◌≤◌}
+use Rattle.std.proofs.Common.{◌∙◌, ap, subst, sym}
 use Rattle.std.specs.Prelude.{nat_eq}
-use Rattle.std.specs.List.{filter, list_any}
+use Rattle.std.specs.List.{list_any}
 use Rattle.std.specs.List.Sorted.{IsStrictlySortedBy}
-use Rattle.std.specs.Ordering.{nat_cmp, eq_by_cmp}
-use Rattle.std.specs.declared.ops.Bound.TheVariants.{Included}
-use Rattle.std.specs.BTreeMap.Range.{range_contains}
-use Rattle.std.specs.Set.{IsUnion}
-use Rattle.std.proofs.lemmas.List.{take_all}
-use Rattle.std.proofs.lemmas.Iterator.{items_from_collect, YieldsList-from_map}
-use Rattle.std.proofs.lemmas.Iterator.Consumers.{YieldsList-from_rest, YieldsList-at}
-use Rattle.std.proofs.lemmas.Iterator.Adapters.{items_from_extend}
-use Rattle.ncq_book.specs.Watches.{Watch, is_watched}
-use Rattle.ncq_book.proofs.WatchLaws.{file_more, file_range, is_within, watch_cmp}
+use Rattle.std.specs.Ordering.{nat_cmp}
 use Rattle.ncq_book.proofs.watchers.Watchers.of.Goals as goal
 
-pub loop-file-preserved : goal.loop-file-preserved
-loop-file-preserved c =
-    let watches : List Watch = c.self.inside.watches.keys in
-    let file : ℕ = get_or c.args.files.now c.loop-file.file-index 0 in
-    let between : c.range-watches.result ≡ filter (is_within file) watches =
-    c.range-watches.ensures.between c.new.ensures.exhausted ∙ (λ j. filter (range_contains watch_cmp (Included (c.new.ensures.start j)) (Included (c.new.ensures.end j))) watches) in
-    let extended =
-    items_from_extend c.extend.result c.extend.ensures.ran
-    (YieldsList-from_map _ (λ (w : Watch). w.install) (YieldsList-at c.map.ensures.source (YieldsList-from_rest (filter (is_within file) watches) between)) c.map.ensures.closure (λ x r q k. search rules)) in
-    let got = rw c.in_ok-extend.was at extended in
-    let those : map (λ (w : Watch). w.install) (filter (is_within file) watches) ≡ map (λ (w : Watch). w.install) (filter (λ w. w.file == file) c.args.self.now) =
-    ap (map (λ (w : Watch). w.install)) (file_range file watches c.self.invariant ∙ ap (filter (λ w. w.file == file)) c.self.view_is) in
-    file_more c.args.self.now c.args.files.now c.loop-file.installs.keys c.extend.new.self.keys c.loop-file.file-index file c.loop-file-test.true refl c.loop-file.invariant
-    (subst (λ ks. IsUnion (eq_by_cmp nat_cmp) c.loop-file.installs.keys ks c.extend.new.self.keys) those got.0)
-
 pub returns-clause-watchers : goal.returns-clause-watchers
-returns-clause-watchers c =
-    let collected = items_from_collect c.collect.result c.collect.ensures.ran (YieldsList-from_rest c.loop-file.installs.keys c.into_iter.ensures.into_iter_gives.0) in
-    let got = rw c.in_ok-installs.was at collected in
-    let past : length c.args.files.now ≤ c.loop-file.file-index = omega (arith, c.loop-file-test.false) in
-    λ install.
-    ap (list_any (nat_eq install)) (c.from_vec.ensures ∙ got)
-    ∙ c.loop-file.invariant install
-    ∙ ap (λ files. is_watched c.args.self.now files install) (take_all c.loop-file.file-index c.args.files.now past)
+returns-clause-watchers c = λ install.
+    ap (list_any (nat_eq install)) c.from_vec.ensures
+    ∙ c.in_ok-installs.ensures.same install
+    ∙ c.in_ok-listed.ensures install
 
 pub returns-clause-rising : goal.returns-clause-rising
-returns-clause-rising c =
-    let collected = items_from_collect c.collect.result c.collect.ensures.ran (YieldsList-from_rest c.loop-file.installs.keys c.into_iter.ensures.into_iter_gives.0) in
-    let got = rw c.in_ok-installs.was at collected in
-    subst (IsStrictlySortedBy nat_cmp) (sym (c.from_vec.ensures ∙ got)) c.into_iter.ensures.into_iter_gives.4
+returns-clause-rising c = subst (IsStrictlySortedBy nat_cmp) (sym c.from_vec.ensures) c.in_ok-installs.ensures.rising
