@@ -24,6 +24,7 @@ use std::env::Env;
 use std::hash::RandomState;
 use std::io::ErrorKind;
 use std::marker::Brand;
+use std::mem::forget;
 use std::process::ExitCode;
 use std::random::RandomSource;
 use std::sync::ledger::{Blank, Ledger};
@@ -122,7 +123,7 @@ where
     add_handler(alloc, &mut handlers, b"mailto", Kind::MailTo, mail)?;
     let mut engine = Engine::new(alloc, seed, &handlers)?;
     let mut steps = Steps::<L>::new(blank);
-    Ok(run(
+    let status = run(
         alloc,
         words,
         input,
@@ -130,7 +131,10 @@ where
         &handlers,
         &mut engine,
         &mut steps,
-    ))
+    );
+    // The process ends here, and its memory with it: to give back each row would only take time.
+    forget(engine);
+    Ok(status)
 }
 
 /// What the words of the command line ask for, from standard input to standard output. Where the
