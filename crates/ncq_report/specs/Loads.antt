@@ -62,3 +62,12 @@ part_text n part =
     else if part == n + 2 then companies_text
     else if nat_lt part (2 * n + 3) then quote_text (part - (n + 3))
     else codes "report\n"
+
+-- the first so many of them
+abbrev pub parts_text : ℕ → ℕ → List ℕ
+parts_text n zero = []
+parts_text n (suc part) = parts_text n part ++ part_text n part
+
+-- all of them
+abbrev pub load_text : ℕ → List ℕ
+load_text n = parts_text n (2 * n + 4)

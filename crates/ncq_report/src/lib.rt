@@ -11,7 +11,7 @@ mod tally;
 mod tests;
 mod texts;
 
-pub use laws::lines_are_one;
+pub use laws::{lines_are_one, loads_are_short};
 pub use load::generate;
 pub use report::{Summary, write_report};
 pub use tally::{Tally, write_tally};
