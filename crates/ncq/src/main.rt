@@ -1,16 +1,18 @@
-//! The program `ncq`: a script comes from standard input, and the answer to each of its commands
-//! goes to standard output.
+//! The program `ncq`: a script comes from standard input, and the answer to each of its commands,
+//! or what one subscriber is told, goes to standard output; or the tally of a load does.
 //! The words after the program's name say what to do; the exit code says how it ended, and nothing
 //! else is printed. What is written is what `ncq_run::run` promises. No clause can say what the
 //! terminal gives or gets: which words are taken and which code a status ends with is proved, and
 //! the stored run and the tests show the rest.
 #![tactic(auto)]
 
-ghost use Rattle.std.specs.Prelude.{◌≡◌, ◌<◌, ◌↔◌, ◌++◌, ◌∷◌, [], IfOk, MatchResult, OnOk};
+ghost use Rattle.std.specs.Prelude.{◌≡◌, ◌<◌, ◌⊎◌, ◌++◌, ◌∷◌, [], None, IfOk, IfNone, MatchResult};
+ghost use Rattle.std.specs.Prelude.{OnOk};
 ghost use Rattle.ncq_callback.specs.Facts.{Writes};
 ghost use Rattle.ncq_callback.specs.Labels.{labels};
 ghost use Rattle.ncq_callback.specs.Texts.{render};
-ghost use Rattle.ncq_run.specs.Status.{IsRun, exit_code_of};
+ghost use Rattle.ncq_run.specs.Status.{exit_code_of};
+ghost use Rattle.ncq_words.specs.Forms.{form_of, texts_of};
 
 use ncq_base::{Steps, bytes_of};
 use ncq_callback::{
@@ -75,7 +77,7 @@ fn add_handler(
 
 /// A session over this source and this sink, of a new engine with the actions `print`, `count` and
 /// `mailto`, whose steps are counted in a ledger of its own.
-/// It ends with `Usage` exactly where the words are not the one word `run`.
+/// It ends with `Usage` only where the words fit no form, and then with `Usage` or want of memory.
 fn session<I: Source, O: Sink, L: Ledger>(
     alloc: Global,
     seed: RandomState,
@@ -88,7 +90,10 @@ where
     requires name { blank.name ≡ L.name }
     requires parts { blank.parts ≡ L.parts }
     requires some { 0 < L.parts }
-    ensures usage { IfOk result (λ status. status ≡ Status.Usage ↔ ¬ IsRun words.now) }
+    ensures usage { IfOk result (λ status.
+        status ≡ Status.Usage → form_of (texts_of words.now) ≡ None) }
+    ensures no_form { IfOk result (λ status. IfNone (form_of (texts_of words.now))
+        ((status ≡ Status.Usage) ⊎ (status ≡ Status.NoMemory))) }
 {
     let print: Call = Box::new(
         alloc,

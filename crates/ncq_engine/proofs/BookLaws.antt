@@ -1,8 +1,7 @@
 -- What the book tells at a change and at a move of the clock, against the members.
-use Rattle.std.proofs.Common.{◌≡◌, ℕ, ◌<◌, ◌==◌, ◌||◌, Bool, true, false, List, [], ◌∷◌, ◌++◌, map, length, refl, sym, ◌∙◌, ap, subst}
-use Rattle.std.specs.Prelude.{Option, Some, None, nat_le, nat_lt, is_some, IsSome, if◌then◌else◌}
+use Rattle.std.proofs.Common.{◌≡◌, ℕ, ◌<◌, ◌==◌, ◌||◌, Bool, true, false, List, [], ◌∷◌, ◌++◌, map, refl, sym, ◌∙◌, ap, subst}
+use Rattle.std.specs.Prelude.{Option, Some, None, nat_le, is_some, IsSome, if◌then◌else◌}
 use Rattle.std.specs.List.{filter, flat_map, list_any, AllByRecursion}
-use Rattle.ncq_base.specs.Keys.{times}
 use Rattle.ncq_book.specs.declared.member.Member.{Member}
 use Rattle.ncq_book.specs.Books.{InstallsRise, member_of, timing_of}
 use Rattle.ncq_callback.specs.Labels.{Label}
@@ -15,10 +14,10 @@ use Rattle.ncq_engine.specs.Engines.{Told, fired_if, moved_instant}
 use Rattle.ncq_engine.specs.Tellings.{firing_text, has_started, is_news_at, noted_by, started_at}
 use Rattle.ncq_engine.proofs.ByInstall.{fires_each, fires_found, firings_of, found_each}
 use Rattle.ncq_engine.proofs.CreateLaws.{created_firings, created_instant}
-use Rattle.ncq_engine.proofs.FiringLaws.{move_firings, move_texts, move_times, told_texts, told_times}
+use Rattle.ncq_engine.proofs.FiringLaws.{firing_spans, move_firings, move_places, move_texts, told_places, told_texts}
 use Rattle.ncq_engine.proofs.Lists.{each_more}
 use Rattle.ncq_engine.proofs.NotedLaws.{fired_members}
-use Rattle.ncq_engine.proofs.ToldLaws.{told_of}
+use Rattle.ncq_engine.proofs.ToldLaws.{told_of, told_spans}
 
 -- each firing of one that has started is that of a member
 pub started_there : (now : ℕ) (members : List Member) (installs : List ℕ) → AllByRecursion (λ f. IsSome (member_of f.install members)) (flat_map (started_at now members) installs)
@@ -73,9 +72,9 @@ module _ (store : StoreState) (now to : ℕ) (members : List Member) (rise : Ins
       ≡ flat_map (λ (t : Told). t.text) (ordered_by (λ (t : Told). t.firing) (told_of labels store files (moved_instant store now to) members))
   move_text labels files = move_texts labels store files members now to rise slice move_is
 
-  pub move_time : (labels : List Label) (files : Files) → times (λ f. nat_lt 0 (length (firing_text labels store files members f))) slice
-      ≡ times (λ (t : Told). nat_lt 0 (length t.text)) (told_of labels store files (moved_instant store now to) members)
-  move_time labels files = move_times labels store files members now to rise slice move_is
+  pub move_place : (labels : List Label) (files : Files) (from : ℕ) → firing_spans labels store files members from slice
+      ≡ told_spans from (ordered_by (λ (t : Told). t.firing) (told_of labels store files (moved_instant store now to) members))
+  move_place labels files from = move_places labels store files members now to rise slice move_is from
 
   -- those that are told are noted
   pub move_fired : noted_by store.changes slice members ≡ map (λ m. fired_if (is_some (moved_instant store now to m)) store m) members
@@ -104,9 +103,9 @@ module _ (store : StoreState) (now : ℕ) (olds : List Member) (made : Member) (
       ≡ flat_map (λ (t : Told). t.text) (told_of labels store files (created_instant now made.install) (olds ++ made ∷ []))
   create_text labels files = told_texts labels store files all instant rise slice create_is
 
-  pub create_time : (labels : List Label) (files : Files) → times (λ f. nat_lt 0 (length (firing_text labels store files (olds ++ made ∷ []) f))) slice
-      ≡ times (λ (t : Told). nat_lt 0 (length t.text)) (told_of labels store files (created_instant now made.install) (olds ++ made ∷ []))
-  create_time labels files = told_times labels store files all instant rise slice create_is
+  pub create_place : (labels : List Label) (files : Files) (from : ℕ) → firing_spans labels store files (olds ++ made ∷ []) from slice
+      ≡ told_spans from (told_of labels store files (created_instant now made.install) (olds ++ made ∷ []))
+  create_place labels files from = told_places labels store files all instant rise slice create_is from
 
   -- it is noted where it is told
   pub create_fired : noted_by store.changes slice (olds ++ made ∷ []) ≡ map (λ m. fired_if (is_some (created_instant now made.install m)) store m) (olds ++ made ∷ [])

@@ -1,12 +1,11 @@
 -- What the engine stands for behind a change of a source.
 use Rattle.std.proofs.Common.{◌≡◌, ℕ, zero, suc, ◌+◌, ◌<◌, ◌≤◌, Bool, true, false, ◌&&◌, ◌==◌, List, [], ◌∷◌, ◌++◌, map, length, get_or, slice_get, refl, sym, ◌∙◌, ap, subst, arith, inl, inr, zero-add}
-use Rattle.std.specs.Prelude.{Option, Some, None, Result, Ok, Err, ◌⊎◌, if◌then◌else◌, nat_lt, nat_le, is_some}
+use Rattle.std.specs.Prelude.{Option, Some, None, Result, Ok, Err, ◌⊎◌, if◌then◌else◌, nat_le, is_some}
 use Rattle.std.specs.Option.{option_and_then}
 use Rattle.std.proofs.lemmas.Bool.Decides.{nat_tests}
 use Rattle.std.proofs.lemmas.List.Quantifiers.{position-Some}
 use Rattle.std.specs.List.{flat_map, list_any, AllByRecursion, position}
 use Rattle.std.specs.Str.{bytes_eq}
-use Rattle.ncq_base.specs.Keys.{times}
 use Rattle.ncq_callback.specs.Labels.{Label}
 use Rattle.ncq_event.specs.declared.firing.Firing.{Firing}
 use Rattle.ncq_change.specs.Stores.{world_in}
@@ -33,10 +32,10 @@ use Rattle.ncq_engine.specs.History.{History, Subscription, changes, creates, cr
 use Rattle.ncq_engine.specs.Languages.{language_of}
 use Rattle.ncq_engine.specs.Notices.{firings, notice_at, told}
 use Rattle.ncq_engine.specs.Output.{delta_refusal, notices, trial_refusal}
-use Rattle.ncq_engine.specs.Stands.{AreContents, EngineState, Follows, Keeps, content_of}
+use Rattle.ncq_engine.specs.Stands.{AreContents, EngineCore, Follows, Keeps, content_of}
 use Rattle.ncq_source.specs.Changes.{Trial}
 use Rattle.ncq_source.specs.declared.change.Entry.{Entry}
-use Rattle.ncq_engine.specs.declared.engine.Applied.{Applied}
+use Rattle.ncq_engine.specs.declared.telling.Answered.{Answered}
 use Rattle.ncq_engine.specs.declared.engine.ApplyError.{ApplyError}
 use Rattle.ncq_engine.specs.declared.engine.ApplyError.TheVariants.{Refused}
 use Rattle.ncq_engine.specs.Applies.{Applies, change_refusal, ok_text, refused_change}
@@ -51,7 +50,9 @@ use Rattle.ncq_engine.proofs.Keeping.{keeps_noted}
 use Rattle.ncq_engine.proofs.StartedLaws.{FiresFirst, all_fired, delta_notes}
 use Rattle.ncq_engine.proofs.Places.{is_found, moved_by, not_found, same_names}
 use Rattle.ncq_engine.proofs.StoreLaws.{last_alike, last_changed, last_unchanged}
-use Rattle.ncq_engine.proofs.ToldLaws.{live_rises, noticed, one_instant, order_stays, tells_each, texts_of, times_of, told_list, told_of}
+use Rattle.ncq_engine.proofs.ToldLaws.{live_rises, noticed, one_instant, fired_spans, order_stays, spans_are, tells_each, texts_of, told_list, told_of, told_spans}
+use Rattle.ncq_engine.specs.declared.span.Span.{Span}
+use Rattle.ncq_engine.specs.Spans.{spans}
 use Rattle.ncq_engine.proofs.Worlds.{named, source_named_is, world_is}
 
 and_swap : (a b c : Bool) → (a && b && c) ≡ (a && c && b)
@@ -133,7 +134,7 @@ module _ (store ready after_store : StoreState) (clock count creates : ℕ) (lab
     (here : found store name ≡ Some change.source.0) (alike : map without_room ready.sources ≡ map without_room store.sources) (as_many : ready.changes ≡ store.changes)
     (good : (d : Declared) → slice_get store.sources change.source.0 ≡ Some d → prepared d.key 1 d.elements items ≡ Good change.entries)
     (committed : IsCommitted ready change after_store) where
-  abbrev old_engine : EngineState
+  abbrev old_engine : EngineCore
   old_engine = engine store clock count creates labels members table
 
   at : ℕ
@@ -218,7 +219,7 @@ module _ (store ready after_store : StoreState) (clock count creates : ℕ) (lab
     list_is contents upto can = told_list labels h (Delta name items) ready fed.files (changed_instant name clock) (live h) members
         (tells_each labels h (Delta name items) ready fed last_ready s.rising contents upto (changed_instant name clock) (live h) members firing can)
 
-    -- what is told, and how often
+    -- what is told, and where it stands
     pub delta_texts : AreContents fed.files (Delta name items ∷ h) → AreUpTo (changes (Delta name items ∷ h)) fed.files → AllByRecursion (CanTell labels ready fed) members
         → flat_map (λ (t : Told). t.text) (told_of labels ready fed.files (changed_instant name clock) members) ≡ notices (language_of labels) h (Delta name items)
     delta_texts contents upto can =
@@ -226,40 +227,43 @@ module _ (store ready after_store : StoreState) (clock count creates : ℕ) (lab
         ∙ texts_of labels h (Delta name items) ready fed.files (firings h (Delta name items))
         ∙ ap (flat_map (notice_at (language_of labels) h (Delta name items))) (sym (told_in_order h name items))
 
-    pub delta_times : AreContents fed.files (Delta name items ∷ h) → AreUpTo (changes (Delta name items ∷ h)) fed.files → AllByRecursion (CanTell labels ready fed) members
-        → times (λ (t : Told). nat_lt 0 (length t.text)) (told_of labels ready fed.files (changed_instant name clock) members)
-        ≡ times (λ f. nat_lt 0 (length (notice_at (language_of labels) h (Delta name items) f))) (told h (Delta name items))
-    delta_times contents upto can =
-        ap (times (λ (t : Told). nat_lt 0 (length t.text))) (list_is contents upto can)
-        ∙ times_of labels h (Delta name items) ready fed.files (firings h (Delta name items))
-        ∙ ap (times (λ f. nat_lt 0 (length (notice_at (language_of labels) h (Delta name items) f)))) (sym (told_in_order h name items))
+    pub delta_spans : AreContents fed.files (Delta name items ∷ h) → AreUpTo (changes (Delta name items ∷ h)) fed.files → AllByRecursion (CanTell labels ready fed) members
+        → (from : ℕ) → told_spans from (told_of labels ready fed.files (changed_instant name clock) members) ≡ spans (language_of labels) h (Delta name items) from
+    delta_spans contents upto can from =
+        ap (told_spans from) (list_is contents upto can)
+        ∙ spans_are labels h (Delta name items) ready fed.files from (firings h (Delta name items))
+        ∙ ap (fired_spans labels h (Delta name items) ready fed.files from) (sym (told_in_order h name items))
 
-  -- the texts and how many are not empty are those of the members that the change concerns
-  abbrev pub AreOfConcerned : List ℕ → ℕ → Type 0
-  AreOfConcerned texts n = (h : History) → Follows old_engine h → AreContents fed.files (Delta name items ∷ h) → AreUpTo (changes (Delta name items ∷ h)) fed.files
+  -- the texts, and where they stand, are those of the members that the change concerns
+  abbrev pub AreOfConcerned : List ℕ → ℕ → List Span → Type 0
+  AreOfConcerned texts from places = (h : History) → Follows old_engine h → AreContents fed.files (Delta name items ∷ h) → AreUpTo (changes (Delta name items ∷ h)) fed.files
       → (texts ≡ flat_map (λ (t : Told). t.text) (told_of labels ready fed.files (changed_instant name clock) members))
-      × (n ≡ times (λ (t : Told). nat_lt 0 (length t.text)) (told_of labels ready fed.files (changed_instant name clock) members))
+      × (places ≡ told_spans from (told_of labels ready fed.files (changed_instant name clock) members))
 
   -- an accepted change, from what the calls give
   pub change_accepted : AreFed ready change table.files fed.files → Fits (store.changes + 1) (world_in after_store) fed.files → AreUpTo (store.changes + 1) fed.files → AllByRecursion (CanTell labels ready fed) members
-      → (texts : List ℕ) (n : ℕ) → AreOfConcerned texts n → (out out1 out' : List ℕ) (applied first : Applied)
+      → (texts : List ℕ) (places : List Span) (out out1 out' : List ℕ) → AreOfConcerned texts (length out1) places → (applied first : Answered)
       → out1 ≡ out ++ ok_text (count + 1) → out' ≡ out1 ++ texts
-      → first ≡ record { from = length out1; to = length out1; notices = 0 } → applied ≡ record { from = first.from; to = length out'; notices = n }
+      → first ≡ record { from = length out1; to = length out1; spans = [] } → applied ≡ record { from = first.from; to = length out'; spans = places }
       → Applies old_engine (Delta name items) out (Ok applied) (engine after_store clock (count + 1) creates labels members fed) out'
-  change_accepted done fits upto can texts n concerned out out1 out' applied first line text first_is applied_is =
+  change_accepted done fits upto can texts places out out1 out' concerned applied first line text first_is applied_is =
       accepts old_engine (Delta name items) out applied (engine after_store clock (count + 1) creates labels members fed) out' texts []
       (record {
         accepted = λ h s. (delta_allowed h s, delta_follows h s (contents_are h s done fits));
         tells = λ h s. (concerned h s (contents_are h s done fits) (upto_now h s)).0 ∙ delta_texts h s (contents_are h s done fits) (upto_now h s) can;
-        counts = λ h s. ap (λ (a : Applied). a.notices) applied_is ∙ (concerned h s (contents_are h s done fits) (upto_now h s)).1 ∙ delta_times h s (contents_are h s done fits) (upto_now h s) can;
+        stand = λ h s. ap (λ (a : Answered). a.spans) applied_is ∙ (concerned h s (contents_are h s done fits) (upto_now h s)).1 ∙ delta_spans h s (contents_are h s done fits) (upto_now h s) can (length out1)
+            ∙ ap (spans (language_of labels) h (Delta name items)) (sym begins);
         ends = λ h s. refl;
         counted = refl;
         named = refl;
       })
       (whole ∙ sym (append-nil ((out ++ ok_text (count + 1)) ++ texts)) ∙ append_assoc (out ++ ok_text (count + 1)) texts [])
-      (ap (λ (a : Applied). a.from) applied_is ∙ ap (λ (a : Applied). a.from) first_is ∙ ap length line)
-      (ap (λ (a : Applied). a.to) applied_is ∙ ap length whole)
+      (begins ∙ ap length line)
+      (ap (λ (a : Answered). a.to) applied_is ∙ ap length whole)
     where
+      begins : applied.from ≡ length out1
+      begins = ap (λ (a : Answered). a.from) applied_is ∙ ap (λ (a : Answered). a.from) first_is
+
       upto_now : (h : History) → Follows old_engine h → AreUpTo (changes (Delta name items ∷ h)) fed.files
       upto_now h s = subst (λ n. AreUpTo n fed.files) (let e = s.changes in (let q : store.changes + 1 ≡ changes (Delta name items ∷ h) = omega (arith, e) in q)) upto
 
@@ -270,8 +274,8 @@ module _ (store ready after_store : StoreState) (clock count creates : ℕ) (lab
 module _ (store : StoreState) (clock count creates : ℕ) (labels : List Label) (members : List Member) (table : TableState) (name asked : List ℕ) (items : List Item) (called : asked ≡ name) (result : Result ChangeState ChangeError)
     (none : result ≡ Err NoSource → found store asked ≡ None) (only : found store asked ≡ None → result ≡ Err NoSource)
     (some : (at : ℕ) (d : Declared) → found store asked ≡ Some at → slice_get store.sources at ≡ Some d → TellsChange result at (prepared d.key 1 d.elements items))
-    (out : List ℕ) (answer : Result Applied ApplyError) (new : EngineState) (out' : List ℕ) (untouched : out' ≡ out) where
-  abbrev was : EngineState
+    (out : List ℕ) (answer : Result Answered ApplyError) (new : EngineCore) (out' : List ℕ) (untouched : out' ≡ out) where
+  abbrev was : EngineCore
   was = engine store clock count creates labels members table
 
   refused_for : (why : Refusal) → answer ≡ Err (Refused why) → new ≡ engine store clock (count + 1) creates labels members table

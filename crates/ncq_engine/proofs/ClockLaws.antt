@@ -3,7 +3,6 @@ use Rattle.std.proofs.Common.{◌≡◌, ℕ, ◌+◌, ◌≤◌, true, false, n
 use Rattle.std.specs.Prelude.{Option, Some, None, Ok, if◌then◌else◌, nat_lt, is_some}
 use Rattle.std.proofs.lemmas.Bool.Decides.{nat_tests}
 use Rattle.std.specs.List.{filter, flat_map, list_any, AllByRecursion}
-use Rattle.ncq_base.specs.Keys.{times}
 use Rattle.ncq_callback.specs.Labels.{Label}
 use Rattle.ncq_event.specs.Instants.{due, is_expired}
 use Rattle.ncq_event.specs.Orders.{ordered_by}
@@ -11,7 +10,7 @@ use Rattle.ncq_script.specs.declared.command.Command.TheVariants.{Clock}
 use Rattle.ncq_script.specs.declared.refusal.Refusal.TheVariants as refusal
 use Rattle.ncq_source.specs.StoreStates.{StoreState}
 use Rattle.ncq_xmlql.specs.declared.model.Statement.{Statement}
-use Rattle.ncq_engine.specs.declared.engine.Applied.{Applied}
+use Rattle.ncq_engine.specs.declared.telling.Answered.{Answered}
 use Rattle.ncq_book.specs.declared.member.Member.{Member}
 use Rattle.ncq_group.specs.Tables.{TableState}
 use Rattle.ncq_shelf.specs.Contents.{AreUpTo}
@@ -22,16 +21,17 @@ use Rattle.ncq_engine.specs.Engines.{CanTell, Pairwise, Told, fired_if, has_news
 use Rattle.ncq_engine.specs.Firing.{fires, has_news, is_installed, mark, sources_of}
 use Rattle.ncq_engine.specs.History.{History, Subscription, changes, creates as creates_of, last_change, live, now, timing_of}
 use Rattle.ncq_engine.specs.Languages.{language_of}
-use Rattle.ncq_engine.specs.Notices.{firings, notice_at, told}
+use Rattle.ncq_engine.specs.Notices.{firings}
 use Rattle.ncq_engine.specs.Output.{expired_line, expired_text, notices, refused_if}
-use Rattle.ncq_engine.specs.Stands.{AreContents, EngineState, Follows, Keeps}
+use Rattle.ncq_engine.specs.Stands.{AreContents, EngineCore, Follows, Keeps}
 use Rattle.ncq_engine.proofs.CommandLaws.{engine}
 use Rattle.ncq_engine.proofs.EngineLaws.{accepts, pairwise_filter, pairwise_texts}
 use Rattle.ncq_engine.proofs.HistoryLaws.{Installed, installed}
 use Rattle.ncq_engine.proofs.ContentLaws.{contents_left, contents_stay}
 use Rattle.ncq_engine.proofs.Keeping.{Agrees, IsFirst, keep_all, mark_is}
 use Rattle.ncq_engine.proofs.MarkLaws.{clock_quiet}
-use Rattle.ncq_engine.proofs.ToldLaws.{noticed, tells_each, told_list, told_of, told_text_is, told_times_is}
+use Rattle.ncq_engine.proofs.ToldLaws.{noticed, tells_each, told_list, told_of, told_spans, told_spans_are, told_text_is}
+use Rattle.ncq_engine.specs.Spans.{spans}
 
 module _ (labels : List Label) (h : History) (store : StoreState) (last : (name : List ℕ) → last_in store name ≡ last_change name h) (rising : IsRising h) (clock instant : ℕ) (at_now : clock ≡ now h) where
   news_any : (number : ℕ) (names : List (List ℕ)) → list_any (λ source. nat_lt number (last_in store source)) names ≡ list_any (λ source. nat_lt number (last_change source h)) names
@@ -82,7 +82,7 @@ abbrev pub expired_names : ℕ → List Member → List ℕ
 expired_names instant ms = flat_map (λ m. expired_name m.name) (filter (λ m. is_expired m.timing instant) ms)
 
 module _ (store : StoreState) (clock count creates : ℕ) (labels : List Label) (members : List Member) (table : TableState) (instant : ℕ) where
-  abbrev old_engine : EngineState
+  abbrev old_engine : EngineCore
   old_engine = engine store clock count creates labels members table
 
   -- what the code tells the members
@@ -129,12 +129,12 @@ module _ (store : StoreState) (clock count creates : ℕ) (labels : List Label) 
     list_is = told_list labels h (Clock instant) store table.files (moved_instant store clock instant) (live h) members
         (tells_each labels h (Clock instant) store table s.last s.rising contents_are (subst (λ n. AreUpTo n table.files) changes_are upto) (moved_instant store clock instant) (live h) members firing can)
 
-    -- what is told, and how often
+    -- what is told, and where it stands
     clock_texts : moved_text ≡ notices (language_of labels) h (Clock instant)
     clock_texts = told_text_is labels h (Clock instant) store table.files moved_list list_is
 
-    clock_times : times (λ (t : Told). nat_lt 0 (length t.text)) moved_list ≡ times (λ f. nat_lt 0 (length (notice_at (language_of labels) h (Clock instant) f))) (told h (Clock instant))
-    clock_times = told_times_is labels h (Clock instant) store table.files moved_list list_is
+    clock_spans : (from : ℕ) → told_spans from (ordered_by (λ (t : Told). t.firing) moved_list) ≡ spans (language_of labels) h (Clock instant) from
+    clock_spans from = told_spans_are labels h (Clock instant) store table.files moved_list list_is from
 
     -- the lines of those that expire
     clock_ends : expired_names instant moved_members ≡ expired_text (Clock instant) h
@@ -143,17 +143,17 @@ module _ (store : StoreState) (clock count creates : ℕ) (labels : List Label) 
         expired_line (λ m. expired_name m.name) (λ s m k. ap expired_name (sym k.name)) (live h) moved_members kept)
 
   pub clock_accepted : AreUpTo store.changes table.files → AllByRecursion (CanTell labels store table) members
-      → (out first second third : List ℕ) (left : List Member) (after : TableState) (applied : Applied) → nat_lt instant clock ≡ false → left ≡ unexpired instant moved_members → AreOf table.files after.files
+      → (out first second third : List ℕ) (left : List Member) (after : TableState) (applied : Answered) → nat_lt instant clock ≡ false → left ≡ unexpired instant moved_members → AreOf table.files after.files
       → first ≡ out ++ ok_text (count + 1) → second ≡ first ++ moved_text → third ≡ second ++ expired_names instant moved_members
-      → applied.from ≡ length first → applied.to ≡ length second → applied.notices ≡ times (λ (t : Told). nat_lt 0 (length t.text)) moved_list
+      → applied.from ≡ length first → applied.to ≡ length second → applied.spans ≡ told_spans (length first) (ordered_by (λ (t : Told). t.firing) moved_list)
       → Applies old_engine (Clock instant) out (Ok applied) (engine store instant (count + 1) creates labels left after) third
-  clock_accepted upto can out first second third left after applied later off fewer one two three from to times_are =
+  clock_accepted upto can out first second third left after applied later off fewer one two three from to places =
       subst (λ (ms : List Member). Applies old_engine (Clock instant) out (Ok applied) (engine store instant (count + 1) creates labels ms after) third) (sym off)
       (accepts old_engine (Clock instant) out applied (engine store instant (count + 1) creates labels (unexpired instant moved_members) after) third moved_text (expired_names instant moved_members)
       (record {
         accepted = λ h s. ((λ i. refused_if (nat_lt instant (sym s.clock i)) refusal.Clock) ∙ ap (λ t. refused_if t refusal.Clock) later, clock_follows upto can h s later after fewer);
         tells = λ h s. clock_texts upto can h s;
-        counts = λ h s. times_are ∙ clock_times upto can h s;
+        stand = λ h s. places ∙ clock_spans upto can h s (length first) ∙ ap (spans (language_of labels) h (Clock instant)) (sym from);
         ends = λ h s. clock_ends upto can h s;
         counted = refl;
         named = refl;

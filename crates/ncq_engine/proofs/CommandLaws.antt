@@ -5,7 +5,6 @@ use Rattle.std.specs.List.{filter, find, flat_map, list_any}
 use Rattle.std.specs.FinMap.{empty}
 use Rattle.std.specs.Str.{bytes_eq}
 use Rattle.std.proofs.lemmas.Option.{slice_get_cases}
-use Rattle.ncq_base.specs.Keys.{times}
 use Rattle.ncq_callback.specs.Labels.{Label}
 use Rattle.ncq_script.specs.declared.command.Command.{Command}
 use Rattle.ncq_script.specs.declared.command.Command.TheVariants.{Declare, Delete, Malformed}
@@ -17,7 +16,7 @@ use Rattle.ncq_source.specs.StoreStates.{StoreState, Declares, found}
 use Rattle.ncq_source.specs.declared.change.SourceId.{SourceId}
 use Rattle.ncq_source.specs.declared.store.DeclareError.{DeclareError}
 use Rattle.ncq_source.specs.declared.store.DeclareError.TheVariants.{Exists}
-use Rattle.ncq_engine.specs.declared.engine.Applied.{Applied}
+use Rattle.ncq_engine.specs.declared.telling.Answered.{Answered}
 use Rattle.ncq_engine.specs.declared.engine.ApplyError.{ApplyError}
 use Rattle.ncq_engine.specs.declared.engine.ApplyError.TheVariants.{Refused, OutOfMemory}
 use Rattle.ncq_book.specs.declared.member.Member.{Member}
@@ -32,7 +31,8 @@ use Rattle.ncq_roll.specs.Rolls.{RollState}
 use Rattle.std.specs.Option.{option_map}
 use Rattle.ncq_engine.specs.History.{History, Source, Subscription, changes, creates as creates_of, is_named, live, source_in}
 use Rattle.ncq_engine.specs.Output.{is_taken, refused_if}
-use Rattle.ncq_engine.specs.Stands.{EngineState, Keeps}
+use Rattle.ncq_engine.specs.Spans.{spans_of}
+use Rattle.ncq_engine.specs.Stands.{EngineCore, Keeps}
 use Rattle.ncq_engine.proofs.ContentLaws.{contents_left, contents_stay}
 use Rattle.ncq_engine.proofs.EngineLaws.{accepts_quietly, keep_quiet, pairwise_any, pairwise_filter, refuses, rises_quietly, told_nobody}
 use Rattle.ncq_engine.proofs.Places.{found_within, is_found, not_found, one_declared}
@@ -54,17 +54,17 @@ pub place : (store : StoreState) (name : List ℕ) → IsPlace store name
 place store name = place_of store name (found store name) refl
 
 -- an answer, where the two engines have other names
-pub told_as : (old old' : EngineState) (command : Command) (out : List ℕ) (result : Result Applied ApplyError) (new new' : EngineState) (out' : List ℕ)
+pub told_as : (old old' : EngineCore) (command : Command) (out : List ℕ) (result : Result Answered ApplyError) (new new' : EngineCore) (out' : List ℕ)
     → old' ≡ old → new ≡ new' → Applies old' command out result new' out' → Applies old command out result new out'
 told_as old old' command out result new new' out' o n a =
-    subst (λ (e : EngineState). Applies e command out result new out') o (subst (λ (e : EngineState). Applies old' command out result e out') (sym n) a)
+    subst (λ (e : EngineCore). Applies e command out result new out') o (subst (λ (e : EngineCore). Applies old' command out result e out') (sym n) a)
 
 -- an engine of these parts
-abbrev pub engine : StoreState → ℕ → ℕ → ℕ → List Label → List Member → TableState → EngineState
+abbrev pub engine : StoreState → ℕ → ℕ → ℕ → List Label → List Member → TableState → EngineCore
 engine store clock count creates labels members table = record { store = store; clock = clock; count = count; creates = creates; labels = labels; members = members; table = table }
 
-module _ (store : StoreState) (clock count creates : ℕ) (labels : List Label) (members : List Member) (table : TableState) (out : List ℕ) (result : Result Applied ApplyError) (out' : List ℕ)
-    (text : OnOk result (out' ≡ out ++ ok_text (count + 1))) (places : IfOk result (λ a. a ≡ record { from = length out'; to = length out'; notices = 0 })) (only : OnErr result (result ≡ Err OutOfMemory)) where
+module _ (store : StoreState) (clock count creates : ℕ) (labels : List Label) (members : List Member) (table : TableState) (out : List ℕ) (result : Result Answered ApplyError) (out' : List ℕ)
+    (text : OnOk result (out' ≡ out ++ ok_text (count + 1))) (places : IfOk result (λ a. a ≡ record { from = length out'; to = length out'; spans = [] })) (only : OnErr result (result ≡ Err OutOfMemory)) where
   pub declare_accepted : (name root : List ℕ) (key : Key) (store' : StoreState) → (IsSome (found store name) → ⊥) → Declares store store' name root key
       → Applies (engine store clock count creates labels members table) (Declare name root key) out result (engine store' clock (count + 1) creates labels members table) out'
   declare_accepted name root key store' new declares =
@@ -88,7 +88,7 @@ module _ (store : StoreState) (clock count creates : ℕ) (labels : List Label) 
           },
         );
         tells = λ h s. ap (flat_map _) (sym (told_nobody h (Declare name root key) (λ _. refl)));
-        counts = λ h s. ap (times _) (sym (told_nobody h (Declare name root key) (λ _. refl)));
+        stand = λ h s. ap (spans_of _ _ (length out')) (sym (told_nobody h (Declare name root key) (λ _. refl)));
         ends = λ h s. refl;
         counted = refl;
         named = refl;
@@ -122,15 +122,15 @@ module _ (store : StoreState) (clock count creates : ℕ) (labels : List Label) 
           },
         );
         tells = λ h s. ap (flat_map _) (sym (told_nobody h (Delete name) (λ _. refl)));
-        counts = λ h s. ap (times _) (sym (told_nobody h (Delete name) (λ _. refl)));
+        stand = λ h s. ap (spans_of _ _ (length out')) (sym (told_nobody h (Delete name) (λ _. refl)));
         ends = λ h s. refl;
         counted = refl;
         named = refl;
       }) text places only
 
-module _ (store : StoreState) (clock count creates : ℕ) (labels : List Label) (members : List Member) (table : TableState) (out : List ℕ) (result : Result Applied ApplyError) (new : EngineState) (out' : List ℕ)
+module _ (store : StoreState) (clock count creates : ℕ) (labels : List Label) (members : List Member) (table : TableState) (out : List ℕ) (result : Result Answered ApplyError) (new : EngineCore) (out' : List ℕ)
     (same : new ≡ engine store clock (count + 1) creates labels members table) (untouched : out' ≡ out) where
-  abbrev old : EngineState
+  abbrev old : EngineCore
   old = engine store clock count creates labels members table
 
   -- a source of the name is declared already
@@ -164,8 +164,8 @@ without_one install (m ∷ ms) =
     or_false false = refl
 
 -- an engine with other members
-pub other_members : (a b : EngineState) (f : List Member → List Member) (members : List Member) → a ≡ b → members ≡ f a.members → record a { members = members } ≡ record b { members = f b.members }
-other_members a b f members e m = (λ i. record a { members = m i }) ∙ ap (λ (x : EngineState). record x { members = f x.members }) e
+pub other_members : (a b : EngineCore) (f : List Member → List Member) (members : List Member) → a ≡ b → members ≡ f a.members → record a { members = members } ≡ record b { members = f b.members }
+other_members a b f members e m = (λ i. record a { members = m i }) ∙ ap (λ (x : EngineCore). record x { members = f x.members }) e
 
 -- a name that is found is that of a member, and one that is not found is that of none
 pub some_named : (name : List ℕ) (ms : List Member) (install : ℕ) → option_map (λ m. m.install) (find (λ m. bytes_eq name m.name) ms) ≡ Some install → list_any (λ m. bytes_eq name m.name) ms ≡ true
@@ -185,12 +185,12 @@ none_named name (m ∷ ms) e =
     ] e
 
 -- a delete that is accepted, from what the calls give
-pub delete_answers : (e inside : EngineState) → inside ≡ record e { count = e.count + 1 } → (name : List ℕ) (install : ℕ) → install_of name e.members ≡ Some install → InstallsRise inside.members → NamesDiffer inside.members
+pub delete_answers : (e inside : EngineCore) → inside ≡ record e { count = e.count + 1 } → (name : List ℕ) (install : ℕ) → install_of name e.members ≡ Some install → InstallsRise inside.members → NamesDiffer inside.members
     → (roll : RollState) → IsLeftBy (install ∷ []) (record { table = inside.table; members = inside.members; instant = inside.clock }) roll
-    → (out : List ℕ) (result : Result Applied ApplyError) (out' : List ℕ) → OnOk result (out' ≡ out ++ ok_text (e.count + 1)) → IfOk result (λ a. a ≡ record { from = length out'; to = length out'; notices = 0 }) → OnErr result (result ≡ Err OutOfMemory)
+    → (out : List ℕ) (result : Result Answered ApplyError) (out' : List ℕ) → OnOk result (out' ≡ out ++ ok_text (e.count + 1)) → IfOk result (λ a. a ≡ record { from = length out'; to = length out'; spans = [] }) → OnErr result (result ≡ Err OutOfMemory)
     → Applies e (Delete name) out result (engine inside.store roll.instant inside.count inside.creates inside.labels roll.members roll.table) out'
 delete_answers e inside is name install found rise differ roll left out result out' text places only =
-    subst (λ (x : EngineState). InstallsRise x.members → NamesDiffer x.members → IsLeftBy (install ∷ []) (record { table = x.table; members = x.members; instant = x.clock }) roll
+    subst (λ (x : EngineCore). InstallsRise x.members → NamesDiffer x.members → IsLeftBy (install ∷ []) (record { table = x.table; members = x.members; instant = x.clock }) roll
     → Applies e (Delete name) out result (engine x.store roll.instant x.count x.creates x.labels roll.members roll.table) out') (sym is)
     (λ r d l. subst (λ (n : ℕ). Applies e (Delete name) out result (engine e.store n (e.count + 1) e.creates e.labels roll.members roll.table) out') (sym l.instant)
     (delete_accepted e.store e.clock e.count e.creates e.labels e.members e.table out result out' text places only name roll.members roll.table (some_named name e.members install found)

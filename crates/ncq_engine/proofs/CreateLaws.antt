@@ -1,12 +1,11 @@
 -- What the engine stands for behind a create.
 use Rattle.std.proofs.Common.{◌≡◌, ℕ, ◌+◌, ◌<◌, ◌≤◌, Bool, true, false, ◌&&◌, ◌==◌, List, [], ◌∷◌, ◌++◌, map, length, refl, sym, ◌∙◌, ap, subst, arith, zero-add}
-use Rattle.std.specs.Prelude.{Option, Some, None, Result, Ok, Err, if◌then◌else◌, IfSome, nat_le, nat_lt, is_some}
+use Rattle.std.specs.Prelude.{Option, Some, None, Result, Ok, Err, if◌then◌else◌, IfSome, nat_le, is_some}
 use Rattle.std.proofs.lemmas.Bool.Decides.{nat_tests}
 use Rattle.std.proofs.lemmas.List.{append-nil}
 use Rattle.std.specs.List.{flat_map, list_any, AllByRecursion}
 use Rattle.std.specs.Str.{bytes_eq}
 use Rattle.ncq_base.specs.declared.atom.FileId.{FileId}
-use Rattle.ncq_base.specs.Keys.{times}
 use Rattle.ncq_bind.specs.Bindings.{Binds, Roots, have_roots, roots_in}
 use Rattle.ncq_bind.specs.Bound.{query_is_bound}
 use Rattle.ncq_bind.specs.declared.binding.BindError.{BindError}
@@ -29,7 +28,7 @@ use Rattle.ncq_source.specs.StoreStates.{StoreState}
 use Rattle.ncq_xmlql.specs.declared.model.Query.{Query}
 use Rattle.ncq_xmlql.specs.declared.model.Statement.{Statement}
 use Rattle.ncq_xmlql.specs.WellFormed.{IsWellFormed as IsWhole}
-use Rattle.ncq_engine.specs.declared.engine.Applied.{Applied}
+use Rattle.ncq_engine.specs.declared.telling.Answered.{Answered}
 use Rattle.ncq_engine.specs.declared.engine.ApplyError.{ApplyError}
 use Rattle.ncq_engine.specs.declared.engine.ApplyError.TheVariants.{Refused}
 use Rattle.ncq_book.specs.declared.member.Member.{Member}
@@ -40,10 +39,10 @@ use Rattle.ncq_engine.specs.Firing.{fires, is_new}
 use Rattle.ncq_engine.specs.History.{History, Subscription, changes, created, creates as creates_of, is_named, live, now, sources, start_of, world}
 use Rattle.ncq_engine.specs.Languages.{binding_refusal, language_of}
 use Rattle.ncq_engine.specs.Marks.{noted}
-use Rattle.ncq_engine.specs.Notices.{firings, kind_in, notice_at, told}
+use Rattle.ncq_engine.specs.Notices.{firings, kind_in}
 use Rattle.ncq_engine.specs.Output.{first_refusal, is_at_odds, notices, or_else, refused_if}
 use Rattle.ncq_engine.specs.Joins.{timed}
-use Rattle.ncq_engine.specs.Stands.{AreContents, EngineState, Follows, Keeps}
+use Rattle.ncq_engine.specs.Stands.{AreContents, EngineCore, Follows, Keeps}
 use Rattle.ncq_engine.specs.Tellings.{has_started, started_at}
 use Rattle.ncq_engine.proofs.ByInstall.{firings_of, found_first, found_behind}
 use Rattle.ncq_engine.proofs.CommandLaws.{engine}
@@ -54,7 +53,8 @@ use Rattle.ncq_engine.proofs.Keeping.{Agrees, IsFirst, keep_all}
 use Rattle.ncq_engine.proofs.Lists.{each_more, flat_map_append}
 use Rattle.ncq_engine.proofs.MarkLaws.{never_first}
 use Rattle.ncq_engine.proofs.TellingLoops.{pairwise_push}
-use Rattle.ncq_engine.proofs.ToldLaws.{noticed, tells_each, told_list, told_of, told_text_is, told_times_is}
+use Rattle.ncq_engine.proofs.ToldLaws.{noticed, tells_each, told_list, told_of, told_spans, told_spans_are, told_text_is}
+use Rattle.ncq_engine.specs.Spans.{spans}
 use Rattle.ncq_engine.proofs.Worlds.{roots_are, world_is}
 
 -- a query that binds is not refused, and another for the fault that is found
@@ -73,7 +73,7 @@ binds_not query roots binding.OutOfMemory why e b = absurd cc
 
 -- the member that a create makes
 module _ (store : StoreState) (clock count creates : ℕ) (labels : List Label) (members : List Member) (table : TableState) (statement : Statement) where
-  abbrev old_engine : EngineState
+  abbrev old_engine : EngineCore
   old_engine = engine store clock count creates labels members table
 
   abbrev this : Command
@@ -91,7 +91,7 @@ module _ (store : StoreState) (clock count creates : ℕ) (labels : List Label) 
       (or_else (refused_if (o i) refusal.Action)
       (refused_if ((ap (λ n. is_expired (timed statement n) (start_of statement.start n)) (sym s.clock) ∙ l) i) refusal.Times)))
 
-  module _ (out : List ℕ) (result : Result Applied ApplyError) (new : EngineState) (same : new ≡ engine store clock (count + 1) creates labels members table) where
+  module _ (out : List ℕ) (result : Result Answered ApplyError) (new : EngineCore) (same : new ≡ engine store clock (count + 1) creates labels members table) where
     pub create_taken : result ≡ Err (Refused refusal.NameTaken) → list_any (λ m. bytes_eq statement.name m.name) members ≡ true → Applies old_engine this out result new out
     create_taken is taken = refuses old_engine this refusal.NameTaken out result new out is same refl (create_refusal true _ _ _ taken refl refl refl)
 
@@ -104,7 +104,7 @@ module _ (store : StoreState) (clock count creates : ℕ) (labels : List Label) 
     create_late is free query binds fits late =
         refuses old_engine this refusal.Times out result new out is same refl (create_refusal false false true None free (binds_freely statement.query (roots_in store) query binds) fits late)
 
-  pub create_unbound : (out : List ℕ) (result : Result Applied ApplyError) (new : EngineState) (error : BindError) → IfSome (query_refusal error) (λ _. new ≡ engine store clock (count + 1) creates labels members table)
+  pub create_unbound : (out : List ℕ) (result : Result Answered ApplyError) (new : EngineCore) (error : BindError) → IfSome (query_refusal error) (λ _. new ≡ engine store clock (count + 1) creates labels members table)
       → result ≡ Err (refused_query error) → list_any (λ m. bytes_eq statement.name m.name) members ≡ false → Binds statement.query (roots_in store) (Err error) → Applies old_engine this out result new out
   create_unbound out result new error same is free binds = by (query_refusal error) refl same is
     where
@@ -302,17 +302,17 @@ module _ (store : StoreState) (clock count creates : ℕ) (labels : List Label) 
     pub create_text : flat_map (λ (t : Told). t.text) created_list ≡ notices (language_of labels) h (Create statement)
     create_text = ap (flat_map (λ (t : Told). t.text)) (sym in_order) ∙ told_text_is labels h (Create statement) store table.files created_list list_is
 
-    pub create_times : times (λ (t : Told). nat_lt 0 (length t.text)) created_list ≡ times (λ f. nat_lt 0 (length (notice_at (language_of labels) h (Create statement) f))) (told h (Create statement))
-    create_times = told_times_is labels h (Create statement) store table.files created_list list_is
+    pub create_spans : (from : ℕ) → told_spans from created_list ≡ spans (language_of labels) h (Create statement) from
+    create_spans from = ap (told_spans from) (sym in_order) ∙ told_spans_are labels h (Create statement) store table.files created_list list_is from
 
   -- a create that is accepted
   pub create_accepted : is_at_odds (kind_in statement.action labels) statement.argument ≡ false → list_any (λ m. bytes_eq statement.name m.name) members ≡ false → is_expired (timed statement clock) (start_of statement.start clock) ≡ false
       → AllByRecursion (CanTell labels store table) all → InstallsAreUpTo creates members
-      → (out line out' : List ℕ) (applied : Applied) (left : List Member) → line ≡ out ++ ok_text (count + 1)
+      → (out line out' : List ℕ) (applied : Answered) (left : List Member) → line ≡ out ++ ok_text (count + 1)
       → out' ≡ line ++ flat_map (λ (t : Told). t.text) created_list
-      → applied.from ≡ length line → applied.to ≡ length out' → applied.notices ≡ times (λ (t : Told). nat_lt 0 (length t.text)) created_list → left ≡ created_members
+      → applied.from ≡ length line → applied.to ≡ length out' → applied.spans ≡ told_spans (length line) created_list → left ≡ created_members
       → Applies (engine store clock count creates labels members old) (Create statement) out (Ok applied) (engine store clock (count + 1) (creates + 1) labels left table) out'
-  create_accepted fitting free timely can few out line out' applied left first rest from to many is =
+  create_accepted fitting free timely can few out line out' applied left first rest from to places is =
       let text = flat_map (λ (t : Told). t.text) created_list in
       let whole_text : out' ≡ (out ++ ok_text (count + 1)) ++ text = rest ∙ ap (λ (l : List ℕ). l ++ text) first in
       subst (λ (ms : List Member). Applies (engine store clock count creates labels members old) (Create statement) out (Ok applied) (engine store clock (count + 1) (creates + 1) labels ms table) out') (sym is)
@@ -323,7 +323,7 @@ module _ (store : StoreState) (clock count creates : ℕ) (labels : List Label) 
           create_follows can few h s,
         );
         tells = λ h s. create_text can few h s;
-        counts = λ h s. many ∙ create_times can few h s;
+        stand = λ h s. places ∙ create_spans can few h s (length line) ∙ ap (spans (language_of labels) h (Create statement)) (sym from);
         ends = λ h s. refl;
         counted = refl;
         named = refl;

@@ -1,14 +1,13 @@
 -- What the engine stands for behind each kind of command: what all kinds share.
 use Rattle.std.proofs.Common.{◌≡◌, ℕ, ◌+◌, ◌≤◌, Bool, true, false, ◌||◌, cond, List, [], ◌∷◌, ◌++◌, length, refl, sym, ◌∙◌, ap, subst, true≢false, arith, append_assoc, length-append}
-use Rattle.std.specs.Prelude.{Some, None, Result, Ok, Err, IfOk, OnOk, OnErr, nat_lt}
+use Rattle.std.specs.Prelude.{Some, None, Result, Ok, Err, IfOk, OnOk, OnErr}
 use Rattle.std.specs.List.{filter, flat_map, list_any}
 use Rattle.std.proofs.lemmas.List.{append-nil}
-use Rattle.ncq_base.specs.Keys.{times}
 use Rattle.ncq_callback.specs.Labels.{Label}
 use Rattle.ncq_event.specs.Orders.{ordered_by}
 use Rattle.ncq_script.specs.declared.command.Command.{Command}
 use Rattle.ncq_script.specs.declared.refusal.Refusal.{Refusal}
-use Rattle.ncq_engine.specs.declared.engine.Applied.{Applied}
+use Rattle.ncq_engine.specs.declared.telling.Answered.{Answered}
 use Rattle.ncq_engine.specs.declared.engine.ApplyError.{ApplyError}
 use Rattle.ncq_engine.specs.declared.engine.ApplyError.TheVariants.{Refused, OutOfMemory}
 use Rattle.ncq_book.specs.declared.member.Member.{Member}
@@ -18,9 +17,11 @@ use Rattle.ncq_engine.specs.Firing.{fires}
 use Rattle.ncq_engine.specs.History.{History, Subscription, moved, now}
 use Rattle.ncq_engine.specs.Marks.{IsRising}
 use Rattle.ncq_engine.specs.Languages.{language_of}
-use Rattle.ncq_engine.specs.Notices.{fired_at, notice_at, told}
+use Rattle.ncq_engine.specs.Notices.{fired_at, told}
 use Rattle.ncq_engine.specs.Output.{closing_text, first_refusal, notices}
-use Rattle.ncq_engine.specs.Stands.{EngineState, Follows, Keeps}
+use Rattle.ncq_engine.specs.declared.span.Span.{Span}
+use Rattle.ncq_engine.specs.Spans.{spans}
+use Rattle.ncq_engine.specs.Stands.{EngineCore, Follows, Keeps}
 use Rattle.ncq_engine.proofs.Keeping.{keeps_quiet}
 
 -- a command that leaves the clock leaves it rising
@@ -28,26 +29,26 @@ pub rises_quietly : (h : History) (command : Command) → moved command (now h) 
 rises_quietly h command same rising = ((let l : now h ≤ moved command (now h) = omega (arith, same) in l), rising)
 
 -- a command that is refused leaves all as it was, but for the number of commands
-pub refuses : (old : EngineState) (command : Command) (why : Refusal) (out : List ℕ) (result : Result Applied ApplyError) (new : EngineState) (out' : List ℕ)
+pub refuses : (old : EngineCore) (command : Command) (why : Refusal) (out : List ℕ) (result : Result Answered ApplyError) (new : EngineCore) (out' : List ℕ)
     → result ≡ Err (Refused why) → new ≡ record old { count = old.count + 1 } → out' ≡ out
     → ((h : History) → Follows old h → first_refusal (language_of old.labels) h command ≡ Some why) → Applies old command out result new out'
 refuses old command why out result new out' is same untouched because =
-    subst (λ (r : Result Applied ApplyError). Applies old command out r new out') (sym is)
-    (subst (λ (n : EngineState). Applies old command out (Err (Refused why)) n out') (sym same)
+    subst (λ (r : Result Answered ApplyError). Applies old command out r new out') (sym is)
+    (subst (λ (n : EngineCore). Applies old command out (Err (Refused why)) n out') (sym same)
     ((λ h s. (because h s, record { sources = s.sources; last = s.last; changes = s.changes; clock = s.clock; creates = s.creates; members = s.members; contents = s.contents; rising = s.rising })), (refl, (refl, untouched))))
 
 -- what is appended behind the first line, and what it stands for
-pub record Tells (old : EngineState) (command : Command) (new : EngineState) (text : List ℕ) (count : ℕ) (rest : List ℕ) : Type 0 where
+pub record Tells (old : EngineCore) (command : Command) (new : EngineCore) (text : List ℕ) (from : ℕ) (places : List Span) (rest : List ℕ) : Type 0 where
   pub accepted : (h : History) → Follows old h → (first_refusal (language_of old.labels) h command ≡ None) × Follows new (command ∷ h)
   pub tells : (h : History) → Follows old h → text ≡ notices (language_of old.labels) h command
-  pub counts : (h : History) → Follows old h → count ≡ times (λ fired. nat_lt 0 (length (notice_at (language_of old.labels) h command fired))) (told h command)
+  pub stand : (h : History) → Follows old h → places ≡ spans (language_of old.labels) h command from
   pub ends : (h : History) → Follows old h → rest ≡ closing_text (language_of old.labels) command h
   pub counted : new.count ≡ old.count + 1
   pub named : new.labels ≡ old.labels
 
 -- a command that is accepted
-pub accepts : (old : EngineState) (command : Command) (out : List ℕ) (applied : Applied) (new : EngineState) (out' text rest : List ℕ)
-    → Tells old command new text applied.notices rest
+pub accepts : (old : EngineCore) (command : Command) (out : List ℕ) (applied : Answered) (new : EngineCore) (out' text rest : List ℕ)
+    → Tells old command new text applied.from applied.spans rest
     → out' ≡ (out ++ ok_text (old.count + 1)) ++ (text ++ rest) → applied.from ≡ length (out ++ ok_text (old.count + 1)) → applied.to ≡ length ((out ++ ok_text (old.count + 1)) ++ text)
     → Applies old command out (Ok applied) new out'
 accepts old command out applied new out' text rest t e from to =
@@ -70,7 +71,7 @@ accepts old command out applied new out' text rest t e from to =
             from ∙ length-append out line,
             (
               to ∙ length-append (out ++ line) text ∙ (λ i. sym from i + length (t.tells h s i)),
-              t.counts h s,
+              t.stand h s,
             ),
           ),
         ),
@@ -78,13 +79,13 @@ accepts old command out applied new out' text rest t e from to =
     )
 
 -- where the first line cannot be appended, or more
-pub gives_up : (old : EngineState) (command : Command) (out : List ℕ) (result : Result Applied ApplyError) (new : EngineState) (out' : List ℕ) → result ≡ Err OutOfMemory → Applies old command out result new out'
-gives_up old command out result new out' is = subst (λ (r : Result Applied ApplyError). Applies old command out r new out') (sym is) tt
+pub gives_up : (old : EngineCore) (command : Command) (out : List ℕ) (result : Result Answered ApplyError) (new : EngineCore) (out' : List ℕ) → result ≡ Err OutOfMemory → Applies old command out result new out'
+gives_up old command out result new out' is = subst (λ (r : Result Answered ApplyError). Applies old command out r new out') (sym is) tt
 
 -- a command that tells nobody
-pub accepts_quietly : (old : EngineState) (command : Command) (out : List ℕ) (result : Result Applied ApplyError) (new : EngineState) (out' : List ℕ)
-    → Tells old command new [] 0 []
-    → OnOk result (out' ≡ out ++ ok_text (old.count + 1)) → IfOk result (λ a. a ≡ record { from = length out'; to = length out'; notices = 0 }) → OnErr result (result ≡ Err OutOfMemory)
+pub accepts_quietly : (old : EngineCore) (command : Command) (out : List ℕ) (result : Result Answered ApplyError) (new : EngineCore) (out' : List ℕ)
+    → Tells old command new [] (length out') [] []
+    → OnOk result (out' ≡ out ++ ok_text (old.count + 1)) → IfOk result (λ a. a ≡ record { from = length out'; to = length out'; spans = [] }) → OnErr result (result ≡ Err OutOfMemory)
     → Applies old command out result new out'
 accepts_quietly old command out (Err why) new out' t text places only = gives_up old command out (Err why) new out' only
 accepts_quietly old command out (Ok applied) new out' t text places only =
@@ -93,14 +94,14 @@ accepts_quietly old command out (Ok applied) new out' t text places only =
     (record {
       accepted = t.accepted;
       tells = t.tells;
-      counts = λ h s. ap (λ (a : Applied). a.notices) places ∙ t.counts h s;
+      stand = λ h s. ap (λ (a : Answered). a.spans) places ∙ t.stand h s ∙ ap (spans (language_of old.labels) h command) (sym (ap (λ (a : Answered). a.from) places));
       ends = t.ends;
       counted = t.counted;
       named = t.named;
     })
     (text ∙ sym (append-nil (out ++ line)))
-    (ap (λ (a : Applied). a.from) places ∙ ap length text)
-    (ap (λ (a : Applied). a.to) places ∙ ap length (text ∙ sym (append-nil (out ++ line))))
+    (ap (λ (a : Answered). a.from) places ∙ ap length text)
+    (ap (λ (a : Answered). a.to) places ∙ ap length (text ∙ sym (append-nil (out ++ line))))
 
 -- nobody fires
 nobody : (h : History) (command : Command) → ((s : Subscription) → fires s h command ≡ None) → (subs : List Subscription) → flat_map (λ s. fired_at s (fires s h command)) subs ≡ []

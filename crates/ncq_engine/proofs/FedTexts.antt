@@ -1,9 +1,8 @@
 -- Who is asked at a change: those whose file got rows are told what those are that ask its source.
-use Rattle.std.proofs.Common.{◌≡◌, ℕ, ◌+◌, Bool, true, false, ◌&&◌, ◌==◌, cond, List, [], ◌∷◌, ◌++◌, map, length, refl, sym, ◌∙◌, ap, inl, inr, zero-add}
-use Rattle.std.specs.Prelude.{Some, None, ◌⊎◌, nat_eq, nat_le, nat_lt, if◌then◌else◌}
+use Rattle.std.proofs.Common.{◌≡◌, ℕ, ◌+◌, Bool, true, false, ◌&&◌, ◌==◌, cond, List, [], ◌∷◌, ◌++◌, map, length, refl, sym, ◌∙◌, ap, inl, inr, arith}
+use Rattle.std.specs.Prelude.{Some, None, ◌⊎◌, nat_eq, nat_le, if◌then◌else◌}
 use Rattle.std.specs.List.{filter, flat_map, list_any, AllByRecursion}
 use Rattle.std.specs.Str.{bytes_eq}
-use Rattle.ncq_base.specs.Keys.{times}
 use Rattle.ncq_book.specs.declared.member.Member.{Member}
 use Rattle.ncq_book.specs.Books.{InstallsRise, member_of, watchers_of, watches}
 use Rattle.ncq_callback.specs.Labels.{Label}
@@ -19,27 +18,37 @@ use Rattle.ncq_engine.specs.Engines.{CanTell, Pairwise, Told, is_told_change, la
 use Rattle.ncq_engine.specs.History.{History, Subscription, changes, last_change, live, now}
 use Rattle.ncq_engine.specs.Marks.{IsRising}
 use Rattle.ncq_engine.specs.Stands.{AreContents, Keeps}
-use Rattle.ncq_engine.specs.Tellings.{firing_text, has_started, started_at, text_of}
+use Rattle.ncq_engine.specs.declared.span.Span.{Span}
+use Rattle.ncq_engine.specs.Spans.{span_of, spans_of}
+use Rattle.ncq_engine.specs.Tellings.{firing_name, firing_text, has_started, name_of, started_at, text_of}
 use Rattle.ncq_engine.proofs.ByInstall.{AreFound, found_each}
 use Rattle.ncq_engine.proofs.ChangeLaws.{changed_instant}
 use Rattle.ncq_engine.proofs.QuietLaws.{quiet_elsewhere, quiet_unfed}
 use Rattle.ncq_engine.proofs.StartedLaws.{FiresFirst, all_fired}
-use Rattle.ncq_engine.proofs.ToldLaws.{told_of}
+use Rattle.ncq_engine.proofs.FiringLaws.{firing_spans}
+use Rattle.ncq_engine.proofs.ToldLaws.{told_of, told_spans}
 
 -- what texts come to, from the last on
-module _ {A : Type 0} (weigh : List ℕ → A → A) (none : A) where
-  abbrev total : {X : Type 0} → (X → List ℕ) → List X → A
-  total text [] = none
-  total text (x ∷ xs) = weigh (text x) (total text xs)
+module _ {A : Type 0} (weigh : List ℕ → List ℕ → A → A) (none : A) where
+  abbrev total : {X : Type 0} → (X → List ℕ) → (X → List ℕ) → List X → A
+  total name text [] = none
+  total name text (x ∷ xs) = weigh (name x) (text x) (total name text xs)
 
-module _ {X : Type 0} (text : X → List ℕ) where
-  flat_total : (xs : List X) → flat_map text xs ≡ total (λ bytes rest. bytes ++ rest) [] text xs
+-- a text in front of the rest, and its span in front of those of the rest
+abbrev text_first : List ℕ → List ℕ → List ℕ → List ℕ
+text_first name bytes rest = bytes ++ rest
+
+abbrev span_first : List ℕ → List ℕ → (ℕ → List Span) → ℕ → List Span
+span_first name bytes rest from = span_of name from bytes ++ rest (from + length bytes)
+
+module _ {X : Type 0} (name text : X → List ℕ) where
+  flat_total : (xs : List X) → flat_map text xs ≡ total text_first [] name text xs
   flat_total [] = refl
   flat_total (x ∷ xs) = ap (λ rest. text x ++ rest) (flat_total xs)
 
-  times_total : (xs : List X) → times (λ x. nat_lt 0 (length (text x))) xs ≡ total (λ bytes rest. cond (nat_lt 0 (length bytes)) 1 0 + rest) 0 text xs
-  times_total [] = refl
-  times_total (x ∷ xs) = ap (λ rest. cond (nat_lt 0 (length (text x))) 1 0 + rest) (times_total xs)
+  spans_total : (from : ℕ) (xs : List X) → spans_of name text from xs ≡ total span_first (λ _. []) name text xs from
+  spans_total from [] = refl
+  spans_total from (x ∷ xs) = ap (λ rest. span_of (name x) from (text x) ++ rest) (spans_total (from + length (text x)) xs)
 
 module _ (labels : List Label) (store : StoreState) (files : Files) (fed : List ℕ) (name : List ℕ) (clock : ℕ) where
   -- the member is asked exactly where it is told, or it is told nothing
@@ -55,16 +64,16 @@ module _ (labels : List Label) (store : StoreState) (files : Files) (fed : List 
     abbrev told : List Member → List Told
     told ms = told_of labels store files (changed_instant name clock) ms
 
-    module _ {A : Type 0} (weigh : List ℕ → A → A) (silent : (rest : A) → weigh [] rest ≡ rest) (none : A) where
+    module _ {A : Type 0} (weigh : List ℕ → List ℕ → A → A) (silent : (name : List ℕ) (rest : A) → weigh name [] rest ≡ rest) (none : A) where
       abbrev of_firings : List Firing → A
-      of_firings firings = total weigh none (firing_text labels store files all) firings
+      of_firings firings = total weigh none (firing_name all) (firing_text labels store files all) firings
 
       abbrev of_told : List Told → A
-      of_told list = total weigh none (λ (t : Told). t.text) list
+      of_told list = total weigh none (λ (t : Told). t.name) (λ (t : Told). t.text) list
 
       -- what one more member adds, where the test says so
       abbrev one_more : Bool → Member → A → A
-      one_more test m rest = if test then weigh (told_text labels store files m clock) rest else rest
+      one_more test m rest = if test then weigh m.name (told_text labels store files m clock) rest else rest
 
       started_one : (m : Member) → member_of m.install all ≡ Some m → (rest : List Firing)
           → of_firings (started_at clock all m.install ++ rest) ≡ one_more (nat_le m.timing.start clock) m (of_firings rest)
@@ -72,7 +81,7 @@ module _ (labels : List Label) (store : StoreState) (files : Files) (fed : List 
           let firing : Firing = record { instant = clock; install = m.install } in
           (λ i. of_firings ((if has_started clock (e i) then firing ∷ [] else []) ++ rest))
           ∙ elim (nat_le m.timing.start clock) as (λ t. of_firings ((if t then firing ∷ [] else []) ++ rest) ≡ one_more t m (of_firings rest)) [
-            | true ↦ λ i. weigh (text_of labels store files clock (e i)) (of_firings rest)
+            | true ↦ λ i. weigh (name_of (e i)) (text_of labels store files clock (e i)) (of_firings rest)
             | false ↦ refl
           ]
 
@@ -91,7 +100,7 @@ module _ (labels : List Label) (store : StoreState) (files : Files) (fed : List 
 
       -- one that is told nothing adds nothing
       adds_nothing : (test : Bool) (m : Member) (rest : A) → told_text labels store files m clock ≡ [] → one_more test m rest ≡ rest
-      adds_nothing true m rest quiet = ap (λ bytes. weigh bytes rest) quiet ∙ silent rest
+      adds_nothing true m rest quiet = ap (λ bytes. weigh m.name bytes rest) quiet ∙ silent m.name rest
       adds_nothing false m rest quiet = refl
 
       adds_alike : (m : Member) (rest : A) → AsksEnough m → one_more (watches fed m && nat_le m.timing.start clock) m rest ≡ one_more (is_told_change name clock m) m rest
@@ -111,17 +120,20 @@ module _ (labels : List Label) (store : StoreState) (files : Files) (fed : List 
     pub fed_text : flat_map (firing_text labels store files all) (flat_map (started_at clock all) (watchers_of fed all))
         ≡ flat_map (λ (t : Told). t.text) (told_of labels store files (changed_instant name clock) all)
     fed_text =
-        flat_total (firing_text labels store files all) (asked all all)
-        ∙ same_total all (λ bytes rest. bytes ++ rest) (λ rest. refl) [] all (found_each all rise) enough
-        ∙ sym (flat_total (λ (t : Told). t.text) (told all all))
+        flat_total (firing_name all) (firing_text labels store files all) (asked all all)
+        ∙ same_total all text_first (λ name rest. refl) [] all (found_each all rise) enough
+        ∙ sym (flat_total (λ (t : Told). t.name) (λ (t : Told). t.text) (told all all))
 
-    -- and how many notices
-    pub fed_time : times (λ f. nat_lt 0 (length (firing_text labels store files all f))) (flat_map (started_at clock all) (watchers_of fed all))
-        ≡ times (λ (t : Told). nat_lt 0 (length t.text)) (told_of labels store files (changed_instant name clock) all)
-    fed_time =
-        times_total (firing_text labels store files all) (asked all all)
-        ∙ same_total all (λ bytes rest. cond (nat_lt 0 (length bytes)) 1 0 + rest) (λ rest. zero-add rest) 0 all (found_each all rise) enough
-        ∙ sym (times_total (λ (t : Told). t.text) (told all all))
+    -- and where it stands
+    pub fed_spans : (from : ℕ) → firing_spans labels store files all from (flat_map (started_at clock all) (watchers_of fed all))
+        ≡ told_spans from (told_of labels store files (changed_instant name clock) all)
+    fed_spans from =
+        spans_total (firing_name all) (firing_text labels store files all) from (asked all all)
+        ∙ ap (λ (made : ℕ → List Span). made from) (same_total all span_first silent (λ _. []) all (found_each all rise) enough)
+        ∙ sym (spans_total (λ (t : Told). t.name) (λ (t : Told). t.text) from (told all all))
+      where
+        silent : (name : List ℕ) (rest : ℕ → List Span) → span_first name [] rest ≡ rest
+        silent name rest = λ i from. rest (let e : from + 0 ≡ from = omega arith in e i)
 
 -- behind a change of an engine that follows the history each member is asked enough
 module _ (labels : List Label) (h : History) (name : List ℕ) (items : List Item) (clock : ℕ) (at_now : clock ≡ now h) (store : StoreState) (table : TableState)

@@ -1,8 +1,7 @@
 -- The firings that the book tells, against the members that fire.
 use Rattle.std.proofs.Common.{◌≡◌, ℕ, ◌+◌, Bool, true, false, cond, List, [], ◌∷◌, ◌++◌, map, length, refl, sym, ◌∙◌, ap}
-use Rattle.std.specs.Prelude.{Option, Some, None, if◌then◌else◌, nat_lt}
+use Rattle.std.specs.Prelude.{Option, Some, None, if◌then◌else◌}
 use Rattle.std.specs.List.{filter, flat_map}
-use Rattle.ncq_base.specs.Keys.{times}
 use Rattle.ncq_book.specs.declared.member.Member.{Member}
 use Rattle.ncq_book.specs.Books.{InstallsRise, member_of, timing_of}
 use Rattle.ncq_callback.specs.Labels.{Label}
@@ -14,19 +13,24 @@ use Rattle.ncq_event.proofs.OrderLaws.{order_unique, ordered_rising, ordered_tim
 use Rattle.ncq_event.proofs.CalendarLaws.{filter_rising, times_kept}
 use Rattle.ncq_source.specs.StoreStates.{StoreState}
 use Rattle.ncq_engine.specs.Engines.{Told, has_news_in, mark_in, moved_instant, told_at, told_text}
-use Rattle.ncq_engine.specs.Tellings.{firing_text, has_its_news, is_news_at, text_of}
+use Rattle.ncq_engine.specs.declared.span.Span.{Span}
+use Rattle.ncq_engine.specs.Spans.{span_of, spans_of}
+use Rattle.ncq_engine.specs.Tellings.{firing_name, firing_text, has_its_news, is_news_at, name_of, text_of}
 use Rattle.ncq_engine.proofs.ByInstall.{AreFound, firings_of, found_each}
 use Rattle.ncq_engine.proofs.Lists.{filter_append}
-use Rattle.ncq_engine.proofs.ToldLaws.{order_made, times_ordered, told_of}
+use Rattle.ncq_engine.proofs.ToldLaws.{order_made, told_of, told_spans}
 use Rattle.ncq_shelf.specs.KeptFiles.{Files}
 
 -- a firing with its text
 module _ (labels : List Label) (store : StoreState) (files : Files) (all : List Member) where
   abbrev with_text : Firing → Told
-  with_text firing = record { firing = firing; text = firing_text labels store files all firing }
+  with_text firing = record { firing = firing; name = firing_name all firing; text = firing_text labels store files all firing }
 
   text_found : (instant : ℕ) (o : Option Member) (m : Member) → o ≡ Some m → text_of labels store files instant o ≡ told_text labels store files m instant
   text_found instant o m e = ap (text_of labels store files instant) e
+
+  name_found : (o : Option Member) (m : Member) → o ≡ Some m → name_of o ≡ m.name
+  name_found o m e = ap name_of e
 
   map_push : (xs ys : List Firing) → map with_text (xs ++ ys) ≡ map with_text xs ++ map with_text ys
   map_push [] ys = refl
@@ -35,7 +39,7 @@ module _ (labels : List Label) (store : StoreState) (files : Files) (all : List 
   module _ (instant : Member → Option ℕ) where
     one_told : (m : Member) (o : Option ℕ) → member_of m.install all ≡ Some m → map with_text (firing_at m.install o) ≡ told_at labels store files m o
     one_told m None e = refl
-    one_told m (Some d) e = λ i. record { firing = record { instant = d; install = m.install }; text = text_found d (member_of m.install all) m e i } ∷ []
+    one_told m (Some d) e = λ i. record { firing = record { instant = d; install = m.install }; name = name_found (member_of m.install all) m e i; text = text_found d (member_of m.install all) m e i } ∷ []
 
     -- the firings of members, with their texts, are their notices
     told_is : (ms : List Member) → AreFound all ms → map with_text (firings_of instant ms) ≡ told_of labels store files instant ms
@@ -46,9 +50,15 @@ module _ (labels : List Label) (store : StoreState) (files : Files) (all : List 
   texts_are [] = refl
   texts_are (x ∷ xs) = ap (λ more. firing_text labels store files all x ++ more) (texts_are xs)
 
-  times_are : (xs : List Firing) → times (λ f. nat_lt 0 (length (firing_text labels store files all f))) xs ≡ times (λ (t : Told). nat_lt 0 (length t.text)) (map with_text xs)
-  times_are [] = refl
-  times_are (x ∷ xs) = ap (λ n. cond (nat_lt 0 (length (firing_text labels store files all x))) 1 0 + n) (times_are xs)
+  -- where their notices stand
+  abbrev pub firing_spans : ℕ → List Firing → List Span
+  firing_spans from firings = spans_of (firing_name all) (firing_text labels store files all) from firings
+
+  spans_are : (from : ℕ) (xs : List Firing) → firing_spans from xs ≡ told_spans from (map with_text xs)
+  spans_are from [] = refl
+  spans_are from (x ∷ xs) =
+      let text = firing_text labels store files all x in
+      ap (λ more. span_of (firing_name all x) from text ++ more) (spans_are (from + length text) xs)
 
   -- the texts of firings are those of the members that fire
   module _ (instant : Member → Option ℕ) (rise : InstallsRise all) where
@@ -57,11 +67,8 @@ module _ (labels : List Label) (store : StoreState) (files : Files) (all : List 
         ap (flat_map (firing_text labels store files all)) e ∙ texts_are (firings_of instant all)
         ∙ ap (flat_map (λ (t : Told). t.text)) (told_is instant all (found_each all rise))
 
-    pub told_times : (firings : List Firing) → firings ≡ firings_of instant all
-        → times (λ f. nat_lt 0 (length (firing_text labels store files all f))) firings ≡ times (λ (t : Told). nat_lt 0 (length t.text)) (told_of labels store files instant all)
-    told_times firings e =
-        ap (times (λ f. nat_lt 0 (length (firing_text labels store files all f)))) e ∙ times_are (firings_of instant all)
-        ∙ ap (times (λ (t : Told). nat_lt 0 (length t.text))) (told_is instant all (found_each all rise))
+    pub told_places : (firings : List Firing) → firings ≡ firings_of instant all → (from : ℕ) → firing_spans from firings ≡ told_spans from (told_of labels store files instant all)
+    told_places firings e from = ap (firing_spans from) e ∙ spans_are from (firings_of instant all) ∙ ap (told_spans from) (told_is instant all (found_each all rise))
 
   -- and so are those of a move of the clock, in the order of the firings
   module _ (now to : ℕ) (rise : InstallsRise all) where
@@ -78,12 +85,12 @@ module _ (labels : List Label) (store : StoreState) (files : Files) (all : List 
         ap (flat_map (firing_text labels store files all)) e ∙ texts_are (ordered own)
         ∙ ap (flat_map (λ (t : Told). t.text)) (sym (order_made with_text (λ (f : Firing). f) (λ (t : Told). t.firing) (λ x. refl) own) ∙ ap (ordered_by (λ (t : Told). t.firing)) moved_is)
 
-    pub move_times : (firings : List Firing) → firings ≡ ordered (firings_of (moved_instant store now to) all)
-        → times (λ f. nat_lt 0 (length (firing_text labels store files all f))) firings ≡ times (λ (t : Told). nat_lt 0 (length t.text)) moved
-    move_times firings e =
+    pub move_places : (firings : List Firing) → firings ≡ ordered (firings_of (moved_instant store now to) all)
+        → (from : ℕ) → firing_spans from firings ≡ told_spans from (ordered_by (λ (t : Told). t.firing) moved)
+    move_places firings e from =
         let own = firings_of (moved_instant store now to) all in
-        let test : Firing → Bool = λ f. nat_lt 0 (length (firing_text labels store files all f)) in
-        ap (times test) e ∙ times_ordered (λ (f : Firing). f) test own ∙ times_are own ∙ ap (times (λ (t : Told). nat_lt 0 (length t.text))) moved_is
+        ap (firing_spans from) e ∙ spans_are from (ordered own)
+        ∙ ap (told_spans from) (sym (order_made with_text (λ (f : Firing). f) (λ (t : Told). t.firing) (λ x. refl) own) ∙ ap (ordered_by (λ (t : Told). t.firing)) moved_is)
 
 -- an order of those that are kept
 pub kept_in_order : (test : Firing → Bool) (xs : List Firing) → filter test (ordered xs) ≡ ordered (filter test xs)

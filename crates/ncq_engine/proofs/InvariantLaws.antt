@@ -29,7 +29,7 @@ use Rattle.ncq_book.specs.declared.member.Member.{Member}
 use Rattle.ncq_book.specs.Books.{InstallsRise}
 use Rattle.ncq_engine.specs.Engines.{CanTell, InstallsAreUpTo, IsEngine, fired_if, last_in}
 use Rattle.ncq_engine.specs.History.{world}
-use Rattle.ncq_engine.specs.Stands.{EngineState, content_of}
+use Rattle.ncq_engine.specs.Stands.{EngineCore, content_of}
 use Rattle.ncq_engine.specs.Tellings.{AreOf, IsLeftBy}
 use Rattle.ncq_engine.proofs.HistoryLaws.{key_is}
 use Rattle.ncq_engine.proofs.Lists.{each_filter, each_more, each_push}
@@ -38,7 +38,7 @@ use Rattle.ncq_engine.proofs.StoreLaws.{last_alike, last_declared}
 use Rattle.ncq_engine.proofs.TableLaws.{can_left, can_noted, can_store, can_table, fed_still, installed_still}
 use Rattle.ncq_engine.proofs.Worlds.{new_is_empty, world_is}
 
-abbrev pub Invariant : EngineState → Type 0
+abbrev pub Invariant : EngineCore → Type 0
 Invariant e = IsEngine e.store e.count e.creates e.labels e.members e.table
 
 -- sources that differ in room alone have one world
@@ -54,7 +54,7 @@ world_declared old new name root key d =
     ∙ world_is old (map content_of old.sources) refl
 
 -- a command that is counted
-pub invariant_counted : (e : EngineState) → Invariant e → Invariant (record e { count = e.count + 1 })
+pub invariant_counted : (e : EngineCore) → Invariant e → Invariant (record e { count = e.count + 1 })
 invariant_counted e i =
     let a = i.changes in let b = i.creates_too in
     record {
@@ -70,7 +70,7 @@ invariant_counted e i =
     }
 
 -- one more source
-pub invariant_declared : (e : EngineState) (store : StoreState) (name root : List ℕ) (key : Key) → Declares e.store store name root key → Invariant e → Invariant (record e { store = store })
+pub invariant_declared : (e : EngineCore) (store : StoreState) (name root : List ℕ) (key : Key) → Declares e.store store name root key → Invariant e → Invariant (record e { store = store })
 invariant_declared e store name root key d i =
     let few = i.changes in
     let same = d.changes in
@@ -89,7 +89,7 @@ invariant_declared e store name root key d i =
     }
 
 -- room for sources
-pub invariant_alike : (e : EngineState) (store : StoreState) → IsAlike e.store store → Invariant e → Invariant (record e { store = store })
+pub invariant_alike : (e : EngineCore) (store : StoreState) → IsAlike e.store store → Invariant e → Invariant (record e { store = store })
 invariant_alike e store alike i =
     let few = i.changes in
     let same = alike.changes in
@@ -148,7 +148,7 @@ module _ (store ready : StoreState) (name : List ℕ) (items : List Item) (chang
       ∙ ap world_of (sym (λ i. λ source. commits_after ready ready after name change (record { source = here_ready; chains = chains_here; room = record { changes = refl; sources = refl }; committed = done }) source i))
 
 -- the files were fed, and the change was committed
-pub invariant_changed : (e : EngineState) (change : ChangeState) (store : StoreState) (table : TableState) → Invariant e → store.changes ≡ e.store.changes + 1 → e.store.changes + 1 ≤ e.count
+pub invariant_changed : (e : EngineCore) (change : ChangeState) (store : StoreState) (table : TableState) → Invariant e → store.changes ≡ e.store.changes + 1 → e.store.changes + 1 ≤ e.count
     → ((name : List ℕ) → last_in e.store name ≤ last_in store name) → ((name : List ℕ) → last_in store name ≤ store.changes)
     → AreFed e.store change e.table.files table.files → Fits table.number (world_in store) table.files → table.number ≡ e.table.number + 1 → table.next_file ≡ e.table.next_file
     → Invariant (record e { store = store; table = table })
@@ -166,7 +166,7 @@ invariant_changed e change store table i more few last lasts fed fits number nex
 }
 
 -- before the commit the members can be told
-pub can_fed : (e : EngineState) (change : ChangeState) (w : World) (table : TableState) → Invariant e → AreFed e.store change e.table.files table.files → Fits table.number w table.files → AllByRecursion (CanTell e.labels e.store table) e.members
+pub can_fed : (e : EngineCore) (change : ChangeState) (w : World) (table : TableState) → Invariant e → AreFed e.store change e.table.files table.files → Fits table.number w table.files → AllByRecursion (CanTell e.labels e.store table) e.members
 can_fed e change w table i fed fits =
     each_more (CanTell e.labels e.store e.table) (CanTell e.labels e.store table) (can_table e.labels e.store e.table table (fed_still e.store change e.table table w fed fits)) e.members i.can
 
@@ -180,7 +180,7 @@ few_more : (creates : ℕ) (ms : List Member) → InstallsAreUpTo creates ms →
 few_more creates ms few = each_more (λ (n : Member). n.install ≤ creates) (λ (n : Member). n.install ≤ creates + 1) (λ n le. let l : n.install ≤ creates + 1 = omega (arith, le) in l) ms few
 
 -- one more create, whose member is not there yet
-pub invariant_created : (e : EngineState) → Invariant e → e.creates + 1 ≤ e.count → Invariant (record e { creates = e.creates + 1 })
+pub invariant_created : (e : EngineCore) → Invariant e → e.creates + 1 ≤ e.count → Invariant (record e { creates = e.creates + 1 })
 invariant_created e i few =
     let n = i.next in
     record {
@@ -196,7 +196,7 @@ invariant_created e i few =
     }
 
 -- the member is there, with the file of its plan
-pub invariant_added : (e : EngineState) (expr : Expr) (table : TableState) (file : ℕ) (m : Member) → Invariant e → IsInstalled expr e.table table file → Fits table.number (world_in e.store) table.files → operators expr ≤ 256
+pub invariant_added : (e : EngineCore) (expr : Expr) (table : TableState) (file : ℕ) (m : Member) → Invariant e → IsInstalled expr e.table table file → Fits table.number (world_in e.store) table.files → operators expr ≤ 256
     → CanTell e.labels e.store table m → m.install ≡ e.creates + 1
     → e.creates + 1 ≤ e.count → Invariant (record e { creates = e.creates + 1; members = e.members ++ m ∷ []; table = table })
 invariant_added e expr table file m i done fits small can install few =
@@ -234,7 +234,7 @@ module _ (store : StoreState) (test : Member → Bool) where
     rise_noted ms r.1,
   )
 
-  pub invariant_noted : (e : EngineState) → e.store ≡ store → AreUpTo e.table.number e.table.files → Invariant e → Invariant (record e { members = map noted_one e.members })
+  pub invariant_noted : (e : EngineCore) → e.store ≡ store → AreUpTo e.table.number e.table.files → Invariant e → Invariant (record e { members = map noted_one e.members })
   invariant_noted e same upto i =
       let up : AreUpTo store.changes e.table.files = subst (λ n. AreUpTo n e.table.files) (i.number ∙ ap (λ (s : StoreState). s.changes) same) upto in
       record {
@@ -259,7 +259,7 @@ rise_filter keep (m ∷ ms) r =
       | false ↦ rise_filter keep ms r.1
     ]
 
-can_all : (e : EngineState) (table : TableState) → AreOf e.table.files table.files → table.number ≡ e.table.number → (ms : List Member) → AllByRecursion (λ m. HasFile table.files (plan_of m.query) m.file.0) ms
+can_all : (e : EngineCore) (table : TableState) → AreOf e.table.files table.files → table.number ≡ e.table.number → (ms : List Member) → AllByRecursion (λ m. HasFile table.files (plan_of m.query) m.file.0) ms
     → AllByRecursion (CanTell e.labels e.store e.table) ms → AllByRecursion (CanTell e.labels e.store table) ms
 can_all e table left same [] f c = tt
 can_all e table left same (m ∷ ms) f c = (can_left e.labels e.store e.table table left same m f.0 c.0, can_all e table left same ms f.1 c.1)
@@ -271,7 +271,7 @@ fits_left old new now w left fits number file at =
     subst (λ (e : Expr). IsContent now file.content.rows (rows_in e w)) (sym was.2.0) (subst (λ (c : FileState). IsContent now c.rows (rows_in was.0.expr w)) (sym was.2.1) (fits number was.0 was.1))
 
 -- members are gone
-pub invariant_left : (e : EngineState) (keep : Member → Bool) (table : TableState) → Invariant e → IsRoll table (filter keep e.members) → AreOf e.table.files table.files → table.number ≡ e.table.number → table.next_file ≡ e.table.next_file
+pub invariant_left : (e : EngineCore) (keep : Member → Bool) (table : TableState) → Invariant e → IsRoll table (filter keep e.members) → AreOf e.table.files table.files → table.number ≡ e.table.number → table.next_file ≡ e.table.next_file
     → Invariant (record e { members = filter keep e.members; table = table })
 invariant_left e keep table i roll left number next = record {
   changes = i.changes;
@@ -286,7 +286,7 @@ invariant_left e keep table i roll left number next = record {
 }
 
 -- one member is gone
-pub left_holds : (e : EngineState) (install : ℕ) (roll : RollState) → Invariant e → IsLeftBy (install ∷ []) (record { table = e.table; members = e.members; instant = e.clock }) roll → IsRoll roll.table roll.members
+pub left_holds : (e : EngineCore) (install : ℕ) (roll : RollState) → Invariant e → IsLeftBy (install ∷ []) (record { table = e.table; members = e.members; instant = e.clock }) roll → IsRoll roll.table roll.members
     → IsEngine e.store e.count e.creates e.labels roll.members roll.table
 left_holds e install roll holds left owns =
     let members : roll.members ≡ filter (λ m. not (list_any (nat_eq m.install) (install ∷ []))) e.members = left.members in

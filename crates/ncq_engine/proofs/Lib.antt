@@ -1,7 +1,6 @@
 pub mod Lists
 pub mod HistoryLaws
 pub mod AloneLaws
-pub mod AppliesLaws
 pub mod MarkLaws
 pub mod Worlds
 pub mod AskedLaws

@@ -1,5 +1,5 @@
 -- What a firing tells: the text of the notice, and the mark that follows from what is written down.
-use Rattle.std.proofs.Common.{◌≡◌, ℕ, zero, suc, ◌<◌, ◌≤◌, max, true, false, List, [], ◌∷◌, ◌++◌, length, refl, sym, ◌∙◌, ap, subst, arith}
+use Rattle.std.proofs.Common.{◌≡◌, ℕ, zero, suc, ◌<◌, ◌≤◌, max, true, false, List, [], ◌∷◌, ◌++◌, length, length-append, refl, sym, ◌∙◌, ap, subst, arith, ◌+◌}
 use Rattle.std.specs.Prelude.{Option, ◌==◌, slice_get, IfSome}
 use Rattle.std.specs.List.{AllByRecursion}
 use Rattle.std.specs.Option.{option_map}
@@ -8,6 +8,7 @@ use Rattle.std.proofs.lemmas.List.{append-nil}
 use Rattle.std.proofs.lemmas.Bool.Decides.{nat_tests}
 use Rattle.ncq_callback.specs.Labels.{Label}
 use Rattle.ncq_callback.specs.Texts.{render}
+use Rattle.ncq_callback.specs.declared.notice.Kind.TheVariants.{Print, Count, MailTo}
 use Rattle.ncq_callback.specs.declared.notice.Kind.{Kind}
 use Rattle.ncq_book.specs.declared.member.Member.{Member}
 use Rattle.ncq_midfile.specs.Content.{IsSoundAt}
@@ -21,7 +22,9 @@ use Rattle.ncq_plan.proofs.CallerLemmas.{plan_is_wide}
 use Rattle.ncq_shelf.specs.KeptFiles.{Files}
 use Rattle.ncq_source.specs.StoreStates.{StoreState}
 use Rattle.ncq_engine.specs.Engines.{CanTell, last_in, latest_in, mark_in, news_of, rows_in_file, told_text}
+use Rattle.ncq_engine.specs.declared.span.Span.{Span}
 use Rattle.ncq_engine.specs.Notices.{rendered}
+use Rattle.ncq_engine.specs.Spans.{span_of}
 
 -- what is written for a handler that is there
 written_as : (labels : List Label) (action : ℕ) → action < length labels → (argument name : List ℕ) (instant : ℕ) (entries : List Difference) (out out' : List ℕ)
@@ -32,6 +35,24 @@ written_as [] action less argument name instant entries out out' some w = absurd
 written_as (label ∷ labels) zero less argument name instant [] out out' some w = absurd (let n : ⊥ = cc in n)
 written_as (label ∷ labels) zero less argument name instant (entry ∷ more) out out' some w = w
 written_as (label ∷ labels) (suc action) less argument name instant entries out out' some w = written_as labels action (omega (arith, less)) argument name instant entries out out' some w
+
+-- a notice that is written has a first byte
+render_begins : (kind : Kind) (argument name : List ℕ) (instant : ℕ) (entries : List Difference) (from to : ℕ) → to ≡ from + length (render kind argument name instant entries)
+    → span_of name from (render kind argument name instant entries) ≡ record { name = name; from = from; to = to } ∷ []
+unfolding render
+render_begins Print argument name instant entries from to e = λ i. record { name = name; from = from; to = sym e i } ∷ []
+render_begins Count argument name instant entries from to e = λ i. record { name = name; from = from; to = sym e i } ∷ []
+render_begins MailTo argument name instant entries from to e = λ i. record { name = name; from = from; to = sym e i } ∷ []
+
+-- so it has a span
+span_as : (labels : List Label) (action : ℕ) → action < length labels → (argument name : List ℕ) (instant : ℕ) (entries : List Difference) (from to : ℕ)
+    → (length entries == 0) ≡ false
+    → to ≡ from + length (rendered (option_map (λ label. label.1) (slice_get labels action)) argument name instant entries)
+    → span_of name from (rendered (option_map (λ label. label.1) (slice_get labels action)) argument name instant entries) ≡ record { name = name; from = from; to = to } ∷ []
+span_as [] action less argument name instant entries from to some e = absurd (let n : ⊥ = omega (arith, less) in n)
+span_as (label ∷ labels) zero less argument name instant [] from to some e = absurd (let n : ⊥ = cc in n)
+span_as (label ∷ labels) zero less argument name instant (entry ∷ more) from to some e = render_begins label.1 argument name instant (entry ∷ more) from to e
+span_as (label ∷ labels) (suc action) less argument name instant entries from to some e = span_as labels action (omega (arith, less)) argument name instant entries from to some e
 
 none_written : (kind : Option Kind) (argument name : List ℕ) (instant : ℕ) (entries : List Difference) → (length entries == 0) ≡ true → rendered kind argument name instant entries ≡ []
 none_written kind argument name instant [] none = refl
@@ -46,6 +67,20 @@ module _ (labels : List Label) (store : StoreState) (files : Files) (m : Member)
   text_none out out' none is =
       is ∙ sym (append-nil out)
       ∙ ap (λ (text : List ℕ). out ++ text) (sym (told_as ∙ none_written (option_map (λ label. label.1) (slice_get labels m.action)) m.argument m.name instant entries none))
+
+  -- where nothing differs there is no span
+  pub span_none : (from : ℕ) (spans : List Span) → (length entries == 0) ≡ true → spans ≡ spans ++ span_of m.name from (told_text labels store files m instant)
+  span_none from spans none =
+      sym (append-nil spans)
+      ∙ ap (λ (text : List ℕ). spans ++ span_of m.name from text) (sym (told_as ∙ none_written (option_map (λ label. label.1) (slice_get labels m.action)) m.argument m.name instant entries none))
+
+  -- else there is the one of what was written
+  pub span_some : (name out out' : List ℕ) (from to : ℕ) (old new : List Span) → (length entries == 0) ≡ false → name ≡ m.name → from ≡ length out → to ≡ length out'
+      → out' ≡ out ++ told_text labels store files m instant → new ≡ old ++ record { name = name; from = from; to = to } ∷ [] → new ≡ old ++ span_of m.name (length out) (told_text labels store files m instant)
+  span_some name out out' from to old new some n begins ends written more =
+      let long : length out' ≡ length out + length (told_text labels store files m instant) = ap length written ∙ length-append out (told_text labels store files m instant) in
+      let span = span_as labels m.action within m.argument m.name instant entries (length out) (length out') some (long ∙ ap (λ (text : List ℕ). length out + length text) told_as) in
+      more ∙ (λ i. old ++ record { name = n i; from = begins i; to = ends i } ∷ []) ∙ ap (λ (s : List Span). old ++ s) (sym span ∙ ap (span_of m.name (length out)) (sym told_as))
 
   pub text_some : (argument name out out' : List ℕ) → (length entries == 0) ≡ false → argument ≡ m.argument → name ≡ m.name
       → IfSome (slice_get labels m.action) (λ label. out' ≡ out ++ render label.1 argument name instant entries) → out' ≡ out ++ told_text labels store files m instant

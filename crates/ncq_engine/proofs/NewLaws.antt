@@ -8,6 +8,7 @@ use Rattle.ncq_group.proofs.Empty.{nothing_there}
 use Rattle.ncq_roll.specs.Shares.{Shares}
 use Rattle.ncq_source.specs.StoreStates.{StoreState}
 use Rattle.ncq_engine.specs.Engines.{IsEngine, last_in}
+use Rattle.ncq_engine.specs.declared.span.Span.{Span}
 use Rattle.ncq_engine.specs.Stands.{Follows, Stands}
 use Rattle.ncq_engine.proofs.CommandLaws.{engine}
 
@@ -49,9 +50,9 @@ pub new_holds : (store : StoreState) (labels : List Label) (members : List Membe
 new_holds store labels members table s m files number next =
     subst (λ (st : StoreState). IsEngine st 0 0 labels members table) (sym s) (subst (λ (ms : List Member). IsEngine nothing 0 0 labels ms table) (sym m) (holds labels table files number next))
 
-pub new_stands : (store : StoreState) (clock : ℕ) (labels : List Label) (members : List Member) (table : TableState) → store ≡ record { sources = []; changes = 0 } → clock ≡ 0 → members ≡ [] → table.files ≡ empty → table.number ≡ 0 → table.next_file ≡ 0
-    → Shares members table → Stands (engine store clock 0 0 labels members table) []
-new_stands store clock labels members table s c m files number next shares = record {
+pub new_stands : (store : StoreState) (clock : ℕ) (labels : List Label) (members : List Member) (table : TableState) (spans : List Span) → store ≡ record { sources = []; changes = 0 } → clock ≡ 0 → members ≡ [] → table.files ≡ empty → table.number ≡ 0 → table.next_file ≡ 0
+    → Shares members table → Stands (record { store = store; clock = clock; count = 0; creates = 0; labels = labels; members = members; table = table; spans = spans }) []
+new_stands store clock labels members table spans s c m files number next shares = record {
   follows =
       subst (λ (st : StoreState). Follows (engine st clock 0 0 labels members table) []) (sym s)
       (subst (λ (n : ℕ). Follows (engine nothing n 0 0 labels members table) []) (sym c)

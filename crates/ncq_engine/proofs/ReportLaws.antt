@@ -28,7 +28,7 @@ use Rattle.ncq_engine.specs.Engines.{Pairwise}
 use Rattle.ncq_engine.specs.History.{History, Subscription, live}
 use Rattle.ncq_engine.specs.Languages.{language_of}
 use Rattle.ncq_engine.specs.Reports.{closure, parts, summary}
-use Rattle.ncq_engine.specs.Stands.{EngineState, Follows, Keeps, content_of}
+use Rattle.ncq_engine.specs.Stands.{EngineCore, Follows, Keeps, content_of}
 use Rattle.ncq_engine.specs.Summaries.{IsSummary}
 use Rattle.ncq_engine.proofs.PartLaws.{distinct_apart, distinct_in, in_behind, in_distinct, in_either, in_front, in_is_part, part_is_in, same_length}
 use Rattle.ncq_engine.proofs.WorkLaws.{IsThere, all_there, apart_exprs}
@@ -106,7 +106,7 @@ module _ (labels : List Label) (h : History) (expr : Expr) where
   ]
 
 -- the files of an engine are those of the expressions of the live queries, each once
-pub exprs_same : (e : EngineState) (h : History) → Follows e h → Shares e.members e.table → AreTheSame (exprs_of e.table.files) (closure (language_of e.labels) h)
+pub exprs_same : (e : EngineCore) (h : History) → Follows e h → Shares e.members e.table → AreTheSame (exprs_of e.table.files) (closure (language_of e.labels) h)
 exprs_same e h f shares =
     let list = flat_map parts_of (live h) in
     record {
@@ -125,7 +125,7 @@ pairwise_length R (x ∷ xs) [] p = absurd p
 pairwise_length R (x ∷ xs) (y ∷ ys) p = let rest = pairwise_length R xs ys p.1 in omega arith
 
 -- So what an engine counts is what a report tells of the history.
-pub summary_is : (e : EngineState) (h : History) → Follows e h → Shares e.members e.table → (s : Summary) → IsSummary e s → s ≡ summary (language_of e.labels) h
+pub summary_is : (e : EngineCore) (h : History) → Follows e h → Shares e.members e.table → (s : Summary) → IsSummary e s → s ≡ summary (language_of e.labels) h
 summary_is e h f shares s is =
     let same = exprs_same e h f shares in
     let queries = is.queries ∙ sym (pairwise_length (Keeps e.labels h) (live h) e.members f.members) in

@@ -1,12 +1,10 @@
 -- A loop over firings that appends their notices: what is made so far, with one more.
-use Rattle.std.proofs.Common.{◌≡◌, ℕ, zero, suc, ◌+◌, ◌<◌, ◌≤◌, Bool, true, false, cond, List, [], ◌∷◌, ◌++◌, map, length, take, get_or, refl, sym, ◌∙◌, ap, subst, arith, append_assoc, length-append, true≢false}
-use Rattle.std.specs.Prelude.{Option, Some, None, IsSome, is_some, if◌then◌else◌, nat_lt}
+use Rattle.std.proofs.Common.{◌≡◌, ℕ, zero, suc, ◌+◌, ◌<◌, true, false, cond, List, [], ◌∷◌, ◌++◌, map, length, take, get_or, refl, sym, ◌∙◌, ap, subst, arith, append_assoc, length-append, true≢false}
+use Rattle.std.specs.Prelude.{Option, Some, None, IsSome, is_some}
 use Rattle.std.specs.Borrow.{Bor}
 use Rattle.std.specs.Option.{option_copied}
-use Rattle.std.proofs.lemmas.Bool.Decides.{nat_tests}
-use Rattle.std.proofs.lemmas.List.{append-nil, length-take-le}
+use Rattle.std.proofs.lemmas.List.{append-nil}
 use Rattle.std.specs.List.{flat_map, AllByRecursion}
-use Rattle.ncq_base.specs.Keys.{times}
 use Rattle.ncq_book.specs.declared.member.Member.{Member}
 use Rattle.ncq_book.specs.Books.{is_of, member_of}
 use Rattle.ncq_callback.specs.Labels.{Label}
@@ -14,14 +12,25 @@ use Rattle.ncq_event.specs.declared.firing.Firing.{Firing}
 use Rattle.ncq_source.specs.StoreStates.{StoreState}
 use Rattle.ncq_engine.specs.Engines.{Pairwise, told_text}
 use Rattle.ncq_shelf.specs.KeptFiles.{Files}
-use Rattle.ncq_engine.specs.Tellings.{firing_text, text_of}
-use Rattle.ncq_engine.proofs.Lists.{flat_map_append, times_push}
+use Rattle.ncq_engine.specs.declared.span.Span.{Span}
+use Rattle.ncq_engine.specs.Spans.{span_of, spans_of}
+use Rattle.ncq_engine.specs.Tellings.{firing_name, firing_text, name_of, text_of}
+use Rattle.ncq_engine.proofs.Lists.{flat_map_append}
 
 pub pairwise_push : {A B : Type 0} (R : A → B → Type 0) (xs : List A) (ys : List B) (x : A) (y : B) → Pairwise R xs ys → R x y → Pairwise R (xs ++ x ∷ []) (ys ++ y ∷ [])
 pairwise_push R [] [] x y h r = (r, tt)
 pairwise_push R [] (b ∷ ys) x y h r = absurd h
 pairwise_push R (a ∷ xs) [] x y h r = absurd h
 pairwise_push R (a ∷ xs) (b ∷ ys) x y h r = (h.0, pairwise_push R xs ys x y h.1 r)
+
+-- the spans of texts with one text behind them
+pub spans_push : {A : Type 0} (name text : A → List ℕ) (from : ℕ) (xs : List A) (x : A) → spans_of name text from (xs ++ x ∷ []) ≡ spans_of name text from xs ++ span_of (name x) (from + length (flat_map text xs)) (text x)
+spans_push name text from [] x = append-nil (span_of (name x) from (text x)) ∙ ap (λ at. span_of (name x) at (text x)) (let e : from ≡ from + 0 = omega arith in e)
+spans_push name text from (y ∷ xs) x =
+    let here = from + length (text y) in
+    let there : here + length (flat_map text xs) ≡ from + length (text y ++ flat_map text xs) = omega (arith, length-append (text y) (flat_map text xs)) in
+    ap (λ more. span_of (name y) from (text y) ++ more) (spans_push name text here xs x ∙ ap (λ at. spans_of name text here xs ++ span_of (name x) at (text x)) there)
+    ∙ sym (append_assoc (span_of (name y) from (text y)) (spans_of name text here xs) (span_of (name x) (from + length (text y ++ flat_map text xs)) (text x)))
 
 -- what is made of the items before a place, with one more
 module _ {A : Type 0} (xs : List A) (at : ℕ) (item : A) (one : take (at + 1) xs ≡ take at xs ++ item ∷ []) where
@@ -30,8 +39,10 @@ module _ {A : Type 0} (xs : List A) (at : ℕ) (item : A) (one : take (at + 1) x
       more ∙ ap (λ l. l ++ f item) was ∙ append_assoc first (flat_map f (take at xs)) (f item)
       ∙ ap (λ l. first ++ l) (ap (λ l. flat_map f (take at xs) ++ l) (sym (append-nil (f item))) ∙ sym (flat_map_append f (take at xs) (item ∷ [])) ∙ ap (flat_map f) (sym one))
 
-  pub times_on : (test : A → Bool) (n n' : ℕ) → n ≡ times test (take at xs) → n' ≡ n + cond (test item) 1 0 → n' ≡ times test (take (at + 1) xs)
-  times_on test n n' was more = more ∙ ap (λ k. k + cond {A = ℕ} (test item) 1 0) was ∙ sym (times_push test (take at xs) item) ∙ ap (times test) (sym one)
+  pub spans_on : (name text : A → List ℕ) (from here : ℕ) (old new : List Span) → old ≡ spans_of name text from (take at xs) → here ≡ from + length (flat_map text (take at xs))
+      → new ≡ old ++ span_of (name item) here (text item) → new ≡ spans_of name text from (take (at + 1) xs)
+  spans_on name text from here old new was stands more =
+      more ∙ (λ i. was i ++ span_of (name item) (stands i) (text item)) ∙ sym (spans_push name text from (take at xs) item) ∙ ap (spans_of name text from) (sym one)
 
   pub made_on : {B C : Type 0} (f : A → C) (g : B → C) (ys : List B) (y : B) → map g ys ≡ map f (take at xs) → g y ≡ f item → map g (ys ++ y ∷ []) ≡ map f (take (at + 1) xs)
   made_on f g ys y was same = map_push g ys y ∙ (λ i. was i ++ same i ∷ []) ∙ sym (map_push f (take at xs) item) ∙ ap (map f) (sym one)
@@ -39,20 +50,6 @@ module _ {A : Type 0} (xs : List A) (at : ℕ) (item : A) (one : take (at + 1) x
       map_push : {A B : Type 0} (f : A → B) (xs : List A) (x : A) → map f (xs ++ x ∷ []) ≡ map f xs ++ f x ∷ []
       map_push f [] x = refl
       map_push f (z ∷ xs) x = ap (λ more. f z ∷ more) (map_push f xs x)
-
--- a text is longer exactly where something was appended
-pub longer : (before : List ℕ) (text after : List ℕ) → after ≡ before ++ text → nat_lt (length before) (length after) ≡ nat_lt 0 (length text)
-longer before text after e =
-    let n : length after ≡ length before + length text = ap length e ∙ length-append before text in
-    grind (arith, nat_tests, n)
-
--- no more pass than there are
-pub counted : {A : Type 0} (test : A → Bool) (xs : List A) (at n : ℕ) → n ≡ times test (take at xs) → at ≤ length xs → n ≤ at
-counted test xs at n e le = let m = most test (take at xs) in let l = length-take-le at xs le in omega (arith, m, l, e)
-  where
-    most : {A : Type 0} (test : A → Bool) (xs : List A) → times test xs ≤ length xs
-    most test [] = omega arith
-    most test (x ∷ xs) = let e = most test xs in elim (test x) as (λ t. cond {A = ℕ} t 1 0 + times test xs ≤ suc (length xs)) [ true ↦ omega arith | false ↦ omega arith ]
 
 -- what holds of each holds of the one that is found
 pub found_has : (P : Member → Type 0) (install : ℕ) (ms : List Member) (m : Member) → AllByRecursion P ms → member_of install ms ≡ Some m → P m
@@ -68,6 +65,10 @@ pub text_found : (labels : List Label) (store : StoreState) (files : Files) (mem
     → told_text labels store files m firing.instant ≡ firing_text labels store files members firing
 text_found labels store files members firing m e = ap (text_of labels store files firing.instant) e
 
+-- and its name
+pub name_found : (members : List Member) (firing : Firing) (m : Member) → Some m ≡ member_of firing.install members → m.name ≡ firing_name members firing
+name_found members firing m e = ap name_of e
+
 -- what holds of each holds at each place
 pub each_here : {A : Type 0} (P : A → Type 0) (xs : List A) (at : ℕ) (d : A) → at < length xs → AllByRecursion P xs → P (get_or xs at d)
 each_here P [] at d less h = absurd (let n : ⊥ = omega (arith, less) in n)
@@ -80,7 +81,3 @@ not_missing o p e none some = true≢false (sym some ∙ ap is_some (sym e ∙ a
 
 pub found_as : (o : Option (Bor Member)) (p : Option Member) (m : Bor Member) → option_copied o ≡ p → o ≡ Some m → p ≡ Some m.now
 found_as o p m e is = sym e ∙ ap option_copied is
-
-pub at_most_one : (b : Bool) (n : ℕ) → n ≡ (if b then 1 else 0) → n ≤ 1
-at_most_one true n e = omega (arith, e)
-at_most_one false n e = omega (arith, e)

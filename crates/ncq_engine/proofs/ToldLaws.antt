@@ -1,9 +1,8 @@
 -- Who fires, in which order, and what they are told: the members against the subscriptions.
 use Rattle.std.proofs.Common.{◌≡◌, ℕ, ◌+◌, ◌<◌, ◌≤◌, Bool, true, false, not, cond, List, [], ◌∷◌, ◌++◌, map, length, refl, sym, ◌∙◌, ap, arith}
-use Rattle.std.specs.Prelude.{Option, Some, None, nat_lt, if◌then◌else◌}
+use Rattle.std.specs.Prelude.{Option, Some, None, if◌then◌else◌}
 use Rattle.std.proofs.lemmas.Bool.Decides.{nat_tests}
 use Rattle.std.specs.List.{filter, flat_map, AllByRecursion}
-use Rattle.ncq_base.specs.Keys.{times}
 use Rattle.ncq_callback.specs.Labels.{Label}
 use Rattle.ncq_event.specs.declared.firing.Firing.{Firing}
 use Rattle.ncq_event.specs.Orders.{is_before, placed_by, ordered_by}
@@ -19,6 +18,8 @@ use Rattle.ncq_engine.specs.History.{History, Subscription, changes, created, cr
 use Rattle.ncq_engine.specs.Languages.{language_of}
 use Rattle.ncq_engine.specs.Notices.{fired_at, firings, notice_at, told}
 use Rattle.ncq_engine.specs.Marks.{IsRising}
+use Rattle.ncq_engine.specs.declared.span.Span.{Span}
+use Rattle.ncq_engine.specs.Spans.{span_of, spans_of}
 use Rattle.ncq_engine.specs.Stands.{AreContents, Keeps}
 use Rattle.ncq_group.specs.Tables.{TableState}
 use Rattle.ncq_shelf.specs.Contents.{AreUpTo}
@@ -56,19 +57,6 @@ module _ {A : Type 0} (of_a : A → Firing) where
   pub order_stays : (xs : List A) → AreInOrder xs → ordered_by of_a xs ≡ xs
   order_stays [] h = refl
   order_stays (x ∷ xs) h = ap (placed_by of_a x) (order_stays xs h.1) ∙ place_first x xs h.0
-
-  module _ (test : A → Bool) where
-    times_placed : (x : A) (xs : List A) → times test (placed_by of_a x xs) ≡ cond (test x) 1 0 + times test xs
-    times_placed x [] = refl
-    times_placed x (y ∷ ys) = elim (is_before (of_a x) (of_a y)) as (λ t. times test (if t then x ∷ y ∷ ys else y ∷ placed_by of_a x ys) ≡ cond (test x) 1 0 + (cond (test y) 1 0 + times test ys)) [
-      | true ↦ refl
-      | false ↦ let e = times_placed x ys in omega (arith, e)
-    ]
-
-    -- an order changes no count
-    pub times_ordered : (xs : List A) → times test (ordered_by of_a xs) ≡ times test xs
-    times_ordered [] = refl
-    times_ordered (x ∷ xs) = times_placed x (ordered_by of_a xs) ∙ ap (λ n. cond (test x) 1 0 + n) (times_ordered xs)
 
 -- subscriptions, each with a greater install number than those before it
 abbrev pub Rises : List Subscription → Type 0
@@ -126,6 +114,10 @@ module _ (instant : ℕ) (fired : Subscription → Option ℕ) (one : (s : Subsc
       by_firing rest None e = rest
       by_firing rest (Some c) e = (behind_all s.install c (one s c e) xs r.0, rest)
 
+-- where the notices of what is told stand, from this place on
+abbrev pub told_spans : ℕ → List Told → List Span
+told_spans from list = spans_of (λ (t : Told). t.name) (λ (t : Told). t.text) from list
+
 -- what members are told, each with its firing
 abbrev pub told_of : List Label → StoreState → Files → (Member → Option ℕ) → List Member → List Told
 told_of labels store files instant ms = flat_map (λ m. told_at labels store files m (instant m)) ms
@@ -133,16 +125,16 @@ told_of labels store files instant ms = flat_map (λ m. told_at labels store fil
 module _ (labels : List Label) (h : History) (command : Command) (store : StoreState) (files : Files) where
   -- the notice of a firing, with the firing
   abbrev pub noticed : Fired → Told
-  noticed f = record { firing = f.0; text = notice_at (language_of labels) h command f }
+  noticed f = record { firing = f.0; name = f.1.statement.name; text = notice_at (language_of labels) h command f }
 
   -- the member is told what the notice of its subscription says
   abbrev pub Tells : Subscription → Member → Type 0
-  Tells s m = (m.install ≡ s.install)
+  Tells s m = (m.install ≡ s.install) × (m.name ≡ s.statement.name)
       × ((instant : ℕ) → told_text labels store files m instant ≡ notice_at (language_of labels) h command (record { instant = instant; install = s.install }, s))
 
   told_one : (s : Subscription) (m : Member) (o : Option ℕ) → Tells s m → told_at labels store files m o ≡ map noticed (fired_at s o)
   told_one s m None k = refl
-  told_one s m (Some d) k = λ i. record { firing = record { instant = d; install = k.0 i }; text = k.1 d i } ∷ []
+  told_one s m (Some d) k = λ i. record { firing = record { instant = d; install = k.0 i }; name = k.1 i; text = k.2 d i } ∷ []
 
   map_push : (xs ys : List Fired) → map noticed (xs ++ ys) ≡ map noticed xs ++ map noticed ys
   map_push [] ys = refl
@@ -164,9 +156,15 @@ module _ (labels : List Label) (h : History) (command : Command) (store : StoreS
   texts_of [] = refl
   texts_of (x ∷ xs) = ap (λ more. notice_at (language_of labels) h command x ++ more) (texts_of xs)
 
-  pub times_of : (xs : List Fired) → times (λ (t : Told). nat_lt 0 (length t.text)) (map noticed xs) ≡ times (λ f. nat_lt 0 (length (notice_at (language_of labels) h command f))) xs
-  times_of [] = refl
-  times_of (x ∷ xs) = ap (λ n. cond (nat_lt 0 (length (notice_at (language_of labels) h command x))) 1 0 + n) (times_of xs)
+  -- where the notices of firings stand
+  abbrev pub fired_spans : ℕ → List Fired → List Span
+  fired_spans from xs = spans_of (λ (f : Fired). f.1.statement.name) (notice_at (language_of labels) h command) from xs
+
+  pub spans_are : (from : ℕ) (xs : List Fired) → told_spans from (map noticed xs) ≡ fired_spans from xs
+  spans_are from [] = refl
+  spans_are from (x ∷ xs) =
+      let text = notice_at (language_of labels) h command x in
+      ap (λ more. span_of x.1.statement.name from text ++ more) (spans_are (from + length text) xs)
 
   -- in the order of the firings
   pub told_text_is : (list : List Told) → list ≡ map noticed (firings h command)
@@ -176,18 +174,19 @@ module _ (labels : List Label) (h : History) (command : Command) (store : StoreS
       ∙ ap (flat_map (λ (t : Told). t.text)) (order_made noticed (λ (f : Fired). f.0) (λ (t : Told). t.firing) (λ x. refl) (firings h command))
       ∙ texts_of (told h command)
 
-  pub told_times_is : (list : List Told) → list ≡ map noticed (firings h command)
-      → times (λ (t : Told). nat_lt 0 (length t.text)) list ≡ times (λ f. nat_lt 0 (length (notice_at (language_of labels) h command f))) (told h command)
-  told_times_is list e =
-      ap (times (λ (t : Told). nat_lt 0 (length t.text))) e ∙ times_of (firings h command)
-      ∙ sym (times_ordered (λ (f : Fired). f.0) (λ f. nat_lt 0 (length (notice_at (language_of labels) h command f))) (firings h command))
+  pub told_spans_are : (list : List Told) → list ≡ map noticed (firings h command)
+      → (from : ℕ) → told_spans from (ordered_by (λ (t : Told). t.firing) list) ≡ fired_spans from (told h command)
+  told_spans_are list e from =
+      ap (λ l. told_spans from (ordered_by (λ (t : Told). t.firing) l)) e
+      ∙ ap (told_spans from) (order_made noticed (λ (f : Fired). f.0) (λ (t : Told). t.firing) (λ x. refl) (firings h command))
+      ∙ spans_are from (told h command)
 
 -- the members of an engine that follows the history are told what the notices say: the store is that before the command, and the files are those behind it
 module _ (labels : List Label) (h : History) (command : Command) (store : StoreState) (table : TableState)
     (last : (name : List ℕ) → last_in store name ≡ last_change name h) (rising : IsRising h) (contents : AreContents table.files (command ∷ h))
     (upto : AreUpTo (changes (command ∷ h)) table.files) where
   pub tells_one : (s : Subscription) (m : Member) → Keeps labels h s m → CanTell labels store table m → Tells labels h command store table.files s m
-  tells_one s m k can = (k.install, λ instant. text_is labels h command store table last rising contents upto s m k can instant)
+  tells_one s m k can = (k.install, k.name, λ instant. text_is labels h command store table last rising contents upto s m k can instant)
 
   pub tells_each : (instant : Member → Option ℕ) (subs : List Subscription) (ms : List Member) → Pairwise (λ s m. Keeps labels h s m × (instant m ≡ fires s h command)) subs ms
       → AllByRecursion (CanTell labels store table) ms → Pairwise (λ s m. Tells labels h command store table.files s m × (instant m ≡ fires s h command)) subs ms

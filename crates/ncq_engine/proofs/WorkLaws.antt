@@ -43,7 +43,7 @@ use Rattle.ncq_engine.specs.Engines.{Pairwise}
 use Rattle.ncq_engine.specs.History.{History, Subscription, live, source_in, sources, with_items, world}
 use Rattle.ncq_engine.specs.Languages.{language_of}
 use Rattle.ncq_engine.specs.Output.{delta_refusal, first_refusal, trial_refusal}
-use Rattle.ncq_engine.specs.Stands.{EngineState, Follows, Keeps, content_of}
+use Rattle.ncq_engine.specs.Stands.{EngineCore, Follows, Keeps, content_of}
 use Rattle.ncq_engine.specs.Works.{IsPartOfOne, IsWorkUpTo, delta_rows, entries_in, entries_of, made_rows, unless_refused}
 use Rattle.ncq_engine.proofs.ChangeAnswers.{mid_engine}
 use Rattle.ncq_engine.proofs.ClockAnswers.{counted_engine}
@@ -167,7 +167,7 @@ module _ (labels : List Label) (h : History) (expr : Expr) where
   one_is_planned (s ∷ subs) (m ∷ ms) p (inr others) = inr (one_is_planned subs ms p.1 others)
 
 -- a change that was prepared from a store, and is fed from that store with room
-module _ (e : EngineState) (ready : StoreState) (name : List ℕ) (items : List Item) (change : ChangeState) (here : found e.store name ≡ Some change.source.0) (alike : IsAlike e.store ready)
+module _ (e : EngineCore) (ready : StoreState) (name : List ℕ) (items : List Item) (change : ChangeState) (here : found e.store name ≡ Some change.source.0) (alike : IsAlike e.store ready)
     (prepares : At e.store change.source (λ s. IsPrepared s items change.entries))
     (good : (d : Declared) → slice_get e.store.sources change.source.0 ≡ Some d → prepared d.key 1 d.elements items ≡ Good change.entries) where
   abbrev own : (d : Declared) × (slice_get e.store.sources change.source.0 ≡ Some d) × (bytes_eq name d.name ≡ true)
@@ -231,16 +231,16 @@ module _ (e : EngineState) (ready : StoreState) (name : List ℕ) (items : List 
 
     -- The same by the names of the code: the steps that feeding may take, from the store with room
     -- and the files of the counted engine, are within the work of the delta.
-    pub change_steps : Shares e.members e.table → (inside : EngineState) → inside ≡ mid_engine e ready → (bound : ℕ) → IsWorkUpTo (language_of e.labels) h (Delta name items) bound
+    pub change_steps : Shares e.members e.table → (inside : EngineCore) → inside ≡ mid_engine e ready → (bound : ℕ) → IsWorkUpTo (language_of e.labels) h (Delta name items) bound
         → (old new : ℕ) → new ≤ old + feed_work inside.store change inside.table.files → new ≤ old + bound
     change_steps shares inside is bound work old new steps =
-        let few : feed_work inside.store change inside.table.files ≤ bound = subst (λ (x : EngineState). feed_work x.store change x.table.files ≤ bound) (sym is) (change_cost shares bound work) in
+        let few : feed_work inside.store change inside.table.files ≤ bound = subst (λ (x : EngineCore). feed_work x.store change x.table.files ≤ bound) (sym is) (change_cost shares bound work) in
         omega (arith, few, steps)
 
 -- To install the plan of an accepted create costs at most the work of the create: there is a list
 -- of expressions that names each part of the plan without a file, and its rows are within the
 -- work. A part without a file is no part of a live subscription's plan.
-pub create_cost : (e : EngineState) (h : History) → Follows e h → Shares e.members e.table → (statement : Statement) (query : NormalQuery) → Binds statement.query (roots_in e.store) (Ok query)
+pub create_cost : (e : EngineCore) (h : History) → Follows e h → Shares e.members e.table → (statement : Statement) (query : NormalQuery) → Binds statement.query (roots_in e.store) (Ok query)
     → first_refusal (language_of e.labels) h (Create statement) ≡ None → (bound : ℕ) → IsWorkUpTo (language_of e.labels) h (Create statement) bound
     → (exprs : List Expr) × NamesTheMissing e.table.files (plan_of query) exprs × (rows_of_all (world_in e.store) exprs ≤ bound)
 create_cost e h s shares statement query binds none bound work = (
@@ -255,21 +255,21 @@ create_cost e h s shares statement query binds none bound work = (
 )
 
 -- A create whose statement was read, bound and found free, fitting and timely is not refused.
-pub create_allowed : (e : EngineState) (h : History) → Follows e h → (statement : Statement) (query : NormalQuery) (action : ℕ) → IsRead e statement query action
+pub create_allowed : (e : EngineCore) (h : History) → Follows e h → (statement : Statement) (query : NormalQuery) (action : ℕ) → IsRead e statement query action
     → first_refusal (language_of e.labels) h (Create statement) ≡ None
 create_allowed e h s statement query action read =
     create_refusal e.store e.clock e.count e.creates e.labels e.members e.table statement false false false None read.free (binds_freely statement.query (roots_in e.store) query read.binds) read.fitting read.timely h s
 
 -- The same by the names of the code: the steps that adding the new member may take are within the
 -- work of the create.
-pub create_steps : (e inside : EngineState) → inside ≡ counted_engine e → (h : History) → Follows e h → Shares e.members e.table
+pub create_steps : (e inside : EngineCore) → inside ≡ counted_engine e → (h : History) → Follows e h → Shares e.members e.table
     → (statement : Statement) (query : NormalQuery) (action : ℕ) → IsRead e statement query action → (plan : Expr) → plan ≡ plan_of query
     → (bound : ℕ) → IsWorkUpTo (language_of e.labels) h (Create statement) bound
     → (old new : ℕ) → ((missing : List Expr) → NamesTheMissing inside.table.files plan missing → new ≤ old + rows_of_all (world_in inside.store) missing) → new ≤ old + bound
 create_steps e inside is h s shares statement query action read plan planned bound work old new steps =
     let cost = create_cost e h s shares statement query read.binds (create_allowed e h s statement query action read) bound work in
     let taken : new ≤ old + rows_of_all (world_in e.store) cost.0 =
-    subst (λ (x : EngineState). new ≤ old + rows_of_all (world_in x.store) cost.0) is (steps cost.0 (subst (λ (x : EngineState). NamesTheMissing x.table.files plan cost.0) (sym is)
+    subst (λ (x : EngineCore). new ≤ old + rows_of_all (world_in x.store) cost.0) is (steps cost.0 (subst (λ (x : EngineCore). NamesTheMissing x.table.files plan cost.0) (sym is)
     (subst (λ (p : Expr). NamesTheMissing e.table.files p cost.0) (sym planned) cost.1))) in
     let few = cost.2 in
     omega (arith, taken, few)

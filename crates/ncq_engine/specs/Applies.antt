@@ -1,9 +1,8 @@
 -- What the answer to a command does.
-use Rattle.std.specs.Prelude.{◌≡◌, ◌+◌, ◌++◌, ◌∷◌, ℕ, List, nat_lt, length, codes, decimal, None}
+use Rattle.std.specs.Prelude.{◌≡◌, ◌+◌, ◌++◌, ◌∷◌, ℕ, List, length, codes, decimal, None}
 use Rattle.std.specs.Prelude.{Some, Result, Ok, Err}
 use Rattle.std.specs.Prelude.{Option, slice_get}
 use Rattle.std.specs.Option.{option_map}
-use Rattle.ncq_base.specs.Keys.{times}
 use Rattle.ncq_bind.specs.declared.binding.BindError.{BindError}
 use Rattle.ncq_bind.specs.declared.binding.BindError.TheVariants as binding
 use Rattle.ncq_callback.specs.Labels.{Label}
@@ -13,14 +12,16 @@ use Rattle.ncq_source.specs.declared.change.ChangeError.TheVariants as change
 use Rattle.ncq_script.specs.declared.refusal.Refusal.TheVariants as refusal
 use Rattle.ncq_script.specs.declared.command.Command.{Command}
 use Rattle.ncq_script.specs.declared.refusal.Refusal.{Refusal}
+use Rattle.ncq_engine.specs.declared.telling.Answered.{Answered}
 use Rattle.ncq_engine.specs.declared.engine.Applied.{Applied}
 use Rattle.ncq_engine.specs.declared.engine.ApplyError.{ApplyError}
+use Rattle.ncq_engine.specs.declared.span.Span.{Span}
 use Rattle.ncq_engine.specs.declared.engine.ApplyError.TheVariants.{Refused, OutOfMemory}
 use Rattle.ncq_engine.specs.History.{History}
 use Rattle.ncq_engine.specs.Languages.{language_of}
-use Rattle.ncq_engine.specs.Notices.{notice_at, told}
 use Rattle.ncq_engine.specs.Output.{accepted_text, first_refusal, notices}
-use Rattle.ncq_engine.specs.Stands.{EngineState, Follows, Stands}
+use Rattle.ncq_engine.specs.Spans.{spans}
+use Rattle.ncq_engine.specs.Stands.{EngineCore, EngineState, Follows, Stands}
 
 -- the line that begins the answer to an accepted command
 abbrev pub ok_text : ℕ → List ℕ
@@ -81,21 +82,25 @@ AreNotices old history command out applied =
     × ((applied.to
     ≡ applied.from + length (notices (language_of old.labels) history command))
     × (applied.notices
-    ≡ times (λ fired. nat_lt 0 (length
-    (notice_at (language_of old.labels) history command fired)))
-    (told history command)))
+    ≡ length (spans (language_of old.labels) history command applied.from)))
 
 abbrev pub WritesNotices : EngineState → Command → List ℕ → Applied → Type 0
 WritesNotices old command out applied =
     OfEach old (λ history. AreNotices old history command out applied)
 
+-- where each notice stands
+abbrev pub AreSpans : EngineState → History → Command → List ℕ → List Span → Type 0
+AreSpans old history command out places =
+    places ≡ spans (language_of old.labels) history command
+    (length out + length (ok_text (old.count + 1)))
+
 -- it holds of each history that the engine follows. Only the crate's private clauses cite this and
 -- what is below.
-abbrev pub OfFollowed : EngineState → (History → Type 0) → Type 0
+abbrev pub OfFollowed : EngineCore → (History → Type 0) → Type 0
 OfFollowed engine holds = (history : History) → Follows engine history → holds history
 
 -- the command is accepted: its answer was appended, and the engine follows it
-abbrev pub Accepts : EngineState → Command → List ℕ → EngineState → List ℕ → Type 0
+abbrev pub Accepts : EngineCore → Command → List ℕ → EngineCore → List ℕ → Type 0
 Accepts old command out new out' =
     (history : History) → Follows old history
     → (first_refusal (language_of old.labels) history command ≡ None)
@@ -103,19 +108,27 @@ Accepts old command out new out' =
     × (out' ≡ out ++ accepted_text (language_of old.labels) history (old.count + 1) command))
 
 -- the command is refused for this, and the engine follows what it followed
-abbrev pub Refuses : EngineState → Command → Refusal → EngineState → Type 0
+abbrev pub Refuses : EngineCore → Command → Refusal → EngineCore → Type 0
 Refuses old command why new =
     (history : History) → Follows old history
     → (first_refusal (language_of old.labels) history command ≡ Some why) × Follows new history
 
+-- where the notices begin and end, and where each of them stands
+abbrev pub ArePlaces : EngineCore → History → Command → List ℕ → Answered → Type 0
+ArePlaces old history command out answered =
+    (answered.from ≡ length out + length (ok_text (old.count + 1)))
+    × ((answered.to
+    ≡ answered.from + length (notices (language_of old.labels) history command))
+    × (answered.spans ≡ spans (language_of old.labels) history command answered.from))
+
 -- what each answer says
 abbrev pub Applies
-    : EngineState → Command → List ℕ → Result Applied ApplyError → EngineState → List ℕ → Type 0
-Applies old command out (Ok applied) new out' =
+    : EngineCore → Command → List ℕ → Result Answered ApplyError → EngineCore → List ℕ → Type 0
+Applies old command out (Ok answered) new out' =
     Accepts old command out new out'
     × ((new.count ≡ old.count + 1)
     × ((new.labels ≡ old.labels)
-    × OfFollowed old (λ history. AreNotices old history command out applied)))
+    × OfFollowed old (λ history. ArePlaces old history command out answered)))
 Applies old command out (Err (Refused why)) new out' =
     Refuses old command why new
     × ((new.count ≡ old.count + 1) × ((new.labels ≡ old.labels) × (out' ≡ out)))

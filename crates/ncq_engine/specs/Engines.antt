@@ -109,9 +109,10 @@ Pairwise R [] (y ∷ ys) = ⊥
 Pairwise R (x ∷ xs) [] = ⊥
 Pairwise R (x ∷ xs) (y ∷ ys) = R x y × Pairwise R xs ys
 
--- a firing with the text of its notice
+-- a firing with the name of its member and the text of its notice
 pub record Told : Type 0 where
   pub firing : Firing
+  pub name : List ℕ
   pub text : List ℕ
 
 -- its notice where it fires, with the firing
@@ -120,6 +121,7 @@ told_at labels store files m None = []
 told_at labels store files m (Some instant) =
     record {
       firing = record { instant = instant; install = m.install };
+      name = m.name;
       text = told_text labels store files m instant;
     } ∷ []
 

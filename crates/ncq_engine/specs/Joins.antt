@@ -14,7 +14,7 @@ use Rattle.ncq_engine.specs.Engines.{new_member}
 use Rattle.ncq_engine.specs.History.{start_of}
 use Rattle.ncq_engine.specs.Notices.{kind_in}
 use Rattle.ncq_engine.specs.Output.{is_at_odds}
-use Rattle.ncq_engine.specs.Stands.{EngineState}
+use Rattle.ncq_engine.specs.Stands.{EngineCore}
 
 -- the timing of a statement that is created at this instant
 abbrev pub timed : Statement → ℕ → Timing
@@ -25,7 +25,7 @@ timed statement clock = record {
 }
 
 -- the member is the one that the statement makes now, and nothing refuses the statement
-pub record IsMemberOf (e : EngineState) (statement : Statement) (m : Member) : Type 0 where
+pub record IsMemberOf (e : EngineCore) (statement : Statement) (m : Member) : Type 0 where
   pub whole : IsWhole statement
   pub binds : Binds statement.query (roots_in e.store) (Ok m.query)
   pub formed : IsWellFormed m.query

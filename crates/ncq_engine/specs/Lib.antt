@@ -1,6 +1,7 @@
 pub mod History
 pub mod Firing
 pub mod Notices
+pub mod Spans
 pub mod Reports
 pub mod Output
 pub mod Alone

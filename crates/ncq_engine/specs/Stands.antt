@@ -16,6 +16,8 @@ use Rattle.ncq_roll.specs.Shares.{Shares}
 use Rattle.ncq_source.specs.Stores.{Source as Declared}
 use Rattle.ncq_source.specs.StoreStates.{StoreState, store_code}
 use Rattle.ncq_xmlql.specs.WellFormed.{IsWellFormed}
+use Rattle.ncq_engine.specs.contracts.span.Span.{the_row as span_row}
+use Rattle.ncq_engine.specs.declared.span.Span.{Span}
 use Rattle.ncq_engine.specs.Engines.{Pairwise, last_in}
 use Rattle.ncq_engine.specs.Firing.{sources_of}
 use Rattle.ncq_engine.specs.History.{History, Source, Subscription, changes, creates, last_change}
@@ -25,7 +27,8 @@ use Rattle.ncq_engine.specs.Notices.{kind_in}
 
 -- what contracts see of an engine: the store, the clock, how many commands were answered and how
 -- many creates accepted, the names and kinds of its handlers, the live subscriptions in the order
--- of their creates, and the table of the files that they share
+-- of their creates, the table of the files that they share, and where the notices of the last
+-- answer stand
 pub record EngineState : Type 0 where
   pub store : StoreState
   pub clock : ℕ
@@ -34,15 +37,38 @@ pub record EngineState : Type 0 where
   pub labels : List Label
   pub members : List Member
   pub table : TableState
+  pub spans : List Span
+
+-- what of an engine stands for a history: all but where the notices of the last answer stand
+pub record EngineCore : Type 0 where
+  pub store : StoreState
+  pub clock : ℕ
+  pub count : ℕ
+  pub creates : ℕ
+  pub labels : List Label
+  pub members : List Member
+  pub table : TableState
+
+abbrev pub core_of : EngineState → EngineCore
+core_of engine = record {
+  store = engine.store;
+  clock = engine.clock;
+  count = engine.count;
+  creates = engine.creates;
+  labels = engine.labels;
+  members = engine.members;
+  table = engine.table;
+}
 
 -- how an engine is written as a value
 abbrev pub engine_code : Coded EngineState
 engine_code =
-    code_by (StoreState × (ℕ × (ℕ × (ℕ × (List Label × (List Member × TableState))))))
+    code_by (StoreState × (ℕ × (ℕ × (ℕ × (List Label × (List Member × (TableState × List Span)))))))
     (coded× store_code (coded× coded_ℕ (coded× coded_ℕ (coded× coded_ℕ
     (coded× (coded_list (coded× (coded_list coded_ℕ) kind_row.coded))
-    (coded× (coded_list member_row.coded) table_code))))))
-    (λ e. (e.store, (e.clock, (e.count, (e.creates, (e.labels, (e.members, e.table)))))))
+    (coded× (coded_list member_row.coded)
+    (coded× table_code (coded_list span_row.coded))))))))
+    (λ e. (e.store, (e.clock, (e.count, (e.creates, (e.labels, (e.members, (e.table, e.spans))))))))
     (λ p. record {
       store = p.0;
       clock = p.1.0;
@@ -50,7 +76,8 @@ engine_code =
       creates = p.1.1.1.0;
       labels = p.1.1.1.1.0;
       members = p.1.1.1.1.1.0;
-      table = p.1.1.1.1.1.1;
+      table = p.1.1.1.1.1.1.0;
+      spans = p.1.1.1.1.1.1.1;
     })
     (λ _. refl)
 
@@ -89,7 +116,7 @@ AreContents files history =
 
 -- the store, the clock, the creates and the live subscriptions are those after the history, and the
 -- files tell the sources at each change
-pub record Follows (engine : EngineState) (history : History) : Type 0 where
+pub record Follows (engine : EngineCore) (history : History) : Type 0 where
   pub sources : map content_of engine.store.sources ≡ sources history
   pub last : (name : List ℕ) → last_in engine.store name ≡ last_change name history
   pub changes : engine.store.changes ≡ changes history
@@ -101,5 +128,5 @@ pub record Follows (engine : EngineState) (history : History) : Type 0 where
 
 -- the engine stands for the history, and its subscriptions share their files
 pub record Stands (engine : EngineState) (history : History) : Type 0 where
-  pub follows : Follows engine history
+  pub follows : Follows (core_of engine) history
   pub shares : Shares engine.members engine.table

@@ -4,10 +4,10 @@ use Rattle.std.specs.FinMap.{len}
 use Rattle.ncq_count.specs.FileExprs.{exprs_of}
 use Rattle.ncq_report.specs.declared.report.Summary.{Summary}
 use Rattle.ncq_signature.specs.Groups.{AreGroupLines}
-use Rattle.ncq_engine.specs.Stands.{EngineState}
+use Rattle.ncq_engine.specs.Stands.{EngineCore}
 
 -- how much an engine has, and the groups of its files
-pub record IsSummary (engine : EngineState) (summary : Summary) : Type 0 where
+pub record IsSummary (engine : EngineCore) (summary : Summary) : Type 0 where
   pub queries : summary.queries ≡ length engine.members
   pub sources : summary.sources ≡ length engine.store.sources
   pub changes : summary.changes ≡ engine.store.changes

@@ -1,10 +1,9 @@
 -- Who fires and what they are told, by install numbers. Only the crate's private clauses cite it.
-use Rattle.std.specs.Prelude.{◌≡◌, ◌++◌, ℕ, Bool, false, nat_le, nat_lt, nat_eq}
+use Rattle.std.specs.Prelude.{◌≡◌, ◌++◌, ℕ, Bool, false, nat_le, nat_eq}
 use Rattle.std.specs.Prelude.{List, [], ◌∷◌, length}
 use Rattle.std.specs.Prelude.{Option, Some, None, if◌then◌else◌, map, not}
 use Rattle.std.specs.FinMap.{get}
 use Rattle.std.specs.List.{filter, flat_map, list_any}
-use Rattle.ncq_base.specs.Keys.{times}
 use Rattle.ncq_book.specs.declared.member.Member.{Member}
 use Rattle.ncq_book.specs.Books.{member_of, is_of}
 use Rattle.ncq_callback.specs.Labels.{Label}
@@ -12,9 +11,10 @@ use Rattle.ncq_event.specs.declared.firing.Firing.{Firing}
 use Rattle.ncq_roll.specs.Rolls.{RollState}
 use Rattle.ncq_shelf.specs.KeptFiles.{KeptFile, Files}
 use Rattle.ncq_source.specs.StoreStates.{StoreState}
-use Rattle.ncq_engine.specs.declared.engine.Applied.{Applied}
+use Rattle.ncq_engine.specs.declared.telling.Answered.{Answered}
 use Rattle.ncq_engine.specs.Applies.{expired_name, ok_text}
 use Rattle.ncq_engine.specs.Engines.{has_news_in, mark_in, told_text, noted_at}
+use Rattle.ncq_engine.specs.Spans.{spans_of}
 
 -- the line of a member that expires
 abbrev pub line_of : Option Member → List ℕ
@@ -52,6 +52,14 @@ abbrev pub firing_text : List Label → StoreState → Files → List Member →
 firing_text labels store files members firing =
     text_of labels store files firing.instant (member_of firing.install members)
 
+-- the name of the member of a firing
+abbrev pub name_of : Option Member → List ℕ
+name_of None = []
+name_of (Some m) = m.name
+
+abbrev pub firing_name : List Member → Firing → List ℕ
+firing_name members firing = name_of (member_of firing.install members)
+
 -- whether the member is that of one of the firings
 abbrev pub is_fired : List Firing → Member → Bool
 is_fired firings m = list_any (λ firing. is_of firing.install m) firings
@@ -82,9 +90,9 @@ pub record IsLeftBy (installs : List ℕ) (old new : RollState) : Type 0 where
 
 -- the answer to the command of this number was appended: its first line, and the texts of these
 -- firings
-pub record IsAnswered (number : ℕ) (text : Firing → List ℕ) (firings : List Firing)
-    (old new : List ℕ) (applied : Applied) : Type 0 where
+pub record IsAnswered (number : ℕ) (name text : Firing → List ℕ) (firings : List Firing)
+    (old new : List ℕ) (answered : Answered) : Type 0 where
   pub written : new ≡ (old ++ ok_text number) ++ flat_map text firings
-  pub from : applied.from ≡ length (old ++ ok_text number)
-  pub to : applied.to ≡ length new
-  pub notices : applied.notices ≡ times (λ firing. nat_lt 0 (length (text firing))) firings
+  pub from : answered.from ≡ length (old ++ ok_text number)
+  pub to : answered.to ≡ length new
+  pub spans : answered.spans ≡ spans_of name text (length (old ++ ok_text number)) firings

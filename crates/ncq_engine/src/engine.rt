@@ -8,12 +8,12 @@ ghost use Rattle.std.specs.Option.{is_some};
 ghost use Rattle.ncq_bind.specs.Bindings.{are_declared, roots_in};
 ghost use Rattle.ncq_callback.specs.Labels.{labels};
 ghost use Rattle.ncq_engine.specs.Firing.{source_of};
-ghost use Rattle.ncq_engine.specs.Stands.{EngineState, Stands};
+ghost use Rattle.ncq_engine.specs.Stands.{EngineState, Stands, core_of};
 ghost use Rattle.ncq_engine.specs.Summaries.{IsSummary};
 ghost use Rattle.ncq_engine.specs.Works.{IsWithinWork};
 ghost use Rattle.ncq_roll.specs.Shares.{Shares};
 ghost use Rattle.ncq_engine.specs.Applies.{Applies, WritesNotices, IfAnswered, IfRefused, OfEach};
-ghost use Rattle.ncq_engine.specs.Applies.{ok_text, kind_at};
+ghost use Rattle.ncq_engine.specs.Applies.{AreSpans, kind_at};
 ghost use Rattle.ncq_engine.specs.Applies.{refused_change, change_refusal, refused_query};
 ghost use Rattle.ncq_engine.specs.Applies.{query_refusal};
 ghost use Rattle.ncq_engine.specs.Engines.{new_member};
@@ -30,9 +30,10 @@ ghost use Rattle.ncq_xmlql.specs.declared.model.Statement.{Statement as a_statem
 ghost use Rattle.ncq_xmlql.specs.WellFormed.{IsWellFormed as StatementIsWellFormed};
 
 use crate::expiry::{take_all, write_expired};
-use crate::telling::{answer_change, answer_create, note_all, tell};
+use crate::span::{Span, Spans};
+use crate::telling::{Answered, answer_change, answer_create, note_all, tell, write_accepted};
 use crate::who::with_news;
-use ncq_base::{Bytes, Copied, FileId, Sequence, Steps, write_decimal};
+use ncq_base::{Bytes, Copied, FileId, Sequence, Steps};
 use ncq_bind::{BindError, bind};
 use ncq_book::Member;
 use ncq_callback::{Handlers, Kind};
@@ -92,6 +93,7 @@ pub struct Engine {
     count: u64,
     creates: u64,
     labels: Vec<(Bytes, Kind)>,
+    spans: Spans,
 }
 
 impl Model for Engine {
@@ -110,6 +112,7 @@ impl Model for Engine {
       labels = e.labels.items;
       members = e.roll.members;
       table = e.roll.table;
+      spans = e.spans;
     } };
 
     ghost invariant = { λ e.
@@ -131,6 +134,7 @@ impl Engine {
             count: 0,
             creates: 0,
             labels: labels_of(alloc, handlers)?,
+            spans: Spans::new(alloc),
         };
         engine.shares();
         Ok(engine)
@@ -190,6 +194,9 @@ impl Engine {
             ≡ out.old.items ++ accepted_text (language_of self.old.labels) history
             (self.old.count + 1) command)) }
         ensures notices { IfOk result (WritesNotices self.old command out.old.items) }
+        ensures spans { OnOk result (OfEach self.old (λ history.
+            AreSpans self.old history command out.old.items self.new.spans)) }
+        ensures no_spans { OnErr result (self.new.spans ≡ []) }
 
         // A refused one meets this refusal first; the history stays, and what was written.
         ensures refused { IfRefused result (λ why. OfEach self.old (λ history.
@@ -207,13 +214,15 @@ impl Engine {
     {
         let before = out.len();
         let result = self.answer(alloc, command, handlers, out, steps);
+        self.spans = Spans::new(alloc);
         self.shares();
         match result {
+            Ok(answered) => Ok(self.keep(answered)),
+            Err(ApplyError::Refused(refusal)) => Err(ApplyError::Refused(refusal)),
             Err(ApplyError::OutOfMemory) => {
                 out.truncate(before);
                 Err(ApplyError::OutOfMemory)
             }
-            answered => answered,
         }
     }
 
@@ -225,11 +234,38 @@ impl Engine {
         self.roll.shares();
     }
 
+    /// Where the notices of the last answer stand in the output that it was appended to, in their
+    /// order: one span for each notice. After a refusal, and where memory ran out, there is none.
+    /// It takes no memory.
+    pub fn spans(&self) -> &[Span]
+        ensures { result.now ≡ self.now.spans }
+    {
+        self.spans.as_slice()
+    }
+
     /// Gives back what serves speed alone. Nothing is kept for that alone, so nothing changes. It
     /// takes no memory.
     pub fn shed(&mut self)
         ensures { self.new ≡ self.old }
     {}
+
+    /// Keeps where the notices stand, and tells where they begin and end and how many they are.
+    fn keep(&mut self, answered: Answered) -> Applied
+        ensures applied { result ≡ record {
+          from = answered.from;
+          to = answered.to;
+          notices = length answered.spans;
+        } }
+        ensures kept { self.new ≡ record self.old { spans = answered.spans } }
+    {
+        let notices = answered.spans.len() as u64;
+        self.spans = answered.spans;
+        Applied {
+            from: answered.from,
+            to: answered.to,
+            notices,
+        }
+    }
 
     /// Answers a command.
     fn answer<L: Ledger>(
@@ -239,12 +275,13 @@ impl Engine {
         handlers: &Handlers,
         out: &mut Vec<u8>,
         steps: &mut Steps<L>,
-    ) -> Result<Applied, ApplyError>
+    ) -> Result<Answered, ApplyError>
         requires few { self.old.count < 2 ^ 48 }
         requires proper { IsProperCommand command }
         requires handlers { self.old.labels
             ≡ (labels handlers.now.items.items (λ h. h.name) (λ h. h.kind)) }
-        ensures applies { Applies self.old command out.old.items result self.new out.new.items }
+        ensures applies { Applies (core_of self.old) command
+            out.old.items result (core_of self.new) out.new.items }
         ensures work { IsWithinWork self.old command steps.old steps.new }
     {
         match command {
@@ -253,7 +290,7 @@ impl Engine {
                 self.change(alloc, &source, items, handlers, out, steps)
             }
             Command::Create { statement } => self.create(alloc, statement, handlers, out, steps),
-            Command::Delete { name } => self.delete(&name, out),
+            Command::Delete { name } => self.delete(alloc, &name, out),
             Command::Clock { instant } => self.move_clock(alloc, instant, handlers, out),
             Command::Report => self.report(alloc, out),
             Command::Malformed { refusal } => self.refuse(refusal),
@@ -268,17 +305,17 @@ impl Engine {
         root: Bytes,
         key: Key,
         out: &mut Vec<u8>,
-    ) -> Result<Applied, ApplyError>
+    ) -> Result<Answered, ApplyError>
         requires few { self.old.count < 2 ^ 48 }
-        ensures applies { Applies self.old (Command.Declare name root key)
-            out.old.items result self.new out.new.items }
+        ensures applies { Applies (core_of self.old) (Command.Declare name root key)
+            out.old.items result (core_of self.new) out.new.items }
     {
         let before = out.len();
-        let applied = write_accepted(self.count + 1, out)?;
+        let answered = write_accepted(alloc, self.count + 1, out)?;
         match self.store.declare(alloc, name, root, key) {
             Ok(_) => {
                 self.count += 1;
-                Ok(applied)
+                Ok(answered)
             }
             Err(DeclareError::Exists) => {
                 out.truncate(before);
@@ -297,13 +334,13 @@ impl Engine {
         handlers: &Handlers,
         out: &mut Vec<u8>,
         steps: &mut Steps<L>,
-    ) -> Result<Applied, ApplyError>
+    ) -> Result<Answered, ApplyError>
         requires few { self.old.count < 2 ^ 48 }
         requires proper { list_all item_is_proper items ≡ true }
         requires handlers { self.old.labels
             ≡ (labels handlers.now.items.items (λ h. h.name) (λ h. h.kind)) }
-        ensures applies { Applies self.old (Command.Delta source.now items)
-            out.old.items result self.new out.new.items }
+        ensures applies { Applies (core_of self.old) (Command.Delta source.now items)
+            out.old.items result (core_of self.new) out.new.items }
         ensures work { IsWithinWork self.old (Command.Delta source.now items) steps.old steps.new }
     {
         let change = match self.store.prepare(alloc, source.as_slice(), items) {
@@ -318,10 +355,10 @@ impl Engine {
         let number = self.count + 1;
         let (roll, store) = (&self.roll, &self.store);
         match answer_change(alloc, number, roll, fed.as_slice(), store, handlers, out) {
-            Ok(applied) => {
+            Ok(answered) => {
                 self.store.commit(change);
                 self.count = number;
-                Ok(applied)
+                Ok(answered)
             }
             Err(AllocError) => {
                 self.roll.roll_back(mark);
@@ -338,13 +375,13 @@ impl Engine {
         handlers: &Handlers,
         out: &mut Vec<u8>,
         steps: &mut Steps<L>,
-    ) -> Result<Applied, ApplyError>
+    ) -> Result<Answered, ApplyError>
         requires few { self.old.count < 2 ^ 48 }
         requires whole { StatementIsWellFormed statement }
         requires handlers { self.old.labels
             ≡ (labels handlers.now.items.items (λ h. h.name) (λ h. h.kind)) }
-        ensures applies { Applies self.old (Command.Create statement)
-            out.old.items result self.new out.new.items }
+        ensures applies { Applies (core_of self.old) (Command.Create statement)
+            out.old.items result (core_of self.new) out.new.items }
         ensures work { IsWithinWork self.old (Command.Create statement) steps.old steps.new }
     {
         if self.roll.book().has(&statement.name) {
@@ -374,15 +411,16 @@ impl Engine {
         handlers: &Handlers,
         out: &mut Vec<u8>,
         steps: &mut Steps<L>,
-    ) -> Result<Applied, ApplyError>
+    ) -> Result<Answered, ApplyError>
         requires few { self.old.count < 2 ^ 48 }
         requires handlers { self.old.labels
             ≡ (labels handlers.now.items.items (λ h. h.name) (λ h. h.kind)) }
-        requires some { (statement : a_statement) × (IsMemberOf self.old statement member) }
-        ensures applies { (statement : a_statement) → IsMemberOf self.old statement member
-            → Applies self.old (Command.Create statement)
-            out.old.items result self.new out.new.items }
-        ensures work { (statement : a_statement) → IsMemberOf self.old statement member
+        requires some { (statement : a_statement)
+            × (IsMemberOf (core_of self.old) statement member) }
+        ensures applies { (statement : a_statement) → IsMemberOf (core_of self.old) statement member
+            → Applies (core_of self.old) (Command.Create statement)
+            out.old.items result (core_of self.new) out.new.items }
+        ensures work { (statement : a_statement) → IsMemberOf (core_of self.old) statement member
             → IsWithinWork self.old (Command.Create statement) steps.old steps.new }
     {
         self.roll.facts();
@@ -401,11 +439,11 @@ impl Engine {
             handlers,
             out,
         ) {
-            Ok((applied, firings)) => {
+            Ok((answered, firings)) => {
                 note_all(&mut self.roll, self.store.changes(), firings.as_slice());
                 self.creates = install;
                 self.count = number;
-                Ok(applied)
+                Ok(answered)
             }
             Err(AllocError) => {
                 self.roll.remove(install);
@@ -445,20 +483,25 @@ impl Engine {
     }
 
     /// Takes a subscription away.
-    fn delete(&mut self, name: &Bytes, out: &mut Vec<u8>) -> Result<Applied, ApplyError>
+    fn delete(
+        &mut self,
+        alloc: Global,
+        name: &Bytes,
+        out: &mut Vec<u8>,
+    ) -> Result<Answered, ApplyError>
         requires few { self.old.count < 2 ^ 48 }
-        ensures applies { Applies self.old (Command.Delete name.now)
-            out.old.items result self.new out.new.items }
+        ensures applies { Applies (core_of self.old) (Command.Delete name.now)
+            out.old.items result (core_of self.new) out.new.items }
     {
         let Some(install) = self.roll.book().find(name) else {
             return self.refuse(Refusal::NoName);
         };
-        let applied = write_accepted(self.count + 1, out)?;
+        let answered = write_accepted(alloc, self.count + 1, out)?;
         self.roll.facts();
         take_all(&mut self.roll, &[install]);
         self.roll.facts();
         self.count += 1;
-        Ok(applied)
+        Ok(answered)
     }
 
     /// Moves the clock, tells those that are due, and takes those away that expire.
@@ -468,21 +511,21 @@ impl Engine {
         instant: u64,
         handlers: &Handlers,
         out: &mut Vec<u8>,
-    ) -> Result<Applied, ApplyError>
+    ) -> Result<Answered, ApplyError>
         requires few { self.old.count < 2 ^ 48 }
         requires handlers { self.old.labels
             ≡ (labels handlers.now.items.items (λ h. h.name) (λ h. h.kind)) }
-        ensures applies { Applies self.old (Command.Clock instant)
-            out.old.items result self.new out.new.items }
+        ensures applies { Applies (core_of self.old) (Command.Clock instant)
+            out.old.items result (core_of self.new) out.new.items }
     {
         if instant < self.roll.book().instant() {
             return self.refuse(Refusal::Clock);
         }
-        let applied = write_accepted(self.count + 1, out)?;
+        let answered = write_accepted(alloc, self.count + 1, out)?;
         let due = self.roll.book().due(alloc, instant)?;
         let firings = with_news(alloc, self.roll.book(), &self.store, due.as_slice())?;
         self.roll.facts();
-        let notices = tell(
+        let spans = tell(
             alloc,
             &self.roll,
             firings.as_slice(),
@@ -490,7 +533,7 @@ impl Engine {
             handlers,
             out,
         )?;
-        let applied = applied.with(notices, out);
+        let answered = answered.with(spans, out);
         let expired = self.roll.book().expired(alloc, instant)?;
         write_expired(self.roll.book(), expired.as_slice(), out)?;
         self.roll.move_to(alloc, instant)?;
@@ -498,26 +541,26 @@ impl Engine {
         take_all(&mut self.roll, expired.as_slice());
         self.roll.facts();
         self.count += 1;
-        Ok(applied)
+        Ok(answered)
     }
 
     /// Tells what is shared.
-    fn report(&mut self, alloc: Global, out: &mut Vec<u8>) -> Result<Applied, ApplyError>
+    fn report(&mut self, alloc: Global, out: &mut Vec<u8>) -> Result<Answered, ApplyError>
         requires few { self.old.count < 2 ^ 48 }
-        ensures applies { Applies self.old Command.Report
-            out.old.items result self.new out.new.items }
+        ensures applies { Applies (core_of self.old) Command.Report
+            out.old.items result (core_of self.new) out.new.items }
     {
-        let applied = write_accepted(self.count + 1, out)?;
+        let answered = write_accepted(alloc, self.count + 1, out)?;
         self.roll.shares();
         let summary = self.summary(alloc)?;
         write_report(&summary, out)?;
         self.count += 1;
-        Ok(applied)
+        Ok(answered)
     }
 
     /// How much there is, and the groups of the files.
     fn summary(&self, alloc: Global) -> Result<Summary, AllocError>
-        ensures { IfOk result (IsSummary self.now) }
+        ensures { IfOk result (IsSummary (core_of self.now)) }
     {
         Ok(Summary {
             queries: self.live() as u64,
@@ -529,20 +572,21 @@ impl Engine {
     }
 
     /// Counts a command that is refused.
-    fn refuse(&mut self, refusal: Refusal) -> Result<Applied, ApplyError>
+    fn refuse(&mut self, refusal: Refusal) -> Result<Answered, ApplyError>
         requires { self.old.count < 2 ^ 48 }
         ensures refused { result ≡ Err (ApplyError.Refused refusal) }
-        ensures counted { self.new ≡ record self.old { count = self.old.count + 1 } }
+        ensures counted { core_of self.new
+            ≡ record (core_of self.old) { count = self.old.count + 1 } }
     {
         self.count += 1;
         Err(ApplyError::Refused(refusal))
     }
 
-    fn refuse_change(&mut self, error: ChangeError) -> Result<Applied, ApplyError>
+    fn refuse_change(&mut self, error: ChangeError) -> Result<Answered, ApplyError>
         requires { self.old.count < 2 ^ 48 }
         ensures refused { result ≡ Err (refused_change error) }
         ensures counted { IfSome (change_refusal error) (λ _.
-            self.new ≡ record self.old { count = self.old.count + 1 }) }
+            core_of self.new ≡ record (core_of self.old) { count = self.old.count + 1 }) }
     {
         match error {
             ChangeError::NoSource => self.refuse(Refusal::NoSource),
@@ -552,11 +596,11 @@ impl Engine {
         }
     }
 
-    fn refuse_query(&mut self, error: BindError) -> Result<Applied, ApplyError>
+    fn refuse_query(&mut self, error: BindError) -> Result<Answered, ApplyError>
         requires { self.old.count < 2 ^ 48 }
         ensures refused { result ≡ Err (refused_query error) }
         ensures counted { IfSome (query_refusal error) (λ _.
-            self.new ≡ record self.old { count = self.old.count + 1 }) }
+            core_of self.new ≡ record (core_of self.old) { count = self.old.count + 1 }) }
     {
         match error {
             BindError::NoSource => self.refuse(Refusal::NoSource),
@@ -565,41 +609,6 @@ impl Engine {
             BindError::OutOfMemory => Err(ApplyError::OutOfMemory),
         }
     }
-}
-
-impl Applied {
-    /// Where so many notices were written behind the first line.
-    pub(crate) fn with(self, notices: u64, out: &Vec<u8>) -> Applied
-        ensures { result ≡ record {
-          from = self.from;
-          to = length out.now.items;
-          notices = notices;
-        } }
-    {
-        Applied {
-            from: self.from,
-            to: out.len(),
-            notices,
-        }
-    }
-}
-
-/// Appends the line that says that the command of this number is accepted.
-pub(crate) fn write_accepted(number: u64, out: &mut Vec<u8>) -> Result<Applied, AllocError>
-    ensures text { OnOk result (out.new.items ≡ out.old.items ++ ok_text number) }
-    ensures places { IfOk result (λ applied. applied ≡ record {
-      from = length out.new.items;
-      to = length out.new.items;
-      notices = 0;
-    }) }
-{
-    write_decimal(number, out)?;
-    out.extend_from_slice(b" ok\n")?;
-    Ok(Applied {
-        from: out.len(),
-        to: out.len(),
-        notices: 0,
-    })
 }
 
 /// The place of the handler of a statement's action: none where there is none, or where its kind

@@ -1,8 +1,10 @@
 //! A firing: what the answer of a subscription gained and lost since its latest one.
-ghost use Rattle.std.specs.Prelude.{◌≡◌, ◌++◌, nat_lt, length, if◌then◌else◌, OnOk};
+ghost use Rattle.std.specs.Prelude.{◌≡◌, ◌++◌, length, OnOk};
 ghost use Rattle.ncq_callback.specs.Labels.{labels};
 ghost use Rattle.ncq_engine.specs.Engines.{mark_in, latest_in, told_text, CanTell};
+ghost use Rattle.ncq_engine.specs.Spans.{span_of};
 
+use crate::span::{Span, Spans};
 use crate::who::last_change;
 use ncq_base::{Bytes, Copied};
 use ncq_book::Member;
@@ -12,7 +14,8 @@ use ncq_news::news;
 use ncq_source::Store;
 use std::alloc::{AllocError, Global};
 
-/// Appends what the answer of the member gained and lost since its latest firing.
+/// Appends what the answer of the member gained and lost since its latest firing, and adds where
+/// that stands, if anything differs.
 pub(crate) fn fire(
     alloc: Global,
     member: &Member,
@@ -21,12 +24,17 @@ pub(crate) fn fire(
     store: &Store,
     handlers: &Handlers,
     out: &mut Vec<u8>,
+    spans: &mut Spans,
 ) -> Result<(), AllocError>
     requires can { CanTell (labels handlers.now.items.items (λ h. h.name) (λ h. h.kind))
         store.now groups.now member.now }
     ensures text { OnOk result (out.new.items ≡ out.old.items
         ++ told_text (labels handlers.now.items.items (λ h. h.name) (λ h. h.kind))
         store.now groups.now.files member.now instant) }
+    ensures span { OnOk result (spans.new ≡ spans.old
+        ++ span_of member.now.name (length out.old.items)
+        (told_text (labels handlers.now.items.items (λ h. h.name) (λ h. h.kind))
+        store.now groups.now.files member.now instant)) }
 {
     groups.facts();
     let file = groups.file(member.file);
@@ -40,8 +48,13 @@ pub(crate) fn fire(
         instant,
         entries,
     };
+    let from = out.len();
     handlers.call(member.action, member.argument.as_slice(), &notice, out)?;
-    Ok(())
+    spans.push(Span {
+        name: notice.name,
+        from,
+        to: out.len(),
+    })
 }
 
 /// The number of changes at the member's latest firing. Of one that fires at changes it follows
@@ -69,11 +82,4 @@ fn latest_change(store: &Store, sources: &[Bytes]) -> u64
         }
     }
     latest
-}
-
-/// One where the text has grown longer than this, else none.
-pub(crate) fn one_if_longer(before: usize, out: &Vec<u8>) -> u64
-    ensures { result ≡ (if nat_lt before (length out.now.items) then 1 else 0) }
-{
-    if out.len() > before { 1 } else { 0 }
 }

@@ -13,8 +13,10 @@ mod engine;
 mod expiry;
 mod firing;
 mod laws;
+mod span;
 mod telling;
 mod who;
 
 pub use engine::{Applied, ApplyError, Engine};
 pub use laws::{marks_follow, subscribers_are_apart};
+pub use span::{Span, Spans};

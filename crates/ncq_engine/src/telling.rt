@@ -1,23 +1,76 @@
 //! What those that fire are told.
-ghost use Rattle.std.specs.Prelude.{◌≡◌, ◌++◌, ◌∷◌, [], ◌<◌, ◌-◌, ◌^◌, nat_lt, length};
+ghost use Rattle.std.specs.Prelude.{◌≡◌, ◌++◌, ◌∷◌, [], ◌<◌, ◌-◌, ◌^◌, length};
 ghost use Rattle.std.specs.Prelude.{IsSome, IfOk, OnOk};
 ghost use Rattle.std.specs.List.{flat_map, AllByRecursion};
-ghost use Rattle.ncq_base.specs.Keys.{times};
 ghost use Rattle.ncq_book.specs.Books.{member_of, watchers_of, InstallsRise};
 ghost use Rattle.ncq_callback.specs.Labels.{labels};
 ghost use Rattle.ncq_engine.specs.Engines.{CanTell};
-ghost use Rattle.ncq_engine.specs.Tellings.{firing_text, noted_by, started_at, IsAnswered};
+ghost use Rattle.ncq_engine.specs.Applies.{ok_text};
+ghost use Rattle.ncq_engine.specs.Spans.{spans_of};
+ghost use Rattle.ncq_engine.specs.Tellings.{firing_name, firing_text, noted_by, started_at};
+ghost use Rattle.ncq_engine.specs.Tellings.{IsAnswered};
 
-use crate::engine::{Applied, write_accepted};
-use crate::firing::{fire, one_if_longer};
+use crate::firing::fire;
+use crate::span::Spans;
 use crate::who::started;
+use ncq_base::write_decimal;
 use ncq_callback::Handlers;
 use ncq_event::{Firing, Firings};
 use ncq_roll::Roll;
 use ncq_source::Store;
 use std::alloc::{AllocError, Global};
 
-/// Appends the notices of firings, in their order, and tells how many were appended.
+/// What an accepted command wrote.
+#[derive(Drop)]
+pub(crate) struct Answered {
+    /// The place in the output where its notices begin.
+    pub from: usize,
+    /// The place where they end.
+    pub to: usize,
+    /// Where each of them stands.
+    pub spans: Spans,
+}
+
+impl Answered {
+    /// Where these notices were written behind the first line.
+    pub(crate) fn with(self, spans: Spans, out: &Vec<u8>) -> Answered
+        ensures { result ≡ record {
+          from = self.from;
+          to = length out.now.items;
+          spans = spans;
+        } }
+    {
+        Answered {
+            from: self.from,
+            to: out.len(),
+            spans,
+        }
+    }
+}
+
+/// Appends the line that says that the command of this number is accepted.
+pub(crate) fn write_accepted(
+    alloc: Global,
+    number: u64,
+    out: &mut Vec<u8>,
+) -> Result<Answered, AllocError>
+    ensures text { OnOk result (out.new.items ≡ out.old.items ++ ok_text number) }
+    ensures places { IfOk result (λ answered. answered ≡ record {
+      from = length out.new.items;
+      to = length out.new.items;
+      spans = [];
+    }) }
+{
+    write_decimal(number, out)?;
+    out.extend_from_slice(b" ok\n")?;
+    Ok(Answered {
+        from: out.len(),
+        to: out.len(),
+        spans: Spans::new(alloc),
+    })
+}
+
+/// Appends the notices of firings, in their order, and tells where each stands.
 pub(crate) fn tell(
     alloc: Global,
     roll: &Roll,
@@ -25,7 +78,7 @@ pub(crate) fn tell(
     store: &Store,
     handlers: &Handlers,
     out: &mut Vec<u8>,
-) -> Result<u64, AllocError>
+) -> Result<Spans, AllocError>
     requires can { AllByRecursion (CanTell
         (labels handlers.now.items.items (λ h. h.name) (λ h. h.kind)) store.now roll.now.table)
         roll.now.members }
@@ -34,17 +87,16 @@ pub(crate) fn tell(
     ensures text { OnOk result (out.new.items ≡ out.old.items
         ++ flat_map (firing_text (labels handlers.now.items.items (λ h. h.name) (λ h. h.kind))
         store.now roll.now.table.files roll.now.members) firings.now) }
-    ensures notices { IfOk result (λ notices. notices
-        ≡ times (λ f. nat_lt 0 (length (firing_text
-        (labels handlers.now.items.items (λ h. h.name) (λ h. h.kind))
-        store.now roll.now.table.files roll.now.members f))) firings.now) }
+    ensures spans { IfOk result (λ spans. spans
+        ≡ spans_of (firing_name roll.now.members)
+        (firing_text (labels handlers.now.items.items (λ h. h.name) (λ h. h.kind))
+        store.now roll.now.table.files roll.now.members) (length out.old.items) firings.now) }
 {
-    let mut notices = 0;
+    let mut spans = Spans::new(alloc);
     for firing in firings {
         let Some(member) = roll.book().get(firing.install) else {
             unreachable!();
         };
-        let before = out.len();
         fire(
             alloc,
             member,
@@ -53,10 +105,10 @@ pub(crate) fn tell(
             store,
             handlers,
             out,
+            &mut spans,
         )?;
-        notices += one_if_longer(before, out);
     }
-    Ok(notices)
+    Ok(spans)
 }
 
 /// Appends the answer to an accepted change: its first line, and the notices of those that fire at
@@ -69,21 +121,21 @@ pub(crate) fn answer_change(
     store: &Store,
     handlers: &Handlers,
     out: &mut Vec<u8>,
-) -> Result<Applied, AllocError>
+) -> Result<Answered, AllocError>
     requires can { AllByRecursion (CanTell
         (labels handlers.now.items.items (λ h. h.name) (λ h. h.kind)) store.now roll.now.table)
         roll.now.members }
-    ensures told { IfOk result (IsAnswered number
+    ensures told { IfOk result (IsAnswered number (firing_name roll.now.members)
         (firing_text (labels handlers.now.items.items (λ h. h.name) (λ h. h.kind))
         store.now roll.now.table.files roll.now.members)
         (flat_map (started_at roll.now.instant roll.now.members)
         (watchers_of fed.now roll.now.members)) out.old.items out.new.items) }
 {
-    let applied = write_accepted(number, out)?;
+    let answered = write_accepted(alloc, number, out)?;
     let watchers = roll.book().watchers(alloc, fed)?;
     let firings = started(alloc, roll.book(), watchers.as_slice())?;
-    let notices = tell(alloc, roll, firings.as_slice(), store, handlers, out)?;
-    Ok(applied.with(notices, out))
+    let spans = tell(alloc, roll, firings.as_slice(), store, handlers, out)?;
+    Ok(answered.with(spans, out))
 }
 
 /// Appends the answer to an accepted create: its first line, and the first notice of the member of
@@ -96,21 +148,21 @@ pub(crate) fn answer_create(
     store: &Store,
     handlers: &Handlers,
     out: &mut Vec<u8>,
-) -> Result<(Applied, Firings), AllocError>
+) -> Result<(Answered, Firings), AllocError>
     requires can { AllByRecursion (CanTell
         (labels handlers.now.items.items (λ h. h.name) (λ h. h.kind)) store.now roll.now.table)
         roll.now.members }
-    ensures told { IfOk result (λ told. IsAnswered number
+    ensures told { IfOk result (λ told. IsAnswered number (firing_name roll.now.members)
         (firing_text (labels handlers.now.items.items (λ h. h.name) (λ h. h.kind))
         store.now roll.now.table.files roll.now.members)
         told.1 out.old.items out.new.items told.0) }
     ensures firings { IfOk result (λ told. told.1
         ≡ flat_map (started_at roll.now.instant roll.now.members) (install ∷ [])) }
 {
-    let applied = write_accepted(number, out)?;
+    let answered = write_accepted(alloc, number, out)?;
     let firings = started(alloc, roll.book(), &[install])?;
-    let notices = tell(alloc, roll, firings.as_slice(), store, handlers, out)?;
-    Ok((applied.with(notices, out), firings))
+    let spans = tell(alloc, roll, firings.as_slice(), store, handlers, out)?;
+    Ok((answered.with(spans, out), firings))
 }
 
 /// Writes down that the members of these firings fired at this number of changes. It takes no

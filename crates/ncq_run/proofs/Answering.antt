@@ -1,15 +1,17 @@
 -- The answer to a command, from what the engine says of it.
-use Rattle.std.proofs.Common.{◌≡◌, ◌+◌, ◌++◌, ◌∷◌, ℕ, List, [], ap, sym, ◌∙◌, subst}
+use Rattle.std.proofs.Common.{◌≡◌, ◌+◌, ◌++◌, ◌∷◌, ℕ, List, [], length, arith, ap, sym, ◌∙◌, subst}
 use Rattle.std.specs.Prelude.{None, Some}
 use Rattle.ncq_script.specs.Refusals.{refused_text}
 use Rattle.ncq_script.specs.declared.command.Command.{Command}
 use Rattle.ncq_script.specs.declared.refusal.Refusal.{Refusal}
-use Rattle.ncq_engine.specs.Applies.{OfEach}
+use Rattle.ncq_engine.specs.Applies.{AreSpans, OfEach, ok_text}
 use Rattle.ncq_engine.specs.History.{History}
 use Rattle.ncq_engine.specs.Languages.{language_of}
 use Rattle.ncq_engine.specs.Notices.{Language}
 use Rattle.ncq_engine.specs.Output.{output, after, first_refusal, answered, with_accepted, accepted_text}
+use Rattle.ncq_engine.specs.Spans.{spans}
 use Rattle.ncq_engine.specs.Stands.{EngineState, Stands}
+use Rattle.ncq_run.specs.Shown.{answer_spans, spans_unless}
 
 module _ (language : Language) (history : History) (command : Command) where
   accepted_output : (number : ℕ) → first_refusal language history command ≡ None → output language history number command ≡ accepted_text language history number command
@@ -59,3 +61,21 @@ answers_refused old command out why new out' text number empty refused stays unw
       texts ∙ sym (refused_output language history command (old.count + 1) why some),
       subst (Stands new) (sym (refused_after language history command why some)) (stays history stands),
     )
+
+-- where the notices stand, if the command was accepted
+pub spans_accepted : (old : EngineState) (command : Command) (out : List ℕ) (new : EngineState) → out ≡ []
+    → OfEach old (λ history. first_refusal (language_of old.labels) history command ≡ None)
+    → OfEach old (λ history. AreSpans old history command out new.spans)
+    → OfEach old (λ history. new.spans ≡ answer_spans (language_of old.labels) history (old.count + 1) command)
+spans_accepted old command out new empty accepted told history stands =
+    let language = language_of old.labels in
+    let none : length out + length (ok_text (old.count + 1)) ≡ length (ok_text (old.count + 1)) = omega (arith, ap length empty) in
+    told history stands ∙ ap (spans language history command) none
+    ∙ sym (ap (λ o. spans_unless o (spans language history command (length (ok_text (old.count + 1))))) (accepted history stands))
+
+-- and if it was refused
+pub spans_refused : (old : EngineState) (command : Command) (why : Refusal) (new : EngineState) → new.spans ≡ []
+    → OfEach old (λ history. first_refusal (language_of old.labels) history command ≡ Some why)
+    → OfEach old (λ history. new.spans ≡ answer_spans (language_of old.labels) history (old.count + 1) command)
+spans_refused old command why new none refused history stands =
+    none ∙ sym (ap (λ o. spans_unless o (spans (language_of old.labels) history command (length (ok_text (old.count + 1))))) (refused history stands))

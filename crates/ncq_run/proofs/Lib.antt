@@ -1,7 +1,9 @@
 mod EndLaws
 pub mod Answering
+pub mod OwnLaws
 pub mod Outputs
+pub mod FormLaws
+pub mod TallyLaws
 pub mod Turns
-pub mod Words
 pub mod WorkLaws
 pub mod ClockLaws

@@ -37,9 +37,9 @@ split_piece bytes buffer rest inside n le =
 rose_later : (a b c : ℕ) → a ≤ b → Rose b c → Rose a c
 rose_later a b c le rose = omega arith
 
-module _ (language : Language) (reader : ScriptState) (engine : EngineState) (taken most : ℕ) (start : Told) (left held : Option (List ℕ)) (given rf wf begun steps : ℕ) (so : SoFar language reader engine taken start (told left held given rf wf) begun steps) (within : taken ≤ most)
+module _ (language : Language) (whose : Option (List ℕ)) (reader : ScriptState) (engine : EngineState) (taken most : ℕ) (start : Told) (left held : Option (List ℕ)) (given rf wf begun steps : ℕ) (so : SoFar language whose reader engine taken start (told left held given rf wf) begun steps) (within : taken ≤ most)
     (left' held' : Option (List ℕ)) (given' rf' wf' : ℕ) where
-  pub turn_read_fault : Keeps left left' → Rose rf rf' → IsReadFault language (limit_of reader) start (told left' held given' rf' wf)
+  pub turn_read_fault : Keeps left left' → Rose rf rf' → IsReadFault language whose (limit_of reader) start (told left' held given' rf' wf)
   turn_read_fault kept rose = record { rose = rose_later _ _ _ so.read_later rose; bytes = so.bytes; read = Consumes-kept _ _ _ _ so.read kept; written = so.written }
 
   pub turn_fault_work : IfSome start.left (λ bytes. AreWithinWork language (script (limit_of reader) bytes) begun steps)
@@ -52,10 +52,10 @@ module _ (language : Language) (reader : ScriptState) (engine : EngineState) (ta
         let e : so.bytes ++ take n buffer ≡ so.bytes = ap (λ (k : ℕ). so.bytes ++ take k buffer) none ∙ append-nil so.bytes in
         subst (λ (bs : List ℕ). Consumes start.left left' bs) e (Consumes-trans _ _ _ _ _ so.read read)
 
-    pub turn_done : n ≡ 0 → IsAtEnd left' → RoseBy given n given' → Appends start.held held' (output_of language (limit_of reader) so.bytes) → IsDone language (limit_of reader) most start (told left' held' given' rf' wf')
+    pub turn_done : n ≡ 0 → IsAtEnd left' → RoseBy given n given' → Appends start.held held' (output_of language whose (limit_of reader) so.bytes) → IsDone language whose (limit_of reader) most start (told left' held' given' rf' wf')
     turn_done none end rose written = record {
       at_end = end;
-      written = Consumes-whole start.left left' so.bytes (λ script. Appends start.held held' (output_of language (limit_of reader) script)) (all_read none) end written;
+      written = Consumes-whole start.left left' so.bytes (λ script. Appends start.held held' (output_of language whose (limit_of reader) script)) (all_read none) end written;
       within = omega (arith, so.given.at_most, RoseBy-at_most _ _ _ rose);
     }
 
@@ -70,15 +70,15 @@ module _ (language : Language) (reader : ScriptState) (engine : EngineState) (ta
     end_work none end steps' work =
         Consumes-whole start.left left' so.bytes (λ bytes. AreWithinWork language (script (limit_of reader) bytes) begun steps') (all_read none) end work
 
-    pub end_out_of_memory : n ≡ 0 → IsAtEnd left' → AppendsPrefix start.held held' (output_of language (limit_of reader) so.bytes) → IsOutOfMemory language (limit_of reader) start (told left' held' given' rf' wf')
+    pub end_out_of_memory : n ≡ 0 → IsAtEnd left' → AppendsPrefix start.held held' (output_of language whose (limit_of reader) so.bytes) → IsOutOfMemory language whose (limit_of reader) start (told left' held' given' rf' wf')
     end_out_of_memory none end written = record {
-      written = Consumes-whole start.left left' so.bytes (λ script. AppendsPrefix start.held held' (output_of language (limit_of reader) script)) (all_read none) end written;
+      written = Consumes-whole start.left left' so.bytes (λ script. AppendsPrefix start.held held' (output_of language whose (limit_of reader) script)) (all_read none) end written;
     }
 
-    pub end_write_fault : n ≡ 0 → IsAtEnd left' → Rose wf wf' → AppendsProperPrefix start.held held' (output_of language (limit_of reader) so.bytes) → IsWriteFault language (limit_of reader) start (told left' held' given' rf' wf')
+    pub end_write_fault : n ≡ 0 → IsAtEnd left' → Rose wf wf' → AppendsProperPrefix start.held held' (output_of language whose (limit_of reader) so.bytes) → IsWriteFault language whose (limit_of reader) start (told left' held' given' rf' wf')
     end_write_fault none end rose written = record {
       rose = rose_later _ _ _ so.write_later rose;
-      written = Consumes-whole start.left left' so.bytes (λ script. AppendsProperPrefix start.held held' (output_of language (limit_of reader) script)) (all_read none) end written;
+      written = Consumes-whole start.left left' so.bytes (λ script. AppendsProperPrefix start.held held' (output_of language whose (limit_of reader) script)) (all_read none) end written;
     }
 
     module _ (inside : ℕ) (le : inside ≤ n) where
@@ -91,31 +91,31 @@ module _ (language : Language) (reader : ScriptState) (engine : EngineState) (ta
       turn_work steps' work = over_rest (λ bytes. AreWithinWork language (script (limit_of reader) bytes) begun steps')
           (λ more. all_work language (limit_of reader) (so.bytes ++ take inside buffer) begun more steps' work)
 
-      pub turn_out_of_memory : ((more : List ℕ) → AppendsPrefix start.held held' (output_of language (limit_of reader) ((so.bytes ++ take inside buffer) ++ more))) → IsOutOfMemory language (limit_of reader) start (told left' held' given' rf' wf')
-      turn_out_of_memory p = record { written = over_rest (λ script. AppendsPrefix start.held held' (output_of language (limit_of reader) script)) p }
+      pub turn_out_of_memory : ((more : List ℕ) → AppendsPrefix start.held held' (output_of language whose (limit_of reader) ((so.bytes ++ take inside buffer) ++ more))) → IsOutOfMemory language whose (limit_of reader) start (told left' held' given' rf' wf')
+      turn_out_of_memory p = record { written = over_rest (λ script. AppendsPrefix start.held held' (output_of language whose (limit_of reader) script)) p }
 
-      pub turn_write_fault : Rose wf wf' → ((more : List ℕ) → AppendsProperPrefix start.held held' (output_of language (limit_of reader) ((so.bytes ++ take inside buffer) ++ more))) → IsWriteFault language (limit_of reader) start (told left' held' given' rf' wf')
-      turn_write_fault rose p = record { rose = rose_later _ _ _ so.write_later rose; written = over_rest (λ script. AppendsProperPrefix start.held held' (output_of language (limit_of reader) script)) p }
+      pub turn_write_fault : Rose wf wf' → ((more : List ℕ) → AppendsProperPrefix start.held held' (output_of language whose (limit_of reader) ((so.bytes ++ take inside buffer) ++ more))) → IsWriteFault language whose (limit_of reader) start (told left' held' given' rf' wf')
+      turn_write_fault rose p = record { rose = rose_later _ _ _ so.write_later rose; written = over_rest (λ script. AppendsProperPrefix start.held held' (output_of language whose (limit_of reader) script)) p }
 
-      pub turn_too_long : n ≤ length buffer → RoseBy given n given' → inside ≡ min n (most - taken) → most - taken < n → Appends start.held held' (output_of_whole language (limit_of reader) (so.bytes ++ take inside buffer))
-          → IsTooLong language (limit_of reader) most start (told left' held' given' rf' wf')
+      pub turn_too_long : n ≤ length buffer → RoseBy given n given' → inside ≡ min n (most - taken) → most - taken < n → Appends start.held held' (output_of_whole language whose (limit_of reader) (so.bytes ++ take inside buffer))
+          → IsTooLong language whose (limit_of reader) most start (told left' held' given' rf' wf')
       turn_too_long room rose small long written =
           let full : most ≡ length (so.bytes ++ take inside buffer) = omega (arith, length-append so.bytes (take inside buffer), length-take inside buffer, so.long) in
           record {
             more = omega (arith, so.given.at_least, RoseBy-at_least _ _ _ rose);
             long = with_rest start.left left' (so.bytes ++ take n buffer) (λ script. most < length script) (Consumes-trans _ _ _ _ _ so.read read)
                 (λ rest. omega (arith, length-append (so.bytes ++ take n buffer) rest, length-append so.bytes (take n buffer), length-take n buffer, so.long));
-            written = over_rest (λ script. Appends start.held held' (output_of_whole language (limit_of reader) (take most script)))
+            written = over_rest (λ script. Appends start.held held' (output_of_whole language whose (limit_of reader) (take most script)))
                 (λ more. let e : take most ((so.bytes ++ take inside buffer) ++ more) ≡ so.bytes ++ take inside buffer = ap (λ (k : ℕ). take k ((so.bytes ++ take inside buffer) ++ more)) full ∙ take-append_seam (so.bytes ++ take inside buffer) more in
-                subst (λ (bs : List ℕ). Appends start.held held' (output_of_whole language (limit_of reader) bs)) (sym e) written);
+                subst (λ (bs : List ℕ). Appends start.held held' (output_of_whole language whose (limit_of reader) bs)) (sym e) written);
           }
 
     pub turn_goes_on : (reader' : ScriptState) (engine' : EngineState) (inside steps' : ℕ) → inside ≡ n → n ≤ length buffer → RoseBy given n given' → rf ≤ rf' → wf ≤ wf' → (limit_of reader') ≡ (limit_of reader)
         → FollowsScript reader' (so.bytes ++ take inside buffer) engine'.count → engine'.count ≡ length (whole_script (limit_of reader) (so.bytes ++ take inside buffer))
         → Stands engine' (history_of_whole language (limit_of reader) (so.bytes ++ take inside buffer))
-        → Appends start.held held' (output_of_whole language (limit_of reader) (so.bytes ++ take inside buffer))
+        → Appends start.held held' (output_of_whole language whose (limit_of reader) (so.bytes ++ take inside buffer))
         → AreWithinWork language (whole_script (limit_of reader) (so.bytes ++ take inside buffer)) begun steps'
-        → SoFar language reader' engine' (taken + n) start (told left' held' given' rf' wf') begun steps'
+        → SoFar language whose reader' engine' (taken + n) start (told left' held' given' rf' wf') begun steps'
     turn_goes_on reader' engine' inside steps' same room rose later later' e follows counted stands written work = record {
       bytes = so.bytes ++ take inside buffer;
       follows = follows;
@@ -123,7 +123,7 @@ module _ (language : Language) (reader : ScriptState) (engine : EngineState) (ta
       counted = counted ∙ ap (λ (l : ℕ). length (whole_script l (so.bytes ++ take inside buffer))) (sym e);
       stands = subst (λ (l : ℕ). Stands engine' (history_of_whole language l (so.bytes ++ take inside buffer))) (sym e) stands;
       read = subst (λ (k : ℕ). Consumes start.left left' (so.bytes ++ take k buffer)) (sym same) (Consumes-trans _ _ _ _ _ so.read read);
-      written = subst (λ (l : ℕ). Appends start.held held' (output_of_whole language l (so.bytes ++ take inside buffer))) (sym e) written;
+      written = subst (λ (l : ℕ). Appends start.held held' (output_of_whole language whose l (so.bytes ++ take inside buffer))) (sym e) written;
       work = subst (λ (l : ℕ). AreWithinWork language (whole_script l (so.bytes ++ take inside buffer)) begun steps') (sym e) work;
       given = record { at_least = omega (arith, so.given.at_least, RoseBy-at_least _ _ _ rose); at_most = omega (arith, so.given.at_most, RoseBy-at_most _ _ _ rose) };
       read_later = omega (arith, so.read_later, later);
@@ -136,20 +136,20 @@ written_front inside len new items all front e written same =
     let back : all ≡ new = written ∙ rw (← same) (take-append_seam new (drop (length new) items)) in
     e ∙ ap (λ (xs : List ℕ). take inside xs) back
 
-pub nothing_written : (language : Language) (left held : Option (List ℕ)) (limit : ℕ) → IfSome left (λ script. AppendsPrefix held held (output_of language limit script))
-nothing_written language None held limit = tt
-nothing_written language (Some script) held limit = ([], output_of language limit script, refl, Appends-nil held)
+pub nothing_written : (language : Language) (whose : Option (List ℕ)) (left held : Option (List ℕ)) (limit : ℕ) → IfSome left (λ script. AppendsPrefix held held (output_of language whose limit script))
+nothing_written language whose None held limit = tt
+nothing_written language whose (Some script) held limit = ([], output_of language whose limit script, refl, Appends-nil held)
 
-pub at_start : (language : Language) (reader : ScriptState) (engine : EngineState) (left held : Option (List ℕ)) (given rf wf steps : ℕ) → FollowsScript reader [] engine.count → engine.count ≡ 0 → Stands engine []
-    → SoFar language reader engine 0 (told left held given rf wf) (told left held given rf wf) steps steps
-at_start language reader engine left held given rf wf steps follows none stands = record {
+pub at_start : (language : Language) (whose : Option (List ℕ)) (reader : ScriptState) (engine : EngineState) (left held : Option (List ℕ)) (given rf wf steps : ℕ) → FollowsScript reader [] engine.count → engine.count ≡ 0 → Stands engine []
+    → SoFar language whose reader engine 0 (told left held given rf wf) (told left held given rf wf) steps steps
+at_start language whose reader engine left held given rf wf steps follows none stands = record {
   bytes = [];
   follows = follows;
   long = refl;
   counted = none ∙ sym (ap length (whole_script-nil (limit_of reader)));
   stands = rw (nothing_happened language (limit_of reader)) stands;
   read = Consumes-nil left;
-  written = rw (nothing_whole language (limit_of reader)) (Appends-nil held);
+  written = rw (nothing_whole language whose (limit_of reader)) (Appends-nil held);
   work = λ bound works. omega arith;
   given = record { at_least = omega arith; at_most = omega arith };
   read_later = omega arith;
@@ -158,12 +158,12 @@ at_start language reader engine left held given rf wf steps follows none stands 
 
 -- labels that stay leave the language
 module _ (labels labels' : List Label) (same : labels ≡ labels') where
-  pub so_far_same : (reader : ScriptState) (engine : EngineState) (taken : ℕ) (start now : Told) (begun steps : ℕ) → SoFar (language_of labels) reader engine taken start now begun steps
-      → SoFar (language_of labels') reader engine taken start now begun steps
-  so_far_same reader engine taken start now begun steps so = subst (λ (ls : List Label). SoFar (language_of ls) reader engine taken start now begun steps) same so
+  pub so_far_same : (whose : Option (List ℕ)) (reader : ScriptState) (engine : EngineState) (taken : ℕ) (start now : Told) (begun steps : ℕ) → SoFar (language_of labels) whose reader engine taken start now begun steps
+      → SoFar (language_of labels') whose reader engine taken start now begun steps
+  so_far_same whose reader engine taken start now begun steps so = subst (λ (ls : List Label). SoFar (language_of ls) whose reader engine taken start now begun steps) same so
 
-  pub ended_same : (limit limit' most most' : ℕ) (start now : Told) (status : Status) → limit ≡ limit' → most ≡ most' → Ended (language_of labels) limit most start now status → Ended (language_of labels') limit' most' start now status
-  ended_same limit limit' most most' start now status e f ended = rw (← same, ← e, ← f) ended
+  pub ended_same : (whose : Option (List ℕ)) (limit limit' most most' : ℕ) (start now : Told) (status : Status) → limit ≡ limit' → most ≡ most' → Ended (language_of labels) whose limit most start now status → Ended (language_of labels') whose limit' most' start now status
+  ended_same whose limit limit' most most' start now status e f ended = rw (← same, ← e, ← f) ended
 
   pub stands_same : (limit limit' : ℕ) (left : Option (List ℕ)) (engine : EngineState) → limit ≡ limit' → StandsForAll (language_of labels) limit left engine → StandsForAll (language_of labels') limit' left engine
   stands_same limit limit' left engine e stands = rw (← same, ← e) stands

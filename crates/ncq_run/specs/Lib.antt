@@ -1,4 +1,6 @@
 pub mod Limits
+pub mod Shown
+pub mod Tallies
 pub mod Output
 pub mod Status
 pub mod Session

@@ -1,17 +1,20 @@
 -- What each status says of the source and the sink, before and after.
-use Rattle.std.specs.Prelude.{◌≡◌, ◌+◌, ◌<◌, ◌≤◌, ◌-◌, ◌^◌, min, ℕ, List, [], ◌∷◌, ◌++◌}
-use Rattle.std.specs.Prelude.{length, take, map, codes, Option, Some, IfSome, ◌⊎◌}
-use Rattle.std.specs.Borrow.{Bor}
+use Rattle.std.specs.Prelude.{◌≡◌, ◌+◌, ◌<◌, ◌≤◌, ◌-◌, ◌^◌, min, ℕ, List, [], ◌++◌}
+use Rattle.std.specs.Prelude.{length, take, Bool, true, false, Option, None, Some, IfSome, ◌⊎◌}
 use Rattle.std.specs.Io.KnownBytes.{Appends, Consumes, IsAtEnd}
 use Rattle.ncq_outside.specs.Causes.{Rose}
+use Rattle.ncq_report.specs.Loads.{load_text}
+use Rattle.ncq_script.specs.declared.command.Command.{Command}
 use Rattle.ncq_script.specs.Script.{script}
+use Rattle.ncq_words.specs.Forms.{Form}
+use Rattle.ncq_words.specs.Forms.Form.{run, alone, load}
 use Rattle.ncq_engine.specs.Notices.{Language}
 use Rattle.ncq_engine.specs.Output.{history_of}
 use Rattle.ncq_engine.specs.Stands.{EngineState, Stands}
 use Rattle.ncq_run.specs.declared.session.Status.{Status}
 use Rattle.ncq_run.specs.declared.session.Status.TheVariants.{Done, Usage, ReadFault}
 use Rattle.ncq_run.specs.declared.session.Status.TheVariants.{WriteFault, NoMemory, ScriptTooLong}
-use Rattle.ncq_run.specs.Output.{output_of, output_of_whole}
+use Rattle.ncq_run.specs.Output.{AreWithinWork, load_output, output_of, output_of_whole}
 
 -- what is told of a source and a sink: the bytes left and held, the bytes given, and the faults of
 -- each
@@ -46,37 +49,42 @@ abbrev pub GaveMore : ℕ → ℕ → ℕ → Type 0
 GaveMore before n now = min (before + (n + 1)) (2 ^ 64 - 1) ≤ now
 
 -- done: the source was read to its end within the limit, and the whole output was written
-pub record IsDone (language : Language) (limit most : ℕ) (old new : Told) : Type 0 where
+pub record IsDone (language : Language) (whose : Option (List ℕ)) (limit most : ℕ)
+    (old new : Told) : Type 0 where
   pub at_end : IsAtEnd new.left
   pub written : IfSome old.left (λ script.
-      Appends old.held new.held (output_of language limit script))
+      Appends old.held new.held (output_of language whose limit script))
   pub within : new.given ≤ old.given + most
 
 -- a read fault: the source failed, and the commands that were whole in the bytes read are answered
-pub record IsReadFault (language : Language) (limit : ℕ) (old new : Told) : Type 0 where
+pub record IsReadFault (language : Language) (whose : Option (List ℕ)) (limit : ℕ)
+    (old new : Told) : Type 0 where
   pub rose : Rose old.read_faults new.read_faults
   pub bytes : List ℕ
   pub read : Consumes old.left new.left bytes
-  pub written : Appends old.held new.held (output_of_whole language limit bytes)
+  pub written : Appends old.held new.held (output_of_whole language whose limit bytes)
 
 -- a write fault: the sink failed, and not all of the output was written
-pub record IsWriteFault (language : Language) (limit : ℕ) (old new : Told) : Type 0 where
+pub record IsWriteFault (language : Language) (whose : Option (List ℕ)) (limit : ℕ)
+    (old new : Told) : Type 0 where
   pub rose : Rose old.write_faults new.write_faults
   pub written : IfSome old.left (λ script.
-      AppendsProperPrefix old.held new.held (output_of language limit script))
+      AppendsProperPrefix old.held new.held (output_of language whose limit script))
 
 -- too long a script: the source gave more than the limit, and the commands that were whole within
 -- it are answered
-pub record IsTooLong (language : Language) (limit most : ℕ) (old new : Told) : Type 0 where
+pub record IsTooLong (language : Language) (whose : Option (List ℕ)) (limit most : ℕ)
+    (old new : Told) : Type 0 where
   pub more : GaveMore old.given most new.given
   pub long : IfSome old.left (λ script. most < length script)
   pub written : IfSome old.left (λ script.
-      Appends old.held new.held (output_of_whole language limit (take most script)))
+      Appends old.held new.held (output_of_whole language whose limit (take most script)))
 
 -- want of memory: some front of the output was written
-pub record IsOutOfMemory (language : Language) (limit : ℕ) (old new : Told) : Type 0 where
+pub record IsOutOfMemory (language : Language) (whose : Option (List ℕ)) (limit : ℕ)
+    (old new : Told) : Type 0 where
   pub written : IfSome old.left (λ script.
-      AppendsPrefix old.held new.held (output_of language limit script))
+      AppendsPrefix old.held new.held (output_of language whose limit script))
 
 -- the engine stands for the whole script, and counted its commands
 abbrev pub StandsForAll : Language → ℕ → Option (List ℕ) → EngineState → Type 0
@@ -84,14 +92,16 @@ StandsForAll language limit left engine = IfSome left (λ bytes.
     Stands engine (history_of language [] (script limit bytes))
     × (engine.count ≡ length (script limit bytes)))
 
--- how a session with good words ends
-abbrev pub Ended : Language → ℕ → ℕ → Told → Told → Status → Type 0
-Ended language limit most old new Done = IsDone language limit most old new
-Ended language limit most old new Usage = ⊥
-Ended language limit most old new ReadFault = IsReadFault language limit old new
-Ended language limit most old new WriteFault = IsWriteFault language limit old new
-Ended language limit most old new NoMemory = IsOutOfMemory language limit old new
-Ended language limit most old new ScriptTooLong = IsTooLong language limit most old new
+-- how a session over a script ends
+abbrev pub Ended
+    : Language → Option (List ℕ) → ℕ → ℕ → Told → Told → Status → Type 0
+Ended language whose limit most old new Done = IsDone language whose limit most old new
+Ended language whose limit most old new Usage = ⊥
+Ended language whose limit most old new ReadFault = IsReadFault language whose limit old new
+Ended language whose limit most old new WriteFault = IsWriteFault language whose limit old new
+Ended language whose limit most old new NoMemory = IsOutOfMemory language whose limit old new
+Ended language whose limit most old new ScriptTooLong =
+    IsTooLong language whose limit most old new
 
 -- the script is within the limit: its bytes are told and are no more, or the count of the bytes
 -- given says so
@@ -100,14 +110,59 @@ IsShort most old new = ((script : List ℕ) × (old.left ≡ Some script) × (le
     ⊎ ¬ GaveMore old.given most new.given
 
 -- the sink is sure to hold what it holds already and the whole output
-abbrev pub HoldsAll : Language → ℕ → ℕ → Told → Type 0
-HoldsAll language limit sure old = (script : List ℕ) × (held : List ℕ)
+abbrev pub HoldsAll : Language → Option (List ℕ) → ℕ → ℕ → Told → Type 0
+HoldsAll language whose limit sure old = (script : List ℕ) × (held : List ℕ)
     × (old.left ≡ Some script) × (old.held ≡ Some held)
-    × (length held + length (output_of language limit script) ≤ sure)
+    × (length held + length (output_of language whose limit script) ≤ sure)
 
--- the words are the one word `run`
-abbrev pub IsRun : List (Bor (List ℕ)) → Type 0
-IsRun words = map (λ word. word.now) words ≡ codes "run" ∷ []
+-- how a load of n subscribers ends: the tally of its commands is written
+abbrev pub Loaded : Language → ℕ → ℕ → Told → Told → Status → Type 0
+Loaded language limit n old new Done = Appends old.held new.held (load_output language limit n)
+Loaded language limit n old new WriteFault = Rose old.write_faults new.write_faults
+    × AppendsProperPrefix old.held new.held (load_output language limit n)
+Loaded language limit n old new NoMemory =
+    AppendsPrefix old.held new.held (load_output language limit n)
+Loaded language limit n old new status = ⊥
+
+-- how it ends with words of this form
+abbrev pub EndedAs : Form → Language → ℕ → ℕ → Told → Told → Status → Type 0
+EndedAs run language limit most old new status = Ended language None limit most old new status
+EndedAs (alone name) language limit most old new status =
+    Ended language (Some name) limit most old new status
+EndedAs (load n) language limit most old new status = Loaded language limit n old new status
+
+-- the sink is sure to hold what it holds already and the whole output of the form
+abbrev pub HoldsAllOf : Form → Language → ℕ → ℕ → Told → Type 0
+HoldsAllOf run language limit sure old = HoldsAll language None limit sure old
+HoldsAllOf (alone name) language limit sure old = HoldsAll language (Some name) limit sure old
+HoldsAllOf (load n) language limit sure old = (held : List ℕ) × (old.held ≡ Some held)
+    × (length held + length (load_output language limit n) ≤ sure)
+
+-- the engine stands for these commands, and counted them
+abbrev pub StandsForThe : Language → List Command → EngineState → Type 0
+StandsForThe language commands engine =
+    Stands engine (history_of language [] commands) × (engine.count ≡ length commands)
+
+-- it stands for the whole script of the form
+abbrev pub StandsAs : Form → Language → ℕ → Option (List ℕ) → EngineState → Type 0
+StandsAs run language limit left engine = StandsForAll language limit left engine
+StandsAs (alone name) language limit left engine = StandsForAll language limit left engine
+StandsAs (load n) language limit left engine =
+    StandsForThe language (script limit (load_text n)) engine
+
+-- the steps are within the work of the whole script of the form
+abbrev pub WorksAs : Form → Language → ℕ → Option (List ℕ) → ℕ → ℕ → Type 0
+WorksAs run language limit left old new =
+    IfSome left (λ bytes. AreWithinWork language (script limit bytes) old new)
+WorksAs (alone name) language limit left old new =
+    IfSome left (λ bytes. AreWithinWork language (script limit bytes) old new)
+WorksAs (load n) language limit left old new =
+    AreWithinWork language (script limit (load_text n)) old new
+
+-- whether the form reads no script
+abbrev pub is_load : Form → Bool
+is_load (load n) = true
+is_load form = false
 
 -- the exit code of each status
 abbrev pub exit_code_of : Status → ℕ

@@ -1,28 +1,34 @@
 //! The top call: a session over a source and a sink.
 ghost use Rattle.std.specs.Prelude.{◌≡◌, ◌+◌, ◌-◌, ◌<◌, ◌≤◌, ◌^◌, ◌++◌, ℕ, List, [], Option};
-ghost use Rattle.std.specs.Prelude.{OnOk, OnErr, IfOk, IfSome, IfNone, IsErrOf, IsOk, IsTrue, Some};
-ghost use Rattle.std.specs.Prelude.{◌↔◌, true, false, length, take};
+ghost use Rattle.std.specs.Prelude.{OnOk, OnErr, IfOk, IfSome, IfNone, IsErrOf, IsOk, Some};
+ghost use Rattle.std.specs.Prelude.{◌⊎◌, None, true, false, length, take};
 ghost use Rattle.std.specs.Io.KnownBytes.{Appends, Consumes, Keeps, IsAtEnd};
+ghost use Rattle.std.specs.Option.{option_copied};
 ghost use Rattle.ncq_callback.specs.Labels.{labels};
 ghost use Rattle.ncq_outside.specs.Causes.{HasCause, IsFull, Rose, RoseBy};
 ghost use Rattle.ncq_script.specs.Script.{script, whole_script};
 ghost use Rattle.ncq_script.specs.ScriptReading.{FollowsScript, limit_of, is_finished};
+ghost use Rattle.ncq_engine.specs.History.{History};
 ghost use Rattle.ncq_engine.specs.Languages.{language_of};
 ghost use Rattle.ncq_engine.specs.Output.{history_of};
 ghost use Rattle.ncq_engine.specs.Stands.{Stands};
 ghost use Rattle.ncq_run.specs.Limits.{longest_line, longest_script};
-ghost use Rattle.ncq_run.specs.Status.{Told, told, Ended, IsRun, exit_code_of, StandsForAll};
+ghost use Rattle.ncq_run.specs.Status.{EndedAs, StandsAs, WorksAs, is_load};
+ghost use Rattle.ncq_run.specs.Status.{Told, told, Ended, exit_code_of, StandsForAll};
+ghost use Rattle.ncq_words.specs.Forms.{form_of, texts_of};
 ghost use Rattle.ncq_run.specs.Status.{AppendsPrefix, AppendsProperPrefix};
 ghost use Rattle.ncq_run.specs.Session.{SoFar, IsReady};
 ghost use Rattle.ncq_run.specs.Output.{output_of, output_of_whole, history_of_whole};
 ghost use Rattle.ncq_run.specs.Output.{AreWithinWork};
 
 use crate::answer::{Stop, answer_commands};
+use crate::load::load;
 use ncq_base::Steps;
 use ncq_callback::Handlers;
 use ncq_engine::Engine;
 use ncq_outside::{Failed, Sink, Source};
 use ncq_script::ScriptReader;
+use ncq_words::{Form, WordsError, read_words};
 use std::alloc::{AllocError, Global};
 use std::sync::ledger::Ledger;
 
@@ -73,6 +79,7 @@ fn fill<I: Source>(input: &mut I, buffer: &mut [u8], most: usize) -> Result<usiz
 /// Pushes a piece, and answers the commands that are whole now.
 fn answer_piece<O: Sink, L: Ledger>(
     alloc: Global,
+    whose: Option<&[u8]>,
     reader: &mut ScriptReader,
     engine: &mut Engine,
     handlers: &Handlers,
@@ -83,6 +90,7 @@ fn answer_piece<O: Sink, L: Ledger>(
     requires some { (pushed : List ℕ) × FollowsScript reader.old pushed engine.old.count
         × (length pushed + length piece.now < 2 ^ 48) }
     requires is_open { is_finished reader.old ≡ false }
+    requires stands { (history : History) × Stands engine.old history }
     requires handlers { engine.old.labels
         ≡ (labels handlers.now.items.items (λ h. h.name) (λ h. h.kind)) }
     ensures follows { OnOk result ((pushed : List ℕ)
@@ -91,6 +99,7 @@ fn answer_piece<O: Sink, L: Ledger>(
     ensures counted { OnOk result ((pushed : List ℕ)
         → FollowsScript reader.old pushed engine.old.count
         → engine.new.count ≡ length (whole_script (limit_of reader.old) (pushed ++ piece.now))) }
+    ensures stays { OnOk result ((history : History) × Stands engine.new history) }
     ensures labels { OnOk result (engine.new.labels ≡ engine.old.labels) }
     ensures written { OnOk result ((pushed : List ℕ)
         → FollowsScript reader.old pushed engine.old.count
@@ -98,9 +107,11 @@ fn answer_piece<O: Sink, L: Ledger>(
         → Stands engine.old
         (history_of_whole (language_of engine.old.labels) (limit_of reader.old) pushed)
         → (before : Option (List ℕ)) → Appends before (O.held output.old)
-        (output_of_whole (language_of engine.old.labels) (limit_of reader.old) pushed)
+        (output_of_whole (language_of engine.old.labels) (option_copied whose.entry)
+        (limit_of reader.old) pushed)
         → Appends before (O.held output.new)
-        (output_of_whole (language_of engine.old.labels) (limit_of reader.old)
+        (output_of_whole (language_of engine.old.labels) (option_copied whose.entry)
+        (limit_of reader.old)
         (pushed ++ piece.now))
         × Stands engine.new (history_of_whole (language_of engine.old.labels)
         (limit_of reader.old) (pushed ++ piece.now))) }
@@ -110,9 +121,10 @@ fn answer_piece<O: Sink, L: Ledger>(
         → Stands engine.old
         (history_of_whole (language_of engine.old.labels) (limit_of reader.old) pushed)
         → (before : Option (List ℕ)) → Appends before (O.held output.old)
-        (output_of_whole (language_of engine.old.labels) (limit_of reader.old) pushed)
+        (output_of_whole (language_of engine.old.labels) (option_copied whose.entry)
+        (limit_of reader.old) pushed)
         → (more : List ℕ) → AppendsPrefix before (O.held output.new)
-        (output_of (language_of engine.old.labels) (limit_of reader.old)
+        (output_of (language_of engine.old.labels) (option_copied whose.entry) (limit_of reader.old)
         ((pushed ++ piece.now) ++ more)) }
     ensures write { IsErrOf result Stop.WriteFault → (pushed : List ℕ)
         → FollowsScript reader.old pushed engine.old.count
@@ -120,9 +132,10 @@ fn answer_piece<O: Sink, L: Ledger>(
         → Stands engine.old
         (history_of_whole (language_of engine.old.labels) (limit_of reader.old) pushed)
         → (before : Option (List ℕ)) → Appends before (O.held output.old)
-        (output_of_whole (language_of engine.old.labels) (limit_of reader.old) pushed)
+        (output_of_whole (language_of engine.old.labels) (option_copied whose.entry)
+        (limit_of reader.old) pushed)
         → (more : List ℕ) → AppendsProperPrefix before (O.held output.new)
-        (output_of (language_of engine.old.labels) (limit_of reader.old)
+        (output_of (language_of engine.old.labels) (option_copied whose.entry) (limit_of reader.old)
         ((pushed ++ piece.now) ++ more)) }
     ensures later { O.faults output.old ≤ O.faults output.new }
     ensures cause { IsErrOf result Stop.WriteFault
@@ -142,7 +155,7 @@ fn answer_piece<O: Sink, L: Ledger>(
     ensures is_open { is_finished reader.new ≡ false }
 {
     match reader.push(piece) {
-        Ok(()) => answer_commands(alloc, reader, engine, handlers, output, steps),
+        Ok(()) => answer_commands(alloc, whose, reader, engine, handlers, output, steps),
         Err(AllocError) => Err(Stop::NoMemory),
     }
 }
@@ -150,6 +163,7 @@ fn answer_piece<O: Sink, L: Ledger>(
 /// Marks the end, and answers the last command.
 fn answer_rest<O: Sink, L: Ledger>(
     alloc: Global,
+    whose: Option<&[u8]>,
     reader: &mut ScriptReader,
     engine: &mut Engine,
     handlers: &Handlers,
@@ -158,6 +172,7 @@ fn answer_rest<O: Sink, L: Ledger>(
 ) -> Result<(), Stop>
     requires some { (pushed : List ℕ) × FollowsScript reader.old pushed engine.old.count
         × (length pushed < 2 ^ 48) }
+    requires stands { (history : History) × Stands engine.old history }
     requires handlers { engine.old.labels
         ≡ (labels handlers.now.items.items (λ h. h.name) (λ h. h.kind)) }
     ensures counted { OnOk result ((pushed : List ℕ)
@@ -176,27 +191,33 @@ fn answer_rest<O: Sink, L: Ledger>(
         → Stands engine.old
         (history_of_whole (language_of engine.old.labels) (limit_of reader.old) pushed)
         → (before : Option (List ℕ)) → Appends before (O.held output.old)
-        (output_of_whole (language_of engine.old.labels) (limit_of reader.old) pushed)
+        (output_of_whole (language_of engine.old.labels) (option_copied whose.entry)
+        (limit_of reader.old) pushed)
         → Appends before (O.held output.new)
-        (output_of (language_of engine.old.labels) (limit_of reader.old) pushed)) }
+        (output_of (language_of engine.old.labels) (option_copied whose.entry)
+        (limit_of reader.old) pushed)) }
     ensures no_memory { IsErrOf result Stop.NoMemory → (pushed : List ℕ)
         → FollowsScript reader.old pushed engine.old.count
         → engine.old.count ≡ length (whole_script (limit_of reader.old) pushed)
         → Stands engine.old
         (history_of_whole (language_of engine.old.labels) (limit_of reader.old) pushed)
         → (before : Option (List ℕ)) → Appends before (O.held output.old)
-        (output_of_whole (language_of engine.old.labels) (limit_of reader.old) pushed)
+        (output_of_whole (language_of engine.old.labels) (option_copied whose.entry)
+        (limit_of reader.old) pushed)
         → AppendsPrefix before (O.held output.new)
-        (output_of (language_of engine.old.labels) (limit_of reader.old) pushed) }
+        (output_of (language_of engine.old.labels) (option_copied whose.entry)
+        (limit_of reader.old) pushed) }
     ensures write { IsErrOf result Stop.WriteFault → (pushed : List ℕ)
         → FollowsScript reader.old pushed engine.old.count
         → engine.old.count ≡ length (whole_script (limit_of reader.old) pushed)
         → Stands engine.old
         (history_of_whole (language_of engine.old.labels) (limit_of reader.old) pushed)
         → (before : Option (List ℕ)) → Appends before (O.held output.old)
-        (output_of_whole (language_of engine.old.labels) (limit_of reader.old) pushed)
+        (output_of_whole (language_of engine.old.labels) (option_copied whose.entry)
+        (limit_of reader.old) pushed)
         → AppendsProperPrefix before (O.held output.new)
-        (output_of (language_of engine.old.labels) (limit_of reader.old) pushed) }
+        (output_of (language_of engine.old.labels) (option_copied whose.entry)
+        (limit_of reader.old) pushed) }
     ensures later { O.faults output.old ≤ O.faults output.new }
     ensures cause { IsErrOf result Stop.WriteFault
         → Rose (O.faults output.old) (O.faults output.new) }
@@ -214,7 +235,7 @@ fn answer_rest<O: Sink, L: Ledger>(
         (script (limit_of reader.old) pushed) before steps.new }
 {
     reader.finish();
-    answer_commands(alloc, reader, engine, handlers, output, steps)
+    answer_commands(alloc, whose, reader, engine, handlers, output, steps)
 }
 
 /// The bytes up to a place.
@@ -237,6 +258,7 @@ struct Session {
 /// Reads a piece and answers what is whole now. It tells how the session ends, where it does.
 fn turn<I: Source, O: Sink, L: Ledger>(
     alloc: Global,
+    whose: Option<&[u8]>,
     session: &mut Session,
     input: &mut I,
     output: &mut O,
@@ -244,36 +266,42 @@ fn turn<I: Source, O: Sink, L: Ledger>(
     engine: &mut Engine,
     steps: &mut Steps<L>,
 ) -> Option<Status>
-    requires ready { IsReady session.old.reader engine.old.count session.old.taken session.old.most
+    requires ready { IsReady session.old.reader engine.old session.old.taken session.old.most
         (length session.old.buffer.items) }
     requires handlers { engine.old.labels
         ≡ (labels handlers.now.items.items (λ h. h.name) (λ h. h.kind)) }
-    ensures ready { IfNone result (IsReady session.new.reader engine.new.count session.new.taken
+    ensures ready { IfNone result (IsReady session.new.reader engine.new session.new.taken
         session.old.most (length session.new.buffer.items)) }
     ensures falls { IfNone result (session.old.taken < session.new.taken) }
     ensures labels { IfNone result (engine.new.labels ≡ engine.old.labels) }
     ensures goes_on { IfNone result ((start : Told) (begun : ℕ)
-        → SoFar (language_of engine.old.labels) session.old.reader engine.old session.old.taken
+        → SoFar (language_of engine.old.labels) (option_copied whose.entry) session.old.reader
+        engine.old session.old.taken
         start (told (I.left input.old) (O.held output.old) (I.given input.old)
         (I.faults input.old) (O.faults output.old)) begun steps.old
-        → SoFar (language_of engine.old.labels) session.new.reader engine.new session.new.taken
+        → SoFar (language_of engine.old.labels) (option_copied whose.entry) session.new.reader
+        engine.new session.new.taken
         start (told (I.left input.new) (O.held output.new) (I.given input.new)
         (I.faults input.new) (O.faults output.new)) begun steps.new) }
     ensures ends { IfSome result (λ status. (start : Told) (begun : ℕ)
-        → SoFar (language_of engine.old.labels) session.old.reader engine.old session.old.taken
+        → SoFar (language_of engine.old.labels) (option_copied whose.entry) session.old.reader
+        engine.old session.old.taken
         start (told (I.left input.old) (O.held output.old) (I.given input.old)
         (I.faults input.old) (O.faults output.old)) begun steps.old
-        → Ended (language_of engine.old.labels) (limit_of session.old.reader) session.old.most start
+        → Ended (language_of engine.old.labels) (option_copied whose.entry) (limit_of
+        session.old.reader) session.old.most start
         (told (I.left input.new) (O.held output.new) (I.given input.new)
         (I.faults input.new) (O.faults output.new)) status) }
     ensures stands { IfSome result (λ status. status ≡ Status.Done → (start : Told) (begun : ℕ)
-        → SoFar (language_of engine.old.labels) session.old.reader engine.old session.old.taken
+        → SoFar (language_of engine.old.labels) (option_copied whose.entry) session.old.reader
+        engine.old session.old.taken
         start (told (I.left input.old) (O.held output.old) (I.given input.old)
         (I.faults input.old) (O.faults output.old)) begun steps.old
         → StandsForAll (language_of engine.old.labels) (limit_of session.old.reader) start.left
         engine.new) }
     ensures work { IfSome result (λ status. (start : Told) (begun : ℕ)
-        → SoFar (language_of engine.old.labels) session.old.reader engine.old session.old.taken
+        → SoFar (language_of engine.old.labels) (option_copied whose.entry) session.old.reader
+        engine.old session.old.taken
         start (told (I.left input.old) (O.held output.old) (I.given input.old)
         (I.faults input.old) (O.faults output.old)) begun steps.old
         → IfSome start.left (λ bytes. AreWithinWork (language_of engine.old.labels)
@@ -293,7 +321,15 @@ fn turn<I: Source, O: Sink, L: Ledger>(
         return Some(Status::ReadFault);
     };
     if got == 0 {
-        return match answer_rest(alloc, &mut session.reader, engine, handlers, output, steps) {
+        return match answer_rest(
+            alloc,
+            whose,
+            &mut session.reader,
+            engine,
+            handlers,
+            output,
+            steps,
+        ) {
             Ok(()) => Some(Status::Done),
             Err(Stop::NoMemory) => Some(Status::NoMemory),
             Err(Stop::WriteFault) => Some(Status::WriteFault),
@@ -303,6 +339,7 @@ fn turn<I: Source, O: Sink, L: Ledger>(
     let piece = front_of(&session.buffer, inside);
     match answer_piece(
         alloc,
+        whose,
         &mut session.reader,
         engine,
         handlers,
@@ -323,6 +360,7 @@ fn turn<I: Source, O: Sink, L: Ledger>(
 /// A session on a script of at most `most` bytes, with lines of at most `limit` bytes.
 fn serve<I: Source, O: Sink, L: Ledger>(
     alloc: Global,
+    whose: Option<&[u8]>,
     input: &mut I,
     output: &mut O,
     handlers: &Handlers,
@@ -337,7 +375,7 @@ fn serve<I: Source, O: Sink, L: Ledger>(
     requires fresh { engine.old.count ≡ 0 }
     requires handlers { engine.old.labels
         ≡ (labels handlers.now.items.items (λ h. h.name) (λ h. h.kind)) }
-    ensures ended { Ended (language_of engine.old.labels) limit most
+    ensures ended { Ended (language_of engine.old.labels) (option_copied whose.entry) limit most
         (told (I.left input.old) (O.held output.old) (I.given input.old)
         (I.faults input.old) (O.faults output.old))
         (told (I.left input.new) (O.held output.new) (I.given input.new)
@@ -361,32 +399,34 @@ fn serve<I: Source, O: Sink, L: Ledger>(
         most,
     };
     'turns: loop {
-        if let Some(status) = turn(alloc, &mut session, input, output, handlers, engine, steps) {
+        if let Some(status) = turn(
+            alloc,
+            whose,
+            &mut session,
+            input,
+            output,
+            handlers,
+            engine,
+            steps,
+        ) {
             return status;
         }
     }
 }
 
-/// Whether the words are the one word `run`.
-fn is_run(words: &[&str]) -> bool
-    ensures { IsTrue result ↔ IsRun words.now }
-{
-    match words {
-        [word] => *word == "run",
-        _ => false,
-    }
-}
-
-/// Reads the script from `input` and writes the answer to each of its commands to `output`.
+/// Does what the words ask for: `run` reads a script from `input` and writes the answer to each of
+/// its commands to `output`; `alone <name>` reads it and writes the notices of the subscriptions of
+/// that name alone; `load <n>` makes commands of its own, answers them and writes their tally.
 ///
-/// `Usage` comes exactly where the words are not the one word `run`; then nothing is read or
-/// written, and the engine stays.
+/// `Usage` comes only where the words fit none of these forms; then, and where memory ran out
+/// before that was found, nothing is read or written, and the engine stays.
 /// `Done` means that the script was read to its end and that `output` was extended by the whole
 /// defined output. `ReadFault` and `WriteFault` come only where a read or a write failed in this
 /// call, `ScriptTooLong` only where the source gave more than 268,435,456 bytes in this call. After
 /// each of them, and after `NoMemory`, `output` was extended by a front of the defined output. No
-/// more than one byte past 268,435,456 is read. A source that is sure never gives a `ReadFault`,
-/// and a sink gives a `WriteFault` only where it holds all that it was sure to hold.
+/// more than one byte past 268,435,456 is read, and none in a load. A source that is sure never
+/// gives a `ReadFault`, and a sink gives a `WriteFault` only where it holds all that it was sure to
+/// hold.
 /// The engine is a new one, for these handlers. After `Done` it stands for the whole script, and
 /// counted its commands. Each row that is made is one step: where the source tells its bytes, the
 /// steps are within the work of the commands of the script, whatever the status.
@@ -403,30 +443,49 @@ pub fn run<I: Source, O: Sink, L: Ledger>(
     requires fresh { engine.old.count ≡ 0 }
     requires handlers { engine.old.labels
         ≡ (labels handlers.now.items.items (λ h. h.name) (λ h. h.kind)) }
-    ensures usage { result ≡ Status.Usage ↔ ¬ IsRun words.now }
-    ensures untouched { result ≡ Status.Usage
-        → (input.new ≡ input.old) × (output.new ≡ output.old) × (engine.new ≡ engine.old) }
-    ensures ended { IsRun words.now
-        → Ended (language_of engine.old.labels) longest_line longest_script
+    ensures usage { result ≡ Status.Usage → form_of (texts_of words.now) ≡ None }
+    ensures no_form { IfNone (form_of (texts_of words.now))
+        ((result ≡ Status.Usage) ⊎ (result ≡ Status.NoMemory)) }
+    ensures untouched { IfNone (form_of (texts_of words.now))
+        ((input.new ≡ input.old) × (output.new ≡ output.old) × (engine.new ≡ engine.old)) }
+    ensures ended { IfSome (form_of (texts_of words.now)) (λ form.
+        EndedAs form (language_of engine.old.labels) longest_line longest_script
         (told (I.left input.old) (O.held output.old) (I.given input.old)
         (I.faults input.old) (O.faults output.old))
         (told (I.left input.new) (O.held output.new) (I.given input.new)
-        (I.faults input.new) (O.faults output.new)) result }
-    ensures stands { result ≡ Status.Done
-        → StandsForAll (language_of engine.old.labels) longest_line (I.left input.old) engine.new }
-    ensures work { IfSome (I.left input.old) (λ bytes. AreWithinWork
-        (language_of engine.old.labels) (script longest_line bytes) steps.old steps.new) }
+        (I.faults input.new) (O.faults output.new)) result) }
+    ensures unread { IfSome (form_of (texts_of words.now)) (λ form.
+        is_load form ≡ true → input.new ≡ input.old) }
+    ensures stands { IfSome (form_of (texts_of words.now)) (λ form. result ≡ Status.Done
+        → StandsAs form (language_of engine.old.labels) longest_line (I.left input.old)
+        engine.new) }
+    ensures work { IfSome (form_of (texts_of words.now)) (λ form.
+        WorksAs form (language_of engine.old.labels) longest_line (I.left input.old)
+        steps.old steps.new) }
     ensures within { I.given input.new ≤ I.given input.old + (longest_script + 1) }
     ensures sure_source { result ≡ Status.ReadFault → I.is_sure input.old ≡ true → ⊥ }
     ensures sure_sink { result ≡ Status.WriteFault
         → IsFull (O.sure output.old) (O.held output.new) }
 {
-    if !is_run(words) {
-        return Status::Usage;
+    match read_words(alloc, words) {
+        Ok(Form::Run) => serve(
+            alloc, None, input, output, handlers, engine, steps, MAX_SCRIPT, MAX_LINE,
+        ),
+        Ok(Form::Alone(name)) => serve(
+            alloc,
+            Some(name.as_bytes()),
+            input,
+            output,
+            handlers,
+            engine,
+            steps,
+            MAX_SCRIPT,
+            MAX_LINE,
+        ),
+        Ok(Form::Load(n)) => load(alloc, n, output, handlers, engine, steps, MAX_LINE),
+        Err(WordsError::Usage) => Status::Usage,
+        Err(WordsError::OutOfMemory) => Status::NoMemory,
     }
-    serve(
-        alloc, input, output, handlers, engine, steps, MAX_SCRIPT, MAX_LINE,
-    )
 }
 
 /// The exit code of a status: 0, 2, 3, 4, 5, 6 in the order of the statuses.

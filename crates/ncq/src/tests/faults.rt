@@ -1,11 +1,9 @@
-//! Reads and writes that fail, room that runs out, and words that fit no form.
+//! Reads and writes that fail, and room that runs out.
 
 use super::{
-    Outside, PUT_95, PUT_96, SOURCE, TOLD_95, TOLD_96, WATCH, calls_of, expect_bytes, expect_end,
-    in_pieces, joined, run_program,
+    Outside, PUT_95, PUT_96, SOURCE, TOLD_95, TOLD_96, WATCH, calls_of, expect_end, in_pieces,
+    joined,
 };
-use ncq_base::bytes_of;
-use ncq_outside::{Sink, Source, memory_sink, memory_source};
 use ncq_run::{Status, exit_code};
 use std::alloc::{AllocError, Global};
 use std::process::Abort;
@@ -122,43 +120,6 @@ fn room_that_runs_out_holds_a_front_of_the_output(rt: HostRuntime) -> Result<(),
         ..in_pieces(64)
     };
     expect_session(&rt, alloc, outside, Status::Done, &all)
-}
-
-/// Words that are not the one word `run`.
-const OTHER_WORDS: &[&[&str]] = &[
-    &[],
-    &["alone"],
-    &["load", "0"],
-    &["--help"],
-    &["run", "x"],
-    &["run", ""],
-    &["", "run"],
-    &["Run"],
-    &["run "],
-    &["ru"],
-    &[""],
-];
-
-fn refuse_words<I: Source, O: Sink>(rt: &impl Abort, alloc: Global, input: &mut I, output: &mut O) {
-    for words in OTHER_WORDS {
-        let status = run_program(alloc, words, input, output);
-        assert!(rt; status == Status::Usage);
-    }
-}
-
-/// Such words read and write nothing: the same source then gives its whole script.
-#[test]
-fn other_words_read_and_write_nothing(rt: HostRuntime) -> Result<(), Fail> {
-    let alloc = rt.alloc();
-    let none = calls_of(alloc, &[])?;
-    let mut input = memory_source(bytes_of(alloc, b"clock 0\n")?, 64, none);
-    let mut output = memory_sink(alloc, 64, calls_of(alloc, &[])?)?;
-    refuse_words(&rt, alloc, &mut input, &mut output);
-    assert!(rt; output.held().is_empty());
-    let status = run_program(alloc, &["run"], &mut input, &mut output);
-    assert!(rt; status == Status::Done);
-    expect_bytes(&rt, output.held(), b"1 ok\n", "");
-    Ok(())
 }
 
 #[test]

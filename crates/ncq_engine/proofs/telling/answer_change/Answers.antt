@@ -1,12 +1,12 @@
-use Rattle.std.proofs.Common.{◌≡◌, ◌∙◌, ◌++◌, List, ℕ, nat_lt, length, ap, subst, sym}
+use Rattle.std.proofs.Common.{◌≡◌, ◌∙◌, ◌++◌, List, ℕ, length, ap, subst, sym}
 use Rattle.std.specs.Prelude.{IsSome}
 use Rattle.std.specs.List.{flat_map, AllByRecursion}
-use Rattle.ncq_base.specs.Keys.{times}
 use Rattle.ncq_book.specs.Books.{BookState, member_of, watchers_of}
 use Rattle.ncq_callback.specs.Labels.{labels}
 use Rattle.ncq_event.specs.declared.firing.Firing.{Firing}
-use Rattle.ncq_engine.specs.declared.engine.Applied.{Applied}
-use Rattle.ncq_engine.specs.Tellings.{firing_text, started_at}
+use Rattle.ncq_engine.specs.declared.telling.Answered.{Answered}
+use Rattle.ncq_engine.specs.Tellings.{firing_name, firing_text, started_at}
+use Rattle.ncq_engine.specs.Spans.{spans_of}
 use Rattle.ncq_engine.proofs.BookLaws.{started_there}
 use Rattle.ncq_engine.proofs.telling.answer_change.Goals as goal
 
@@ -27,9 +27,10 @@ returns g c =
     let text : Firing → List ℕ = firing_text (labels c.args.handlers.now.items.items (λ h. h.name) (λ h. h.kind)) c.args.store.now roll.table.files roll.members in
     record {
       told = record {
-        written = c.in_ok-notices.ensures.text ∙ (λ i. c.in_ok-applied.ensures.text i ++ flat_map text (firings i));
-        from = ap (λ (a : Applied). a.from) c.with.ensures ∙ ap (λ (a : Applied). a.from) c.in_ok-applied.ensures.places ∙ ap length c.in_ok-applied.ensures.text;
-        to = ap (λ (a : Applied). a.to) c.with.ensures;
-        notices = ap (λ (a : Applied). a.notices) c.with.ensures ∙ c.in_ok-notices.ensures.notices ∙ ap (times (λ (f : Firing). nat_lt 0 (length (text f)))) firings;
+        written = c.in_ok-spans.ensures.text ∙ (λ i. c.in_ok-answered.ensures.text i ++ flat_map text (firings i));
+        from = ap (λ (a : Answered). a.from) c.with.ensures ∙ ap (λ (a : Answered). a.from) c.in_ok-answered.ensures.places ∙ ap length c.in_ok-answered.ensures.text;
+        to = ap (λ (a : Answered). a.to) c.with.ensures;
+        spans = ap (λ (a : Answered). a.spans) c.with.ensures ∙ c.in_ok-spans.ensures.spans
+            ∙ (λ i. spans_of (firing_name roll.members) text (length (c.in_ok-answered.ensures.text i)) (firings i));
       };
     }

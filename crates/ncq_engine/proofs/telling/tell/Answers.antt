@@ -1,8 +1,7 @@
-use Rattle.std.proofs.Common.{◌≡◌, ◌++◌, ◌∷◌, [], List, ℕ, nat_lt, length, take, get_or, ◌+◌, ◌<◌, ◌≤◌, arith, rules, sym, subst, ◌∙◌, ap}
-use Rattle.std.specs.Prelude.{Some, IsSome, if◌then◌else◌}
+use Rattle.std.proofs.Common.{◌≡◌, ◌++◌, ◌∷◌, [], List, ℕ, length, take, get_or, ◌+◌, ◌<◌, ◌≤◌, arith, sym, subst, ◌∙◌, ap, length-append}
+use Rattle.std.specs.Prelude.{Some, IsSome}
 use Rattle.std.specs.List.{flat_map}
 use Rattle.std.proofs.lemmas.List.{take_more, take_all}
-use Rattle.ncq_base.specs.Keys.{times}
 use Rattle.ncq_book.specs.declared.member.Member.{Member}
 use Rattle.ncq_book.specs.Books.{BookState, member_of}
 use Rattle.ncq_callback.specs.Labels.{Label, labels}
@@ -10,8 +9,9 @@ use Rattle.ncq_event.specs.declared.firing.Firing.{Firing}
 use Rattle.ncq_group.specs.Tables.{TableState}
 use Rattle.ncq_shelf.specs.KeptFiles.{Files}
 use Rattle.ncq_engine.specs.Engines.{CanTell, told_text}
-use Rattle.ncq_engine.specs.Tellings.{firing_text}
-use Rattle.ncq_engine.proofs.TellingLoops.{at_most_one, counted, each_here, found_has, longer, not_missing, text_found, text_on, times_on}
+use Rattle.ncq_engine.specs.Spans.{span_of, spans_of}
+use Rattle.ncq_engine.specs.Tellings.{firing_name, firing_text}
+use Rattle.ncq_engine.proofs.TellingLoops.{each_here, found_has, name_found, not_missing, spans_on, text_found, text_on}
 use Rattle.ncq_engine.proofs.telling.tell.Goals as goal
 
 pub unreachable-requires : goal.unreachable-requires
@@ -29,13 +29,6 @@ fire-requires g c =
       can = subst (λ (t : TableState). CanTell all c.args.store.now t c.in-Some.member.now) (sym c.groups.ensures)
           (found_has (CanTell all c.args.store.now c.args.roll.now.table) item.install c.args.roll.now.members c.in-Some.member.now c.requires.can found);
     }
-
-pub overflow_add-notices : goal.overflow_add-notices
-overflow_add-notices g c =
-    let here : c.loop-firing.firing-index < length c.args.firings.now = c.loop-firing-test.true in
-    let few = counted _ c.args.firings.now c.loop-firing.firing-index c.loop-firing.notices c.loop-firing.invariant.notices (omega (arith, here)) in
-    let small = at_most_one _ c.one_if_longer-notices.result c.one_if_longer-notices.ensures in
-    omega (arith, few, here, small)
 
 pub loop-firing-preserved : goal.loop-firing-preserved
 loop-firing-preserved g c =
@@ -55,13 +48,13 @@ loop-firing-preserved g c =
     let before : List ℕ = c.loop-firing.out.items in
     let after : List ℕ = c.fire.new.out.items in
     let written : after ≡ before ++ firing_text all store files members item = c.in_ok-fire.ensures.text ∙ ap (λ (l : List ℕ). before ++ l) text in
-    let long : c.len-before.result ≡ length before = search rules in
+    let name : m.name ≡ firing_name members item = name_found members item m found in
+    let placed : c.fire.new.spans ≡ c.loop-firing.spans ++ span_of (firing_name members item) (length before) (firing_text all store files members item) =
+    c.in_ok-fire.ensures.span ∙ (λ i. c.loop-firing.spans ++ span_of (name i) (length before) (text i)) in
     record {
       text = text_on firings at item one (firing_text all store files members) c.args.out.now.items before after c.loop-firing.invariant.text written;
-      notices = times_on firings at item one (λ f. nat_lt 0 (length (firing_text all store files members f))) c.loop-firing.notices (c.loop-firing.notices + c.one_if_longer-notices.result) c.loop-firing.invariant.notices
-          (ap (λ (n : ℕ). c.loop-firing.notices + n)
-          (c.one_if_longer-notices.ensures ∙ (λ i. if nat_lt (long i) (length after) then 1 else 0)
-          ∙ (λ i. if longer before (firing_text all store files members item) after written i then 1 else 0)));
+      spans = spans_on firings at item one (firing_name members) (firing_text all store files members) (length c.args.out.now.items) (length before) c.loop-firing.spans c.fire.new.spans c.loop-firing.invariant.spans
+          (ap length c.loop-firing.invariant.text ∙ length-append c.args.out.now.items (flat_map (firing_text all store files members) (take at firings))) placed;
     }
 
 pub returns-clause-text : goal.returns-clause-text
@@ -71,9 +64,10 @@ returns-clause-text g c =
     ∙ ap (λ (fs : List Firing). c.args.out.now.items ++ flat_map (firing_text (labels c.args.handlers.now.items.items (λ h. h.name) (λ h. h.kind)) c.args.store.now c.args.roll.now.table.files c.args.roll.now.members) fs)
     (take_all c.loop-firing.firing-index c.args.firings.now past)
 
-pub returns-clause-notices : goal.returns-clause-notices
-returns-clause-notices g c =
+pub returns-clause-spans : goal.returns-clause-spans
+returns-clause-spans g c =
     let past : length c.args.firings.now ≤ c.loop-firing.firing-index = omega (arith, c.loop-firing-test.false) in
-    c.loop-firing.invariant.notices
-    ∙ ap (times (λ f. nat_lt 0 (length (firing_text (labels c.args.handlers.now.items.items (λ h. h.name) (λ h. h.kind)) c.args.store.now c.args.roll.now.table.files c.args.roll.now.members f))))
+    let all : List Label = labels c.args.handlers.now.items.items (λ h. h.name) (λ h. h.kind) in
+    c.loop-firing.invariant.spans
+    ∙ ap (spans_of (firing_name c.args.roll.now.members) (firing_text all c.args.store.now c.args.roll.now.table.files c.args.roll.now.members) (length c.args.out.now.items))
     (take_all c.loop-firing.firing-index c.args.firings.now past)

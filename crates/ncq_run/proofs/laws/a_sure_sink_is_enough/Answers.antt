@@ -1,5 +1,5 @@
-use Rattle.ncq_run.proofs.EndLaws.{enough}
+use Rattle.ncq_run.proofs.EndLaws.{enough_as}
 use Rattle.ncq_run.proofs.laws.a_sure_sink_is_enough.Goals as goal
 
 pub returns : goal.returns
-returns c = enough
+returns c = enough_as

@@ -6,16 +6,16 @@ use Rattle.ncq_run.proofs.session.answer_rest.Goals as goal
 
 pub returns-clause-written : goal.returns-clause-written
 returns-clause-written g c = on_ok_weaker c.answer_commands.result
-    (λ h pushed f counted stands before was. rest_written _ _ _ _ _ _ pushed _ counted was
+    (λ h pushed f counted stands before was. rest_written _ _ _ _ _ _ _ pushed _ counted was
     (known_closed _ _ _ pushed c.finish.ensures.limit c.finish.ensures.closed) (h _ _ (c.finish.ensures.follows pushed _ f) stands).0)
     c.answer_commands.ensures.written
 
 pub returns-clause-no_memory : goal.returns-clause-no_memory
-returns-clause-no_memory g c failed pushed f counted stands before was = rest_prefix _ _ _ _ _ _ pushed _ counted was
+returns-clause-no_memory g c failed pushed f counted stands before was = rest_prefix _ _ _ _ _ _ _ pushed _ counted was
     (known_closed _ _ _ pushed c.finish.ensures.limit c.finish.ensures.closed) (c.answer_commands.ensures.no_memory failed _ _ (c.finish.ensures.follows pushed _ f) stands)
 
 pub returns-clause-write : goal.returns-clause-write
-returns-clause-write g c failed pushed f counted stands before was = rest_proper _ _ _ _ _ _ pushed _ counted was
+returns-clause-write g c failed pushed f counted stands before was = rest_proper _ _ _ _ _ _ _ pushed _ counted was
     (known_closed _ _ _ pushed c.finish.ensures.limit c.finish.ensures.closed) (c.answer_commands.ensures.write failed _ _ (c.finish.ensures.follows pushed _ f) stands)
 
 pub returns-clause-stands : goal.returns-clause-stands
