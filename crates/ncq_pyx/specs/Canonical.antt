@@ -2,6 +2,7 @@
 use Rattle.std.specs.Prelude.{ℕ, ◌+◌, Bool, true, ◌&&◌, not, max, List, [], ◌∷◌, ◌++◌, map}
 use Rattle.std.specs.List.{flat_map, list_all}
 use Rattle.ncq_tree.specs.declared.model.Attribute.{Attribute}
+use Rattle.ncq_tree.specs.declared.model.Element.{Element}
 use Rattle.ncq_tree.specs.declared.model.Node.{Node}
 use Rattle.ncq_tree.specs.declared.model.Node.TheVariants.{Element as element_node}
 use Rattle.ncq_pyx.specs.declared.item.Item.{Item}
@@ -10,7 +11,7 @@ use Rattle.ncq_tree.specs.Nodes.{by_nodes}
 pub use Rattle.ncq_base.specs.Lines.{ended, text_of as bytes_of_lines}
 use Rattle.ncq_base.specs.Escapes.{escaped}
 use Rattle.ncq_base.specs.Names.{is_pyx_name}
-use Rattle.ncq_tree.specs.Normal.{has_name, is_normal, node_is_normal}
+use Rattle.ncq_tree.specs.Normal.{has_name, is_normal, node_is_normal, whole_normal}
 
 -- `A`, the name, one space and the escaped value
 abbrev pub attribute_line : Attribute → List ℕ
@@ -37,6 +38,10 @@ canonical forest = flat_map node_lines forest
 -- the canonical bytes of a forest
 abbrev pub pyx : List Node → List ℕ
 pyx forest = bytes_of_lines (canonical forest)
+
+-- the canonical bytes of the normal form of an element
+abbrev pub written_lines : Element → List ℕ
+written_lines e = bytes_of_lines (node_lines (element_node (whole_normal e)))
 
 -- attribute names that are PYX names, and none twice
 abbrev pub are_good : List Attribute → List Attribute → Bool

@@ -15,6 +15,7 @@ mod tag;
 mod tests;
 mod turns;
 mod writing;
+mod written;
 
 pub use error::PyxError;
 pub use item::{Item, Items};
@@ -24,3 +25,4 @@ pub use laws::{
 };
 pub use reader::{MAX_NESTING, read_block};
 pub use writing::{write_attributes, write_element, write_forest, write_name, write_text};
+pub use written::Written;
