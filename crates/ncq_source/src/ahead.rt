@@ -7,7 +7,7 @@ ghost use Rattle.ncq_source.specs.Held.{map_of, with_at};
 use crate::elements::Elements;
 use indexmap::IndexMap;
 use ncq_base::{Bytes, Shared};
-use ncq_tree::Element;
+use ncq_pyx::Written;
 use std::alloc::{AllocError, Global};
 use std::hash::RandomState;
 use std::marker::Model;
@@ -16,7 +16,7 @@ use std::marker::Model;
 #[derive(Drop)]
 pub(crate) struct Ahead<'a> {
     elements: &'a Elements,
-    changed: IndexMap<Bytes, Option<Shared<Element>>, RandomState>,
+    changed: IndexMap<Bytes, Option<Shared<Written>>, RandomState>,
 }
 
 impl<'a> Model for Ahead<'a> {
@@ -41,7 +41,7 @@ impl<'a> Ahead<'a> {
     }
 
     /// The element under the key after the items so far.
-    pub(crate) fn get(&self, key: &Bytes) -> Option<&Shared<Element>>
+    pub(crate) fn get(&self, key: &Bytes) -> Option<&Shared<Written>>
         ensures { option_copied result ≡ get self.now key.now }
     {
         if self.changed.is_empty() {
@@ -57,7 +57,7 @@ impl<'a> Ahead<'a> {
     pub(crate) fn set(
         &mut self,
         key: Bytes,
-        after: Option<Shared<Element>>,
+        after: Option<Shared<Written>>,
     ) -> Result<(), AllocError>
         ensures ok { OnOk result (self.new ≡ with_at self.old key after) }
         ensures err { OnErr result (self.new ≡ self.old) }

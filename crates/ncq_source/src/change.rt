@@ -2,7 +2,7 @@
 ghost use Rattle.std.specs.Prelude.{◌≡◌};
 
 use ncq_base::{Bytes, Sequence, Shared};
-use ncq_tree::Element;
+use ncq_pyx::Written;
 use std::alloc::{AllocError, Global};
 use std::marker::Model;
 use thiserror::Error;
@@ -14,8 +14,8 @@ use thiserror::Error;
 #[derive(Drop)]
 pub struct Entry {
     pub key: Bytes,
-    pub before: Option<Shared<Element>>,
-    pub after: Option<Shared<Element>>,
+    pub before: Option<Shared<Written>>,
+    pub after: Option<Shared<Written>>,
 }
 
 /// The entries of a change, in the order of its items.

@@ -12,7 +12,7 @@ ghost use Rattle.ncq_source.specs.Held.{map_of, with_at};
 use crate::change::{Entries, Entry};
 use indexmap::IndexMap;
 use ncq_base::{Bytes, Shared};
-use ncq_tree::Element;
+use ncq_pyx::Written;
 use std::alloc::{AllocError, Global};
 use std::hash::RandomState;
 use std::marker::Model;
@@ -20,7 +20,7 @@ use std::marker::Model;
 /// Elements by their keys, in an order of its own, with room for some more.
 #[derive(Drop)]
 pub(crate) struct Elements {
-    elements: IndexMap<Bytes, Shared<Element>, RandomState>,
+    elements: IndexMap<Bytes, Shared<Written>, RandomState>,
 }
 
 impl Model for Elements {
@@ -58,18 +58,18 @@ impl Elements {
     }
 
     /// The element at a place in the order of the map.
-    pub(crate) fn at(&self, at: usize) -> &Element
+    pub(crate) fn at(&self, at: usize) -> &Shared<Written>
         requires { at < length self.now.pairs }
         ensures { slice_get (map (λ p. p.1) self.now.pairs) at ≡ Some result.now }
     {
         match self.elements.get_index(at) {
-            Some((_, element)) => element.get(),
+            Some((_, element)) => element,
             None => unreachable!(),
         }
     }
 
     /// The element under the key.
-    pub(crate) fn get(&self, key: &Bytes) -> Option<&Shared<Element>>
+    pub(crate) fn get(&self, key: &Bytes) -> Option<&Shared<Written>>
         ensures { option_copied result ≡ get (map_of self.now.pairs) key.now }
     {
         self.elements.get(key)
@@ -84,7 +84,7 @@ impl Elements {
     }
 
     /// Puts the element under the key, or with none takes away what is there.
-    pub(crate) fn set(&mut self, key: Bytes, element: Option<Shared<Element>>)
+    pub(crate) fn set(&mut self, key: Bytes, element: Option<Shared<Written>>)
         requires { 0 < self.old.room }
         ensures pairs { map_of self.new.pairs ≡ with_at (map_of self.old.pairs) key element }
         ensures room { self.old.room ≤ self.new.room + 1 }
@@ -106,7 +106,7 @@ impl Elements {
         }
     }
 
-    fn put(&mut self, key: Bytes, element: Shared<Element>)
+    fn put(&mut self, key: Bytes, element: Shared<Written>)
         requires { 0 < self.old.room }
         ensures pairs { map_of self.new.pairs ≡ insert (map_of self.old.pairs) key element }
         ensures room { self.old.room ≤ self.new.room + 1 }

@@ -11,7 +11,7 @@ use crate::change::{ChangeError, Entries, Entry};
 use crate::elements::Elements;
 use crate::key::{Key, key_of};
 use ncq_base::{Bytes, Copied, Shared};
-use ncq_pyx::{Item, Items};
+use ncq_pyx::{Item, Items, Written};
 use ncq_tree::Element;
 use std::alloc::{AllocError, Global};
 
@@ -69,7 +69,7 @@ fn put_entry(
         return Err(ChangeError::BadKey { position });
     };
     let before = shared(ahead.get(&key))?;
-    let after = Shared::new(alloc, element)?;
+    let after = Shared::new(alloc, Written::new(alloc, element)?)?;
     Ok(Entry {
         key,
         before,
@@ -111,7 +111,7 @@ fn note(
 }
 
 /// One more owner of the element, where there is one.
-fn shared(element: Option<&Shared<Element>>) -> Result<Option<Shared<Element>>, AllocError>
+fn shared(element: Option<&Shared<Written>>) -> Result<Option<Shared<Written>>, AllocError>
     ensures { IfOk result (λ s. s ≡ option_copied element.entry) }
 {
     match element {

@@ -19,8 +19,8 @@ use crate::elements::Elements;
 use crate::key::{Key, key_of};
 use crate::names::Names;
 use crate::prepare::prepare;
-use ncq_base::Bytes;
-use ncq_pyx::Items;
+use ncq_base::{Bytes, Shared};
+use ncq_pyx::{Items, Written};
 use ncq_tree::Element;
 use std::alloc::{AllocError, Global};
 use std::hash::RandomState;
@@ -201,6 +201,17 @@ impl Store {
     /// less 1 each element is shown once. A commit may change the order. Where all elements of the
     /// store are proper, it is proper.
     pub fn element(&self, id: SourceId, at: usize) -> &Element
+        requires id { IsDeclared self.now id }
+        requires at { At self.now id (λ s. at < length s.shown) }
+        ensures place { At self.now id (λ s.
+            slice_get (map (λ p. p.1) s.shown) at ≡ Some result.now) }
+        ensures proper { IsProperStore self.now → IsProper result.now }
+    {
+        self.written(id, at).get().element()
+    }
+
+    /// The element that `element` gives, with its canonical lines, to be shared.
+    pub fn written(&self, id: SourceId, at: usize) -> &Shared<Written>
         requires id { IsDeclared self.now id }
         requires at { At self.now id (λ s. at < length s.shown) }
         ensures place { At self.now id (λ s.

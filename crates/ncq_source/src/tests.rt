@@ -3,7 +3,7 @@ ghost use Rattle.ncq_source.specs.StoreStates.{IsDeclared};
 
 use crate::{Change, ChangeError, DeclareError, Entry, Key, SourceId, Store, child_value, key_of};
 use ncq_base::{Bytes, Lines, Shared, bytes_of, is_line};
-use ncq_pyx::{Item, Items, read_block, write_element};
+use ncq_pyx::{Item, Items, Written, read_block, write_element};
 use ncq_tree::{Attribute, Attributes, Element, Forest, Node, string_value};
 use std::alloc::{AllocError, Global};
 use std::hash::RandomState;
@@ -353,7 +353,7 @@ fn sources_have_a_name_a_root_and_a_last_change(rt: HostRuntime) -> Result<(), F
     Ok(())
 }
 
-/// The canonical lines of the elements of the source.
+/// The canonical lines of the elements of the source, written anew.
 fn lines_of(alloc: Global, store: &Store, name: &str) -> Result<Vec<u8>, AllocError> {
     let mut out = Vec::new(alloc);
     if let Some(id) = store.find(name.as_bytes()) {
@@ -364,10 +364,22 @@ fn lines_of(alloc: Global, store: &Store, name: &str) -> Result<Vec<u8>, AllocEr
     Ok(out)
 }
 
-/// Whether the elements of the source have these canonical lines.
+/// The canonical lines that the elements of the source were written as.
+fn kept_lines_of(alloc: Global, store: &Store, name: &str) -> Result<Vec<u8>, AllocError> {
+    let mut out = Vec::new(alloc);
+    if let Some(id) = store.find(name.as_bytes()) {
+        for at in 0..store.size(id) {
+            out.extend_from_slice(store.written(id, at).get().lines())?;
+        }
+    }
+    Ok(out)
+}
+
+/// Whether the elements of the source have these canonical lines, kept and written anew.
 fn has_lines(alloc: Global, store: &Store, name: &str, want: &str) -> Result<bool, AllocError> {
     let lines = lines_of(alloc, store, name)?;
-    Ok(lines.as_slice() == want.as_bytes())
+    let kept = kept_lines_of(alloc, store, name)?;
+    Ok(lines.as_slice() == want.as_bytes() && kept.as_slice() == want.as_bytes())
 }
 
 fn expect_put(rt: &impl Abort, alloc: Global, store: &mut Store) -> Result<(), AllocError> {
@@ -392,9 +404,9 @@ const SEEN: (&str, &[(&str, &str)]) = (
 );
 
 /// The string value of an element, or a bar where there is none.
-fn value_of(alloc: Global, element: Option<&Shared<Element>>) -> Result<Bytes, AllocError> {
+fn value_of(alloc: Global, element: Option<&Shared<Written>>) -> Result<Bytes, AllocError> {
     match element {
-        Some(element) => string_value(alloc, &element.get().children),
+        Some(element) => string_value(alloc, &element.get().element().children),
         None => bytes_of(alloc, b"|"),
     }
 }
@@ -402,7 +414,7 @@ fn value_of(alloc: Global, element: Option<&Shared<Element>>) -> Result<Bytes, A
 /// Whether this is the string value of an element, or a bar where there is none.
 fn has_value(
     alloc: Global,
-    element: Option<&Shared<Element>>,
+    element: Option<&Shared<Written>>,
     want: &str,
 ) -> Result<bool, AllocError> {
     let value = value_of(alloc, element)?;

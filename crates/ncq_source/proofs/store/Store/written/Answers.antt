@@ -1,7 +1,7 @@
 use Rattle.std.proofs.Common.{◌<◌, length, arith}
 use Rattle.ncq_source.specs.Views.{source_of}
 use Rattle.ncq_source.proofs.Shown.{shows_proper}
-use Rattle.ncq_source.proofs.store.Store.element.Goals as goal
+use Rattle.ncq_source.proofs.store.Store.written.Goals as goal
 
 pub prove-unreachable-requires : goal.prove-unreachable-requires
 prove-unreachable-requires c =
