@@ -6,20 +6,23 @@ ghost use Rattle.std.specs.Prelude.{◌≡◌, ◌++◌, [], ◌∷◌, ◌+◌,
 ghost use Rattle.std.specs.Prelude.{IfOk, OnOk, OnErr};
 ghost use Rattle.std.specs.List.{flat_map};
 ghost use Rattle.std.specs.Option.{option_to_list};
-ghost use Rattle.ncq_tree.specs.declared.model.Node.TheVariants.{Element as element_node};
 ghost use Rattle.ncq_row.specs.Embeddings.{paired, one_of_each, reached_at};
 ghost use Rattle.ncq_row.specs.Embeddings.{attribute_rows, suffix_rows, content_rows};
 ghost use Rattle.ncq_row.specs.Embeddings.{rows_at, rows_among, rows_of};
 ghost use Rattle.ncq_row.specs.Found.{option_rows};
+ghost use Rattle.ncq_row.specs.Subjects.{element_of};
 
 use crate::attributes::attribute_values;
 use crate::lookahead::are_found;
+use crate::nodes::Nodes;
 use crate::product::{append_found, followed, only, paired, preceded, row_of};
 use crate::row::{Row, Rows};
 use crate::shape::{Shape, ShapeContent, ShapeSuffix};
+use crate::subject::Subject;
 use crate::value::Value;
-use ncq_base::{Copied, Steps};
-use ncq_tree::{Element, Forest, Node, copy_forest};
+use ncq_base::{Shared, Steps};
+use ncq_pyx::Written;
+use ncq_tree::{Element, Node};
 use std::alloc::{AllocError, Global};
 use std::sync::ledger::Ledger;
 
@@ -38,7 +41,41 @@ pub fn match_shape<L: Ledger>(
     ensures counted { OnOk result (steps.new ≡ steps.old + length (rows_of shape.now element.now)) }
     ensures cost { steps.new ≤ steps.old + length (rows_of shape.now element.now) }
 {
-    let found = found_in(alloc, shape, element)?;
+    match_subject(alloc, shape, Subject::Lone(element), rows, steps)
+}
+
+/// The same for an element that is shared: where the suffix of the shape takes the whole element,
+/// the rows share it.
+pub fn match_written<L: Ledger>(
+    alloc: Global,
+    shape: &Shape,
+    element: &Shared<Written>,
+    rows: &mut Rows,
+    steps: &mut Steps<L>,
+) -> Result<(), AllocError>
+    ensures ok { OnOk result (rows.new ≡ rows.old ++ rows_of shape.now element.now) }
+    ensures err { OnErr result (rows.new ≡ rows.old) }
+    ensures counted { OnOk result (steps.new ≡ steps.old + length (rows_of shape.now element.now)) }
+    ensures cost { steps.new ≤ steps.old + length (rows_of shape.now element.now) }
+{
+    match_subject(alloc, shape, Subject::Shared(element), rows, steps)
+}
+
+/// Appends the rows of the shape in the subject, and counts them.
+fn match_subject<L: Ledger>(
+    alloc: Global,
+    shape: &Shape,
+    subject: Subject<'_>,
+    rows: &mut Rows,
+    steps: &mut Steps<L>,
+) -> Result<(), AllocError>
+    ensures ok { OnOk result (rows.new ≡ rows.old ++ rows_of shape.now (element_of subject.entry)) }
+    ensures err { OnErr result (rows.new ≡ rows.old) }
+    ensures counted { OnOk result (steps.new
+        ≡ steps.old + length (rows_of shape.now (element_of subject.entry))) }
+    ensures cost { steps.new ≤ steps.old + length (rows_of shape.now (element_of subject.entry)) }
+{
+    let found = found_in(alloc, shape, subject)?;
     let made = found.len();
     append_found(rows, found)?;
     count(made, steps);
@@ -54,23 +91,24 @@ fn count<L: Ledger>(made: usize, steps: &mut Steps<L>)
     }
 }
 
-/// What the shape gives in the element.
+/// What the shape gives in the subject.
 #[tactic(auto, using(crate::proofs::CallerLemmas::rows_are))]
-fn found_in(alloc: Global, shape: &Shape, element: &Element) -> Result<Rows, AllocError>
-    ensures { IfOk result (λ rows. rows ≡ rows_of shape.now element.now) }
+fn found_in(alloc: Global, shape: &Shape, subject: Subject<'_>) -> Result<Rows, AllocError>
+    ensures { IfOk result (λ rows. rows ≡ rows_of shape.now (element_of subject.entry)) }
 {
-    if element.name != shape.tag {
+    if subject.element().name != shape.tag {
         return Ok(Rows::new(alloc));
     }
-    found_at(alloc, shape, element)
+    found_at(alloc, shape, subject)
 }
 
-/// What the shape gives at this element, whatever the element's name is.
+/// What the shape gives at this subject, whatever the element's name is.
 #[cycle(matching)]
 #[tactic(auto, using(crate::proofs::CallerLemmas::rows_are))]
-fn found_at(alloc: Global, shape: &Shape, element: &Element) -> Result<Rows, AllocError>
-    ensures { IfOk result (λ rows. rows ≡ rows_at shape.now element.now) }
+fn found_at(alloc: Global, shape: &Shape, subject: Subject<'_>) -> Result<Rows, AllocError>
+    ensures { IfOk result (λ rows. rows ≡ rows_at shape.now (element_of subject.entry)) }
 {
+    let element = subject.element();
     let Some(front) = attribute_values(
         alloc,
         shape.attributes.as_slice(),
@@ -80,7 +118,7 @@ fn found_at(alloc: Global, shape: &Shape, element: &Element) -> Result<Rows, All
         return Ok(Rows::new(alloc));
     };
     let content = found_in_content(alloc, &shape.content, element)?;
-    surrounded(alloc, front, content, shape.suffix, element)
+    surrounded(alloc, front, content, shape.suffix, subject)
 }
 
 /// The rows between the values of the attributes and that of the suffix.
@@ -89,15 +127,15 @@ fn surrounded(
     front: Row,
     content: Rows,
     suffix: ShapeSuffix,
-    element: &Element,
+    subject: Subject<'_>,
 ) -> Result<Rows, AllocError>
-    ensures { IfOk result (λ rows.
-        rows ≡ paired (front ∷ []) (paired content (suffix_rows suffix element.now))) }
+    ensures { IfOk result (λ rows. rows
+        ≡ paired (front ∷ []) (paired content (suffix_rows suffix (element_of subject.entry)))) }
 {
     if content.len() == 0 {
         return Ok(content);
     }
-    let behind = suffix_value(alloc, suffix, element)?;
+    let behind = suffix_value(alloc, suffix, subject)?;
     let rows = followed(alloc, content, behind)?;
     preceded(alloc, front, rows)
 }
@@ -167,7 +205,7 @@ fn add_found(alloc: Global, shape: &Shape, node: &Node, all: &mut Rows) -> Resul
             if element.name != shape.tag {
                 return Ok(());
             }
-            append_found(all, found_at(alloc, shape, element)?)
+            append_found(all, found_at(alloc, shape, Subject::Lone(element))?)
         }
     }
 }
@@ -176,30 +214,21 @@ fn add_found(alloc: Global, shape: &Shape, node: &Node, all: &mut Rows) -> Resul
 fn suffix_value(
     alloc: Global,
     suffix: ShapeSuffix,
-    element: &Element,
+    subject: Subject<'_>,
 ) -> Result<Option<Value>, AllocError>
     ensures { IfOk result (λ value.
-        option_to_list value ∷ [] ≡ suffix_rows suffix element.now) }
+        option_to_list value ∷ [] ≡ suffix_rows suffix (element_of subject.entry)) }
 {
     match suffix {
         ShapeSuffix::Plain => Ok(None),
-        ShapeSuffix::Element => Ok(Some(whole(alloc, element)?)),
-        ShapeSuffix::Content => Ok(Some(children_of(alloc, element)?)),
+        ShapeSuffix::Element => Ok(Some(Value::Nodes(subject.whole(alloc)?))),
+        ShapeSuffix::Content => Ok(Some(children_of(alloc, subject.element())?)),
     }
-}
-
-/// The element alone.
-fn whole(alloc: Global, element: &Element) -> Result<Value, AllocError>
-    ensures { IfOk result (λ value. value ≡ Value.Nodes (element_node element.now ∷ [])) }
-{
-    let mut forest = Forest::with_capacity(alloc, 1)?;
-    forest.push(Node::Element(element.copy(alloc)?))?;
-    Ok(Value::Nodes(forest))
 }
 
 /// The children of the element.
 fn children_of(alloc: Global, element: &Element) -> Result<Value, AllocError>
     ensures { IfOk result (λ value. value ≡ Value.Nodes element.now.children) }
 {
-    Ok(Value::Nodes(copy_forest(alloc, &element.children)?))
+    Ok(Value::Nodes(Nodes::of_children(alloc, element)?))
 }

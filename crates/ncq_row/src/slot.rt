@@ -4,9 +4,9 @@ ghost use Rattle.ncq_base.specs.Atoms.{atom_of};
 ghost use Rattle.ncq_tree.specs.Texts.{string_value};
 ghost use Rattle.ncq_row.specs.Values.{value_atom};
 
+use crate::nodes::{Nodes, Shown};
 use crate::value::{Value, is_same_value};
 use ncq_base::{Atom, atom_of, into_atom};
-use ncq_tree::{Forest, Node, string_value};
 use std::alloc::{AllocError, Global};
 use std::hash::{Hash, Hasher};
 use std::marker::Model;
@@ -40,7 +40,7 @@ impl Slot {
     {
         let atom = match &value {
             Value::Text(text) => atom_of(alloc, text.as_slice())?,
-            Value::Nodes(forest) => atom_of_nodes(alloc, forest)?,
+            Value::Nodes(nodes) => atom_of_nodes(alloc, nodes)?,
         };
         Ok(Slot { value, atom })
     }
@@ -65,16 +65,14 @@ impl Slot {
 }
 
 /// The atom of the string value. One text, as most often, is its own string value.
-fn atom_of_nodes(alloc: Global, forest: &Forest) -> Result<Atom, AllocError>
-    ensures { IfOk result (λ a. a ≡ atom_of (string_value forest.now)) }
+#[tactic(auto, using(crate::proofs::NodesLaws::string_is))]
+fn atom_of_nodes(alloc: Global, nodes: &Nodes) -> Result<Atom, AllocError>
+    ensures { IfOk result (λ a. a ≡ atom_of (string_value nodes.now)) }
 {
-    let nodes = forest.as_slice();
-    if nodes.len() == 1 {
-        if let Node::Text(text) = &nodes[0] {
-            return atom_of(alloc, text.as_slice());
-        }
+    match nodes.shown() {
+        Shown::Text(text) => atom_of(alloc, text.as_slice()),
+        _ => Ok(into_atom(nodes.string_value(alloc)?)),
     }
-    Ok(into_atom(string_value(alloc, forest)?))
 }
 
 impl PartialEq for Slot {

@@ -11,9 +11,11 @@ ghost use Rattle.std.specs.Prelude.{◌≡◌, ◌<◌};
 
 use crate::places::width_of;
 use crate::{
-    Names, Row, Rows, Shape, ShapeContent, ShapeSuffix, Shapes, Value, match_shape, width,
+    Names, Nodes, Row, Rows, Shape, ShapeContent, ShapeSuffix, Shapes, Shown, Value, match_shape,
+    match_written, width,
 };
-use ncq_base::{Copied, Steps, atom_of, bytes_of, same};
+use ncq_base::{Copied, Shared, Steps, atom_of, bytes_of, same};
+use ncq_pyx::Written;
 use ncq_tree::{Attribute, Attributes, Element, Forest, Node};
 use std::alloc::{AllocError, Global};
 use std::marker::Brand;
@@ -132,18 +134,24 @@ fn shape(alloc: Global, letters: &str) -> Result<Shape, AllocError> {
     }
 }
 
+#[cycle(showing)]
 fn show_nodes(nodes: &[Node], out: &mut Vec<u8>) -> Result<(), AllocError> {
     for node in nodes {
         match node {
             Node::Text(text) => out.extend_from_slice(text.as_slice())?,
-            Node::Element(element) => {
-                out.extend_from_slice(element.name.as_slice())?;
-                out.push(b'(')?;
-                show_nodes(element.children.as_slice(), out)?;
-                out.push(b')')?;
-            }
+            Node::Element(element) => show_element(element, out)?,
         }
     }
+    Ok(())
+}
+
+/// The name and the children of the element.
+#[cycle(showing)]
+fn show_element(element: &Element, out: &mut Vec<u8>) -> Result<(), AllocError> {
+    out.extend_from_slice(element.name.as_slice())?;
+    out.push(b'(')?;
+    show_nodes(element.children.as_slice(), out)?;
+    out.push(b')')?;
     Ok(())
 }
 
@@ -154,13 +162,22 @@ fn show_value(value: &Value, out: &mut Vec<u8>) -> Result<(), AllocError> {
             out.extend_from_slice(text.as_slice())?;
             out.push(b'"')?;
         }
-        Value::Nodes(forest) => {
+        Value::Nodes(nodes) => {
             out.push(b'[')?;
-            show_nodes(forest.as_slice(), out)?;
+            show_kept(nodes.shown(), out)?;
             out.push(b']')?;
         }
     }
     Ok(())
+}
+
+/// The nodes, as they are kept.
+fn show_kept(shown: Shown<'_>, out: &mut Vec<u8>) -> Result<(), AllocError> {
+    match shown {
+        Shown::Forest(forest) => show_nodes(forest.as_slice(), out),
+        Shown::Text(text) => out.extend_from_slice(text.as_slice()),
+        Shown::Element(written) => show_element(written.element(), out),
+    }
 }
 
 /// The values of the row, and a semicolon.
@@ -172,13 +189,13 @@ fn show_row(row: &Row, out: &mut Vec<u8>) -> Result<(), AllocError> {
     Ok(())
 }
 
-/// The rows of the shape in the element.
+/// The rows of the shape in the element, and behind them those in the same element shared.
 fn rows_in<L: Ledger>(
     alloc: Global,
     shape: &Shape,
     element: &Element,
     blank: Blank,
-) -> Result<Rows, AllocError>
+) -> Result<(Rows, Rows), AllocError>
     requires name { blank.name ≡ L.name }
     requires parts { blank.parts ≡ L.parts }
     requires some { 0 < L.parts }
@@ -186,20 +203,85 @@ fn rows_in<L: Ledger>(
     let mut steps = Steps::<L>::new(blank);
     let mut rows = Rows::new(alloc);
     match_shape(alloc, shape, element, &mut rows, &mut steps)?;
-    Ok(rows)
+    let written = Written::new(alloc, element.copy(alloc)?)?;
+    let mut sharing = Rows::new(alloc);
+    let shared = Shared::new(alloc, written)?;
+    match_written(alloc, shape, &shared, &mut sharing, &mut steps)?;
+    Ok((rows, sharing))
 }
 
-fn rows_of(alloc: Global, shape: &Shape, element: &Element) -> Result<Rows, AllocError> {
+fn rows_of(alloc: Global, shape: &Shape, element: &Element) -> Result<(Rows, Rows), AllocError> {
     rows_in::<Brand>(alloc, shape, element, Blank::new(1))
 }
 
-/// The rows of the shape in the element, as they are shown.
-fn shown(alloc: Global, asked: &str, given: &str) -> Result<Vec<u8>, AllocError> {
+/// The rows, as they are shown.
+fn show_rows(alloc: Global, rows: &Rows) -> Result<Vec<u8>, AllocError> {
     let mut out = Vec::new(alloc);
-    for row in rows_of(alloc, &shape(alloc, asked)?, &element(alloc, given)?)?.as_slice() {
+    for row in rows.as_slice() {
         show_row(row, &mut out)?;
     }
     Ok(out)
+}
+
+/// The rows of the shape in the element, as they are shown, and in the same element shared.
+fn shown(alloc: Global, asked: &str, given: &str) -> Result<(Vec<u8>, Vec<u8>), AllocError> {
+    let (rows, sharing) = rows_of(alloc, &shape(alloc, asked)?, &element(alloc, given)?)?;
+    Ok((show_rows(alloc, &rows)?, show_rows(alloc, &sharing)?))
+}
+
+/// The nodes kept as a forest, and as few blocks as serve: one text, or one element that is shared.
+fn kept(alloc: Global, given: &str, shared: bool) -> Result<Nodes, AllocError> {
+    let outer = element(alloc, given)?;
+    if !shared {
+        return Ok(Nodes::new(outer.children));
+    }
+    match outer.children.as_slice() {
+        [Node::Element(inner)] => {
+            let written = Written::new(alloc, inner.copy(alloc)?)?;
+            Nodes::shared(&Shared::new(alloc, written)?)
+        }
+        _ => Nodes::of_children(alloc, &outer),
+    }
+}
+
+#[test]
+fn nodes_are_the_same_however_they_are_kept(rt: HostRuntime) -> Result<(), Fail> {
+    let alloc = rt.alloc();
+    let given = [
+        "Q", "Qa", "Qb", "Qaa", "QS.", "QT.", "QSa.", "QSa.b", "QSa.S.", "QS@a.",
+    ];
+    for (i, one) in given.iter().enumerate() {
+        for (j, other) in given.iter().enumerate() {
+            for (left, right) in [(false, false), (false, true), (true, false), (true, true)] {
+                let same = kept(alloc, one, left)?.is_same(&kept(alloc, other, right)?);
+                assert_eq!(rt; same, i == j, "{one} {other}");
+            }
+        }
+    }
+    Ok(())
+}
+
+#[test]
+fn nodes_are_copied_out(rt: HostRuntime) -> Result<(), Fail> {
+    let alloc = rt.alloc();
+    for (given, want) in [
+        ("Q", "[]"),
+        ("Qa", "[a]a"),
+        ("QSa.", "[S(a)]a"),
+        ("QSaTb.c.", "[S(aT(b)c)]a b c"),
+        ("QSa.b", "[S(a)b]a b"),
+    ] {
+        for shared in [false, true] {
+            let nodes = kept(alloc, given, shared)?.copy(alloc)?;
+            let mut out = Vec::new(alloc);
+            out.push(b'[')?;
+            show_nodes(nodes.forest(alloc)?.as_slice(), &mut out)?;
+            out.push(b']')?;
+            out.extend_from_slice(nodes.string_value(alloc)?.as_slice())?;
+            assert!(rt; out.as_slice() == want.as_bytes(), "{given} {shared}");
+        }
+    }
+    Ok(())
 }
 
 const QUOTE: &str = "Q@Sa.Tx.Ty.NP1.P2..E.";
@@ -242,9 +324,39 @@ fn each_shape_has_these_rows_in_the_quote(rt: HostRuntime) -> Result<(), Fail> {
         ("QiN~.S=!.", "\"7\"[P(1)P(2)][a][S(a)];"),
         ("QiS=.!", "\"7\"[a][Q(S(a)T(x)T(y)N(P(1)P(2))E())];"),
     ] {
-        let rows = shown(rt.alloc(), asked, QUOTE)?;
+        let (rows, sharing) = shown(rt.alloc(), asked, QUOTE)?;
         assert!(rt; rows.as_slice() == want.as_bytes(), "{asked}");
+        assert!(rt; sharing.as_slice() == want.as_bytes(), "{asked}");
     }
+    Ok(())
+}
+
+/// A letter for each value of the first row: how it is kept.
+fn kinds(alloc: Global, rows: &Rows) -> Result<Vec<u8>, AllocError> {
+    let mut out = Vec::new(alloc);
+    let Some(row) = rows.get(0) else {
+        return Ok(out);
+    };
+    for slot in 0..row.len() {
+        out.push(match row.value(slot) {
+            Value::Text(_) => b'"',
+            Value::Nodes(nodes) => match nodes.shown() {
+                Shown::Forest(_) => b'f',
+                Shown::Text(_) => b't',
+                Shown::Element(_) => b'e',
+            },
+        })?;
+    }
+    Ok(out)
+}
+
+#[test]
+fn the_whole_element_alone_is_shared(rt: HostRuntime) -> Result<(), Fail> {
+    let alloc = rt.alloc();
+    let asked = shape(alloc, "QiS=!.N=.!")?;
+    let (rows, sharing) = rows_of(alloc, &asked, &element(alloc, QUOTE)?)?;
+    assert!(rt; kinds(alloc, &rows)?.as_slice() == b"\"tfff".as_slice());
+    assert!(rt; kinds(alloc, &sharing)?.as_slice() == b"\"tffe".as_slice());
     Ok(())
 }
 
@@ -253,8 +365,8 @@ fn a_part_is_found_32_elements_deep(rt: HostRuntime) -> Result<(), Fail> {
     let given = "AAAAAAAAAAAAAAAAAAAAAAAAAAAAAAAAx...............................";
     let asked = "AAAAAAAAAAAAAAAAAAAAAAAAAAAAAAAA=...............................";
     let other = "AAAAAAAAAAAAAAAAAAAAAAAAAAAAAAAB=...............................";
-    assert!(rt; shown(rt.alloc(), asked, given)?.as_slice() == b"[x];".as_slice());
-    assert!(rt; shown(rt.alloc(), other, given)?.is_empty());
+    assert!(rt; shown(rt.alloc(), asked, given)?.0.as_slice() == b"[x];".as_slice());
+    assert!(rt; shown(rt.alloc(), other, given)?.0.is_empty());
     Ok(())
 }
 
@@ -290,7 +402,7 @@ fn joined<L: Ledger>(alloc: Global, rows: &Rows, blank: Blank) -> Result<Vec<u8>
 #[test]
 fn rows_are_copied_and_joined(rt: HostRuntime) -> Result<(), Fail> {
     let alloc = rt.alloc();
-    let rows = rows_of(alloc, &shape(alloc, "QT=.")?, &element(alloc, QUOTE)?)?;
+    let (rows, _) = rows_of(alloc, &shape(alloc, "QT=.")?, &element(alloc, QUOTE)?)?;
     let out = joined::<Brand>(alloc, &rows, Blank::new(1))?;
     assert!(rt; out.as_slice() == b"[x][y];++".as_slice());
     Ok(())

@@ -1,11 +1,18 @@
-use Rattle.std.proofs.Common.{◌≡◌, true, ◌++◌, append-nil, arith, sym, ap, ◌∙◌}
+use Rattle.std.proofs.Common.{◌≡◌, ℕ, true, List, [], ◌∷◌, ◌++◌, map, Option, Some, append-nil}
+use Rattle.std.proofs.Common.{arith, sym, ap, ◌∙◌}
+use Rattle.std.proofs.lemmas.Result.{IfOk-weaker}
 use Rattle.std.specs.Prelude.{not}
 use Rattle.std.specs.List.{flat_map}
 use Rattle.std.specs.Str.{bytes_eq}
+use Rattle.ncq_tree.specs.declared.model.Attribute.{Attribute}
+use Rattle.ncq_tree.specs.declared.model.Element.{Element}
 use Rattle.ncq_tree.specs.declared.model.Node.{Node}
 use Rattle.ncq_row.specs.declared.shape.Shape.{Shape}
-use Rattle.ncq_row.specs.Embeddings.{Rows, rows_at, rows_among, reached_at}
-use Rattle.ncq_row.proofs.CallerLemmas.{rows_of_text, rows_of_other}
+use Rattle.ncq_row.specs.Embeddings.{Row, Rows, paired, one_of_each, attribute_rows, suffix_rows}
+use Rattle.ncq_row.specs.Embeddings.{content_rows, rows_at, rows_among, reached_at}
+use Rattle.ncq_row.specs.Found.{option_rows}
+use Rattle.ncq_row.specs.Subjects.{element_of}
+use Rattle.ncq_row.proofs.CallerLemmas.{rows_of_shape, rows_of_text, rows_of_other}
 use Rattle.ncq_row.proofs.PairedLaws.{next_part, no_part_left}
 use Rattle.ncq_row.proofs.matching.+matching.Goals as goal
 
@@ -36,3 +43,28 @@ pub found_in_parts-returns : goal.found_in_parts-returns
 found_in_parts-returns t c =
     no_part_left (λ (p : Shape). rows_among p c.args.nodes.now) c.args.parts.now c.loop-i.i _ _
     (omega arith) c.loop-i.invariant
+
+-- what stands in front of the content, and the content, are those of the shape at the element
+at_subject : (s : Shape) (d e : Element) (names : List (List ℕ)) (attributes : List Attribute)
+    (found : Option Row) (front : Row) (content rows : Rows)
+    → d ≡ e → names ≡ s.attributes → attributes ≡ d.attributes
+    → option_rows found ≡ one_of_each (map (attribute_rows attributes) names) → found ≡ Some front
+    → content ≡ content_rows s.content d
+    → rows ≡ paired (front ∷ []) (paired content (suffix_rows s.suffix e)) → rows ≡ rows_at s e
+at_subject s d e names attributes found front content rows same n a f is c r =
+    let first : front ∷ [] ≡ one_of_each (map (attribute_rows e.attributes) s.attributes) =
+    sym (ap option_rows is) ∙ f
+    ∙ (λ i. one_of_each (map (attribute_rows (a i)) (n i)))
+    ∙ ap (λ (x : Element). one_of_each (map (attribute_rows x.attributes) s.attributes)) same in
+    let second : content ≡ content_rows s.content e = c ∙ ap (content_rows s.content) same in
+    r ∙ (λ i. paired (first i) (paired (second i) (suffix_rows s.suffix e)))
+    ∙ sym (rows_of_shape s e)
+
+pub found_at-returns : goal.found_at-returns
+found_at-returns t c =
+    IfOk-weaker c.surrounded.result _ _
+    (λ rows h. at_subject c.args.shape.now c.element-element.result.now (element_of c.args.subject)
+    c.as_slice.result.now c.as_slice-2.result.now c.in_ok-front.field-0 c.in-Some.front
+    c.in_ok-content.content rows c.element-element.ensures c.as_slice.ensures
+    c.as_slice-2.ensures c.in_ok-front.ensures c.in-Some.is c.in_ok-content.ensures h)
+    c.surrounded.ensures
