@@ -6,6 +6,7 @@
 //! Hashing an expression walks each of its operators once, and copies nothing.
 #![tactic(auto)]
 
+mod alike;
 mod copy;
 mod expr;
 mod laws;
@@ -16,6 +17,7 @@ mod same;
 mod slots;
 mod template;
 
+pub use alike::{same_template, same_tests};
 pub use expr::Expr;
 pub use laws::{deltas_count, deltas_lead, plans_give_the_rows, rows_have_the_width};
 pub use ncq_base::{End, Interval, in_interval};
