@@ -1,16 +1,19 @@
-//! Answers worked out by hand, for one row and the templates that are filled from it.
+//! Answers worked out by hand, for one row, made of an element and of the same element shared, and
+//! the templates that are filled from it.
 //!
 //! A template is a list of words: `<r` begins an element and `>` ends it, `-text` is a text, `$1`
 //! the value at slot 1, and `@name1` an attribute with the string value of slot 1.
 ghost use Rattle.std.specs.Prelude.{◌≡◌, ◌<◌};
 
 use crate::{answer_bytes, build, passes};
-use ncq_base::{Op, Steps, atom_of, bytes_of};
+use ncq_base::{Op, Shared, Steps, atom_of, bytes_of};
 use ncq_plan::{
     Side, SlotAttribute, SlotAttributes, SlotTemplate, SlotTemplates, SlotText, Test, Tests,
 };
-use ncq_pyx::write_forest;
-use ncq_row::{Names, Row, Rows, Shape, ShapeContent, ShapeSuffix, Shapes, match_shape};
+use ncq_pyx::{Written, write_forest};
+use ncq_row::{
+    Names, Row, Rows, Shape, ShapeContent, ShapeSuffix, Shapes, match_shape, match_written,
+};
 use ncq_tree::{Attribute, Attributes, Element, Forest, Node};
 use std::alloc::{AllocError, Global};
 use std::marker::Brand;
@@ -68,6 +71,7 @@ fn shape(alloc: Global) -> Result<Shape, AllocError> {
     })
 }
 
+/// The row of the shape in the quote, and the row in the same quote shared.
 fn rows<L: Ledger>(alloc: Global, blank: Blank) -> Result<Rows, AllocError>
     requires name { blank.name ≡ L.name }
     requires parts { blank.parts ≡ L.parts }
@@ -75,11 +79,13 @@ fn rows<L: Ledger>(alloc: Global, blank: Blank) -> Result<Rows, AllocError>
 {
     let mut steps = Steps::<L>::new(blank);
     let mut rows = Rows::new(alloc);
-    match_shape(alloc, &shape(alloc)?, &quote(alloc)?, &mut rows, &mut steps)?;
+    let shape = shape(alloc)?;
+    match_shape(alloc, &shape, &quote(alloc)?, &mut rows, &mut steps)?;
+    let shared = Shared::new(alloc, Written::new(alloc, quote(alloc)?)?)?;
+    match_written(alloc, &shape, &shared, &mut rows, &mut steps)?;
     Ok(rows)
 }
 
-/// The one row of the shape in the quote.
 fn the_rows(alloc: Global) -> Result<Rows, AllocError> {
     rows::<Brand>(alloc, Blank::new(1))
 }
@@ -187,7 +193,7 @@ const INSIDE: &str = "(r\n-a\n(Quote\nAid 7\n(Symbol\n-INTC\n)Symbol\n(Price\n-9
 fn each_template_makes_these_bytes_of_the_row(rt: HostRuntime) -> Result<(), Fail> {
     let alloc = rt.alloc();
     let rows = the_rows(alloc)?;
-    assert_eq!(rt; rows.len(), 1);
+    assert_eq!(rt; rows.len(), 2);
     for (words, want) in [
         // one slot: an attribute is one text, nodes stand as they are
         (["$0"].as_slice(), "-7\n"),
