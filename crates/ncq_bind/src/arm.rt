@@ -28,7 +28,7 @@ pub(crate) fn normal_arms(
 ) -> Result<Arms, AllocError>
     ensures { IfOk result (λ a. a ≡ map (normal_arm constraints.now) arms) }
 {
-    let mut normal = Arms::new(alloc);
+    let mut normal = Arms::with_capacity(alloc, arms.len())?;
     for arm in arms.into_vec() {
         normal.push(normal_arm(alloc, arm, constraints)?)?;
     }
@@ -65,6 +65,7 @@ fn equals_in(
     for constraint in constraints {
         add_equal(alloc, offset, width, constraint, &mut equals)?;
     }
+    equals.shrink_to_fit();
     Ok(EqualTos::from_vec(equals))
 }
 
@@ -106,6 +107,7 @@ fn ranges_in(
     for constraint in constraints {
         add_range(offset, width, constraint, &mut ranges)?;
     }
+    ranges.shrink_to_fit();
     Ok(Withins::from_vec(ranges))
 }
 
@@ -146,6 +148,7 @@ fn pairs_in(
     for constraint in constraints {
         add_pair(offset, width, constraint, &mut pairs)?;
     }
+    pairs.shrink_to_fit();
     Ok(Pairs::from_vec(pairs))
 }
 

@@ -38,7 +38,7 @@ fn content_shape(alloc: Global, content: &Content) -> Result<ShapeContent, Alloc
 fn shapes_of(alloc: Global, patterns: &[Pattern]) -> Result<Shapes, AllocError>
     ensures { IfOk result (λ s. s ≡ map shape_of patterns.now) }
 {
-    let mut shapes = Shapes::new(alloc);
+    let mut shapes = Shapes::with_capacity(alloc, patterns.len())?;
     for pattern in patterns {
         shapes.push(shape_of(alloc, pattern)?)?;
     }
@@ -49,7 +49,7 @@ fn shapes_of(alloc: Global, patterns: &[Pattern]) -> Result<Shapes, AllocError>
 fn attribute_names(alloc: Global, attributes: &[PatternAttribute]) -> Result<Names, AllocError>
     ensures { IfOk result (λ n. n ≡ map (λ a. a.name) attributes.now) }
 {
-    let mut names = Names::new(alloc);
+    let mut names = Names::with_capacity(alloc, attributes.len())?;
     for attribute in attributes {
         names.push(attribute.name.copy(alloc)?)?;
     }
