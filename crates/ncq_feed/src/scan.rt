@@ -16,10 +16,10 @@ use crate::pending::note;
 use ncq_base::{Shared, Steps};
 use ncq_midfile::{SignedRow, SignedRows};
 use ncq_plan::Expr;
-use ncq_row::{Rows, Shape, match_shape};
+use ncq_pyx::Written;
+use ncq_row::{Rows, Shape, match_written};
 use ncq_shelf::Shelf;
 use ncq_source::{Change, Entry, Store};
-use ncq_tree::Element;
 use std::alloc::{AllocError, Global};
 use std::collections::BTreeSet;
 use std::sync::ledger::Ledger;
@@ -136,7 +136,7 @@ fn add_entry<L: Ledger>(
 fn rows_in<L: Ledger>(
     alloc: Global,
     shape: &Shape,
-    element: &Option<Shared<Element>>,
+    element: &Option<Shared<Written>>,
     steps: &mut Steps<L>,
 ) -> Result<Rows, AllocError>
     ensures rows { IfOk result (λ rows. rows ≡ element_rows shape.now element.now) }
@@ -146,7 +146,7 @@ fn rows_in<L: Ledger>(
     let Some(element) = element else {
         return Ok(rows);
     };
-    match_shape(alloc, shape, element.get(), &mut rows, steps)?;
+    match_written(alloc, shape, element, &mut rows, steps)?;
     Ok(rows)
 }
 

@@ -7,7 +7,7 @@ ghost use Rattle.ncq_source.specs.StoreStates.{At, IsDeclared};
 ghost use Rattle.ncq_change.specs.Stores.{world_in};
 
 use ncq_base::{Bytes, Steps};
-use ncq_row::{Rows, Shape, match_shape};
+use ncq_row::{Rows, Shape, match_written};
 use ncq_source::{SourceId, Store};
 use std::alloc::{AllocError, Global};
 use std::sync::ledger::Ledger;
@@ -50,7 +50,7 @@ fn append_shown<L: Ledger>(
         ≤ steps.old + length (scan_rows shape.now (map (λ entry. entry.1) source.shown))) }
 {
     for at in 0..store.size(id) {
-        match_shape(alloc, shape, store.element(id, at), rows, steps)?;
+        match_written(alloc, shape, store.written(id, at), rows, steps)?;
     }
     Ok(())
 }

@@ -8,20 +8,20 @@ use Rattle.ncq_fill.proofs.scan.append_shown.Goals as goal
 pub loop-at-preserved : goal.loop-at-preserved
 loop-at-preserved g c = record {
   rows = λ source here.
-      shown_more c.args.shape.now (map (λ entry. entry.1) source.shown) c.loop-at.at c.element.result.now (c.element.ensures.place source here) c.args.rows.now c.loop-at.rows c.match_shape.new.rows
-      (c.loop-at.invariant.rows source here) c.in_ok-match_shape.ensures.ok;
+      shown_more c.args.shape.now (map (λ entry. entry.1) source.shown) c.loop-at.at c.written.result.now (c.written.ensures.place source here) c.args.rows.now c.loop-at.rows c.match_written.new.rows
+      (c.loop-at.invariant.rows source here) c.in_ok-match_written.ensures.ok;
   cost = λ source here.
-      let left = shown_left c.args.shape.now (map (λ entry. entry.1) source.shown) c.loop-at.at c.element.result.now (c.element.ensures.place source here) in
+      let left = shown_left c.args.shape.now (map (λ entry. entry.1) source.shown) c.loop-at.at c.written.result.now (c.written.ensures.place source here) in
       let before = c.loop-at.invariant.cost source here in
-      let one = c.match_shape.ensures.cost in
+      let one = c.match_written.ensures.cost in
       omega arith;
 }
 
-pub returns-in_err-match_shape-clause-cost : goal.returns-in_err-match_shape-clause-cost
-returns-in_err-match_shape-clause-cost g c source here =
-    let left = shown_left c.args.shape.now (map (λ entry. entry.1) source.shown) c.loop-at.at c.element.result.now (c.element.ensures.place source here) in
+pub returns-in_err-match_written-clause-cost : goal.returns-in_err-match_written-clause-cost
+returns-in_err-match_written-clause-cost g c source here =
+    let left = shown_left c.args.shape.now (map (λ entry. entry.1) source.shown) c.loop-at.at c.written.result.now (c.written.ensures.place source here) in
     let before = c.loop-at.invariant.cost source here in
-    let one = c.match_shape.ensures.cost in
+    let one = c.match_written.ensures.cost in
     omega arith
 
 pub returns-clause-rows : goal.returns-clause-rows
