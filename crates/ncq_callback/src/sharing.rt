@@ -6,8 +6,7 @@ ghost use Rattle.ncq_plan.specs.Templates.{attribute_of, forest_of, text_of};
 
 use ncq_base::Bytes;
 use ncq_plan::{SlotAttribute, SlotTemplate, SlotText};
-use ncq_row::{Row, Value};
-use ncq_tree::is_same;
+use ncq_row::{Row, Value, is_same_value};
 
 /// Whether the template and the other, which is filled from the values, are one, and each slot has
 /// one value in both. Then they make the same.
@@ -109,17 +108,6 @@ fn has_value(row: &Row, slot: usize, values: &[Value], at: usize) -> bool
         return false;
     }
     is_same_value(row.value(slot), &values[at])
-}
-
-/// Whether the two are one value.
-fn is_same_value(a: &Value, b: &Value) -> bool
-    ensures { IsTrue result → (a.now ≡ b.now) }
-{
-    match (a, b) {
-        (Value::Text(x), Value::Text(y)) => x == y,
-        (Value::Nodes(x), Value::Nodes(y)) => is_same(x, y),
-        _ => false,
-    }
 }
 
 /// Whether the two are the same bytes.
