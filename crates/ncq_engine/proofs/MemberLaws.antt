@@ -15,7 +15,11 @@ use Rattle.ncq_midfile.specs.Content.{IsSoundAt}
 use Rattle.ncq_midfile.specs.Files.{FileState}
 use Rattle.ncq_midfile.specs.declared.signed.SignedRow.{SignedRow}
 use Rattle.ncq_group.specs.Tables.{TableState, Facts}
-use Rattle.ncq_news.specs.News.{entries_of, since_mark}
+use Rattle.ncq_bag.specs.Bags.{differences}
+use Rattle.ncq_callback.specs.Gathered.{answer_of, counts_after}
+use Rattle.ncq_news.specs.News.{entries_of, since_mark, unnumbered}
+use Rattle.ncq_plan.specs.Residuals.{passes}
+use Rattle.std.specs.FinMap.{empty, get}
 use Rattle.ncq_plan.specs.Exprs.{expr_width}
 use Rattle.ncq_plan.specs.WellFormed.{arms_width}
 use Rattle.ncq_plan.proofs.CallerLemmas.{plan_is_wide}
@@ -25,6 +29,8 @@ use Rattle.ncq_engine.specs.Engines.{CanTell, last_in, latest_in, mark_in, news_
 use Rattle.ncq_engine.specs.declared.span.Span.{Span}
 use Rattle.ncq_engine.specs.Notices.{rendered}
 use Rattle.ncq_engine.specs.Spans.{span_of}
+use Rattle.ncq_engine.specs.Tellings.{AskAlike, IsLatest}
+use Rattle.ncq_engine.specs.declared.latest.Latest.{Latest}
 
 -- what is written for a handler that is there
 written_as : (labels : List Label) (action : ℕ) → action < length labels → (argument name : List ℕ) (instant : ℕ) (entries : List Difference) (out out' : List ℕ)
@@ -112,6 +118,19 @@ module _ (labels : List Label) (store : StoreState) (table : TableState) (m : Me
 
   pub entries_are : (o : Option ℕ) (entries : List Difference) → o ≡ mark_in store m → entries ≡ entries_of m.query (since_mark o content.rows) → entries ≡ entries_of m.query (news_of store table.files m)
   entries_are o entries e f = f ∙ (λ i. entries_of m.query (since_mark (e i) (is i).rows)) ∙ (λ i. entries_of m.query (since_mark (mark_in store m) (rows_in_file (sym can.at i))))
+
+-- what was told last serves a member that asks alike, since the same mark
+pub serves_as : (store : StoreState) (files : Files) (latest : Latest) (m : Member) (o : Option ℕ) → IsLatest files latest → AskAlike latest.member.now m → latest.mark ≡ o → o ≡ mark_in store m
+    → latest.entries ≡ entries_of m.query (news_of store files m)
+serves_as store files latest m o is alike same own =
+    is
+    ∙ (λ i. differences (counts_after (passes (alike.residual i)) (answer_of (alike.template i)) empty (unnumbered (since_mark (same i) (rows_in_file (get files (alike.file i)))))))
+    ∙ (λ i. entries_of m.query (since_mark (own i) (rows_in_file (get files m.file.0))))
+
+-- what is made anew is what was told last from then on
+pub latest_as : (store : StoreState) (files : Files) (m : Member) (o : Option ℕ) (entries : List Difference) → o ≡ mark_in store m → entries ≡ entries_of m.query (news_of store files m)
+    → entries ≡ entries_of m.query (since_mark o (rows_in_file (get files m.file.0)))
+latest_as store files m o entries own are = are ∙ (λ i. entries_of m.query (since_mark (sym own i) (rows_in_file (get files m.file.0))))
 
 -- the greatest of last changes, with one source more
 pub latest_push : (store : StoreState) (names : List (List ℕ)) (name : List ℕ) → latest_in store (names ++ name ∷ []) ≡ max (latest_in store names) (last_in store name)

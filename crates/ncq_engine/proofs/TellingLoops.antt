@@ -3,7 +3,7 @@ use Rattle.std.proofs.Common.{◌≡◌, ℕ, zero, suc, ◌+◌, ◌<◌, true,
 use Rattle.std.specs.Prelude.{Option, Some, None, IsSome, is_some}
 use Rattle.std.specs.Borrow.{Bor}
 use Rattle.std.specs.Option.{option_copied}
-use Rattle.std.proofs.lemmas.List.{append-nil}
+use Rattle.std.proofs.lemmas.List.{append-nil, take_more}
 use Rattle.std.specs.List.{flat_map, AllByRecursion}
 use Rattle.ncq_book.specs.declared.member.Member.{Member}
 use Rattle.ncq_book.specs.Books.{is_of, member_of}
@@ -31,6 +31,32 @@ spans_push name text from (y ∷ xs) x =
     let there : here + length (flat_map text xs) ≡ from + length (text y ++ flat_map text xs) = omega (arith, length-append (text y) (flat_map text xs)) in
     ap (λ more. span_of (name y) from (text y) ++ more) (spans_push name text here xs x ∙ ap (λ at. spans_of name text here xs ++ span_of (name x) at (text x)) there)
     ∙ sym (append_assoc (span_of (name y) from (text y)) (spans_of name text here xs) (span_of (name x) (from + length (text y ++ flat_map text xs)) (text x)))
+
+-- the spans of texts with others behind them
+pub spans_append : {A : Type 0} (name text : A → List ℕ) (from : ℕ) (xs ys : List A) → spans_of name text from (xs ++ ys) ≡ spans_of name text from xs ++ spans_of name text (from + length (flat_map text xs)) ys
+spans_append name text from [] ys = ap (λ at. spans_of name text at ys) (let e : from ≡ from + 0 = omega arith in e)
+spans_append name text from (x ∷ xs) ys =
+    let here = from + length (text x) in
+    let there : here + length (flat_map text xs) ≡ from + length (text x ++ flat_map text xs) = omega (arith, length-append (text x) (flat_map text xs)) in
+    ap (λ more. span_of (name x) from (text x) ++ more) (spans_append name text here xs ys ∙ ap (λ at. spans_of name text here xs ++ spans_of name text at ys) there)
+    ∙ sym (append_assoc (span_of (name x) from (text x)) (spans_of name text here xs) (spans_of name text (from + length (text x ++ flat_map text xs)) ys))
+
+-- what is made of items, with what is made of some more
+module _ {A : Type 0} (before more after : List A) (all : after ≡ before ++ more) where
+  pub texts_onto : (f : A → List ℕ) (first out out' : List ℕ) → out ≡ first ++ flat_map f before → out' ≡ out ++ flat_map f more → out' ≡ first ++ flat_map f after
+  texts_onto f first out out' was new =
+      new ∙ ap (λ l. l ++ flat_map f more) was ∙ append_assoc first (flat_map f before) (flat_map f more)
+      ∙ ap (λ l. first ++ l) (sym (flat_map_append f before more) ∙ ap (flat_map f) (sym all))
+
+  pub spans_onto : (name text : A → List ℕ) (from here : ℕ) (old new : List Span) → old ≡ spans_of name text from before → here ≡ from + length (flat_map text before)
+      → new ≡ old ++ spans_of name text here more → new ≡ spans_of name text from after
+  spans_onto name text from here old new was stands is =
+      is ∙ (λ i. was i ++ spans_of name text (stands i) more) ∙ sym (spans_append name text from before more) ∙ ap (spans_of name text from) (sym all)
+
+-- what is made of each of the items before a place, with what is made of one more
+pub made_more : {A B : Type 0} (f : A → List B) (xs : List A) (at : ℕ) (d : A) → at < length xs → flat_map f (take (at + 1) xs) ≡ flat_map f (take at xs) ++ f (get_or xs at d)
+made_more f xs at d here =
+    ap (flat_map f) (take_more xs at d here) ∙ flat_map_append f (take at xs) (get_or xs at d ∷ []) ∙ ap (λ l. flat_map f (take at xs) ++ l) (append-nil (f (get_or xs at d)))
 
 -- what is made of the items before a place, with one more
 module _ {A : Type 0} (xs : List A) (at : ℕ) (item : A) (one : take (at + 1) xs ≡ take at xs ++ item ∷ []) where

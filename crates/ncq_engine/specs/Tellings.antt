@@ -11,9 +11,11 @@ use Rattle.ncq_event.specs.declared.firing.Firing.{Firing}
 use Rattle.ncq_roll.specs.Rolls.{RollState}
 use Rattle.ncq_shelf.specs.KeptFiles.{KeptFile, Files}
 use Rattle.ncq_source.specs.StoreStates.{StoreState}
+use Rattle.ncq_news.specs.News.{entries_of, since_mark}
+use Rattle.ncq_engine.specs.declared.latest.Latest.{Latest}
 use Rattle.ncq_engine.specs.declared.telling.Answered.{Answered}
 use Rattle.ncq_engine.specs.Applies.{expired_name, ok_text}
-use Rattle.ncq_engine.specs.Engines.{has_news_in, mark_in, told_text, noted_at}
+use Rattle.ncq_engine.specs.Engines.{has_news_in, mark_in, rows_in_file, told_text, noted_at}
 use Rattle.ncq_engine.specs.Spans.{spans_of}
 
 -- the line of a member that expires
@@ -87,6 +89,18 @@ pub record IsLeftBy (installs : List ℕ) (old new : RollState) : Type 0 where
   pub number : new.table.number ≡ old.table.number
   pub next_file : new.table.next_file ≡ old.table.next_file
   pub files : AreOf old.table.files new.table.files
+
+-- one file, the same tests of its rows and the same template
+pub record AskAlike (a b : Member) : Type 0 where
+  pub file : a.file.0 ≡ b.file.0
+  pub template : a.query.template ≡ b.query.template
+  pub residual : a.query.residual ≡ b.query.residual
+
+-- what the answer of a member gained and lost by the rows of its file since a mark
+abbrev pub IsLatest : Files → Latest → Type 0
+IsLatest files latest = latest.entries
+    ≡ entries_of latest.member.now.query
+    (since_mark latest.mark (rows_in_file (get files latest.member.now.file.0)))
 
 -- the answer to the command of this number was appended: its first line, and the texts of these
 -- firings

@@ -676,7 +676,7 @@ fn labels_of(alloc: Global, handlers: &Handlers) -> Result<Vec<(Bytes, Kind)>, A
 fn asked_by(alloc: Global, items: &[QueryItem]) -> Result<Sequence<Bytes>, AllocError>
     ensures { IfOk result (λ sources. sources ≡ flat_map source_of items.now) }
 {
-    let mut sources = Sequence::new(alloc);
+    let mut sources = Sequence::with_capacity(alloc, items.len())?;
     for item in items {
         if let QueryItem::Match { source, .. } = item {
             sources.push(source.copy(alloc)?)?;

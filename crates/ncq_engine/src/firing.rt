@@ -1,33 +1,37 @@
 //! A firing: what the answer of a subscription gained and lost since its latest one.
-ghost use Rattle.std.specs.Prelude.{◌≡◌, ◌++◌, length, OnOk};
+ghost use Rattle.std.specs.Prelude.{◌≡◌, ◌++◌, length, IfOk, IfSome, OnOk};
 ghost use Rattle.ncq_callback.specs.Labels.{labels};
 ghost use Rattle.ncq_engine.specs.Engines.{mark_in, latest_in, told_text, CanTell};
 ghost use Rattle.ncq_engine.specs.Spans.{span_of};
+ghost use Rattle.ncq_engine.specs.Tellings.{IsLatest};
 
+use crate::latest::{Latest, news_for};
 use crate::span::{Span, Spans};
 use crate::who::last_change;
 use ncq_base::{Bytes, Copied};
 use ncq_book::Member;
 use ncq_callback::{Handlers, Notice};
 use ncq_group::GroupTable;
-use ncq_news::news;
 use ncq_source::Store;
 use std::alloc::{AllocError, Global};
 
 /// Appends what the answer of the member gained and lost since its latest firing, and adds where
-/// that stands, if anything differs.
-pub(crate) fn fire(
+/// that stands, if anything differs. What was told last, if anything was, serves where it is the
+/// same; what this member is told comes back.
+pub(crate) fn fire<'a>(
     alloc: Global,
-    member: &Member,
+    member: &'a Member,
     instant: u64,
     groups: &GroupTable,
     store: &Store,
     handlers: &Handlers,
     out: &mut Vec<u8>,
     spans: &mut Spans,
-) -> Result<(), AllocError>
+    latest: Option<Latest<'a>>,
+) -> Result<Latest<'a>, AllocError>
     requires can { CanTell (labels handlers.now.items.items (λ h. h.name) (λ h. h.kind))
         store.now groups.now member.now }
+    requires latest { IfSome latest (IsLatest groups.now.files) }
     ensures text { OnOk result (out.new.items ≡ out.old.items
         ++ told_text (labels handlers.now.items.items (λ h. h.name) (λ h. h.kind))
         store.now groups.now.files member.now instant) }
@@ -35,18 +39,16 @@ pub(crate) fn fire(
         ++ span_of member.now.name (length out.old.items)
         (told_text (labels handlers.now.items.items (λ h. h.name) (λ h. h.kind))
         store.now groups.now.files member.now instant)) }
+    ensures latest { IfOk result (IsLatest groups.now.files) }
 {
-    groups.facts();
-    let file = groups.file(member.file);
-    let mark = mark_of(member, store);
-    let entries = news(alloc, &member.query, file, mark, groups.number())?;
-    if entries.as_slice().is_empty() {
-        return Ok(());
+    let told = news_for(alloc, member, groups, store, latest)?;
+    if told.entries.as_slice().is_empty() {
+        return Ok(told);
     }
     let notice = Notice {
         name: member.name.copy(alloc)?,
         instant,
-        entries,
+        entries: told.entries,
     };
     let from = out.len();
     handlers.call(member.action, member.argument.as_slice(), &notice, out)?;
@@ -54,6 +56,11 @@ pub(crate) fn fire(
         name: notice.name,
         from,
         to: out.len(),
+    })?;
+    Ok(Latest {
+        member: told.member,
+        mark: told.mark,
+        entries: notice.entries,
     })
 }
 

@@ -12,6 +12,7 @@
 mod engine;
 mod expiry;
 mod firing;
+mod latest;
 mod laws;
 mod span;
 mod telling;

@@ -1,6 +1,6 @@
 //! What those that fire are told.
 ghost use Rattle.std.specs.Prelude.{◌≡◌, ◌++◌, ◌∷◌, [], ◌<◌, ◌-◌, ◌^◌, length};
-ghost use Rattle.std.specs.Prelude.{IsSome, IfOk, OnOk};
+ghost use Rattle.std.specs.Prelude.{IsSome, IfOk, IfSome, OnOk};
 ghost use Rattle.std.specs.List.{flat_map, AllByRecursion};
 ghost use Rattle.ncq_book.specs.Books.{member_of, watchers_of, InstallsRise};
 ghost use Rattle.ncq_callback.specs.Labels.{labels};
@@ -8,11 +8,12 @@ ghost use Rattle.ncq_engine.specs.Engines.{CanTell};
 ghost use Rattle.ncq_engine.specs.Applies.{ok_text};
 ghost use Rattle.ncq_engine.specs.Spans.{spans_of};
 ghost use Rattle.ncq_engine.specs.Tellings.{firing_name, firing_text, noted_by, started_at};
-ghost use Rattle.ncq_engine.specs.Tellings.{IsAnswered};
+ghost use Rattle.ncq_engine.specs.Tellings.{IsAnswered, IsLatest};
 
 use crate::firing::fire;
+use crate::latest::Latest;
 use crate::span::Spans;
-use crate::who::started;
+use crate::who::{started, starter};
 use ncq_base::write_decimal;
 use ncq_callback::Handlers;
 use ncq_event::{Firing, Firings};
@@ -93,11 +94,12 @@ pub(crate) fn tell(
         store.now roll.now.table.files roll.now.members) (length out.old.items) firings.now) }
 {
     let mut spans = Spans::new(alloc);
+    let mut latest = None;
     for firing in firings {
         let Some(member) = roll.book().get(firing.install) else {
             unreachable!();
         };
-        fire(
+        let told = fire(
             alloc,
             member,
             firing.instant,
@@ -106,9 +108,88 @@ pub(crate) fn tell(
             handlers,
             out,
             &mut spans,
+            latest,
+        )?;
+        latest = Some(told);
+    }
+    Ok(spans)
+}
+
+/// Appends the notices of those members of these install numbers that have started, each now, and
+/// tells where each stands.
+fn tell_started(
+    alloc: Global,
+    roll: &Roll,
+    installs: &[u64],
+    store: &Store,
+    handlers: &Handlers,
+    out: &mut Vec<u8>,
+) -> Result<Spans, AllocError>
+    requires can { AllByRecursion (CanTell
+        (labels handlers.now.items.items (λ h. h.name) (λ h. h.kind)) store.now roll.now.table)
+        roll.now.members }
+    ensures text { OnOk result (out.new.items ≡ out.old.items
+        ++ flat_map (firing_text (labels handlers.now.items.items (λ h. h.name) (λ h. h.kind))
+        store.now roll.now.table.files roll.now.members)
+        (flat_map (started_at roll.now.instant roll.now.members) installs.now)) }
+    ensures spans { IfOk result (λ spans. spans
+        ≡ spans_of (firing_name roll.now.members)
+        (firing_text (labels handlers.now.items.items (λ h. h.name) (λ h. h.kind))
+        store.now roll.now.table.files roll.now.members) (length out.old.items)
+        (flat_map (started_at roll.now.instant roll.now.members) installs.now)) }
+{
+    let mut spans = Spans::new(alloc);
+    let mut latest = None;
+    for install in installs {
+        latest = tell_one(
+            alloc, roll, *install, store, handlers, out, &mut spans, latest,
         )?;
     }
     Ok(spans)
+}
+
+/// Appends the notice of the member of this install number now, if it has started, and adds where
+/// it stands. What was told last comes back.
+fn tell_one<'a>(
+    alloc: Global,
+    roll: &'a Roll,
+    install: u64,
+    store: &Store,
+    handlers: &Handlers,
+    out: &mut Vec<u8>,
+    spans: &mut Spans,
+    latest: Option<Latest<'a>>,
+) -> Result<Option<Latest<'a>>, AllocError>
+    requires can { AllByRecursion (CanTell
+        (labels handlers.now.items.items (λ h. h.name) (λ h. h.kind)) store.now roll.now.table)
+        roll.now.members }
+    requires latest { IfSome latest (IsLatest roll.now.table.files) }
+    ensures text { OnOk result (out.new.items ≡ out.old.items
+        ++ flat_map (firing_text (labels handlers.now.items.items (λ h. h.name) (λ h. h.kind))
+        store.now roll.now.table.files roll.now.members)
+        (started_at roll.now.instant roll.now.members install)) }
+    ensures spans { OnOk result (spans.new ≡ spans.old
+        ++ spans_of (firing_name roll.now.members)
+        (firing_text (labels handlers.now.items.items (λ h. h.name) (λ h. h.kind))
+        store.now roll.now.table.files roll.now.members) (length out.old.items)
+        (started_at roll.now.instant roll.now.members install)) }
+    ensures latest { IfOk result (λ told. IfSome told (IsLatest roll.now.table.files)) }
+{
+    let Some(member) = starter(roll.book(), install) else {
+        return Ok(latest);
+    };
+    let told = fire(
+        alloc,
+        member,
+        roll.book().instant(),
+        roll.groups(),
+        store,
+        handlers,
+        out,
+        spans,
+        latest,
+    )?;
+    Ok(Some(told))
 }
 
 /// Appends the answer to an accepted change: its first line, and the notices of those that fire at
@@ -133,8 +214,7 @@ pub(crate) fn answer_change(
 {
     let answered = write_accepted(alloc, number, out)?;
     let watchers = roll.book().watchers(alloc, fed)?;
-    let firings = started(alloc, roll.book(), watchers.as_slice())?;
-    let spans = tell(alloc, roll, firings.as_slice(), store, handlers, out)?;
+    let spans = tell_started(alloc, roll, watchers.as_slice(), store, handlers, out)?;
     Ok(answered.with(spans, out))
 }
 

@@ -1,5 +1,5 @@
 //! Who fires at a command.
-ghost use Rattle.std.specs.Prelude.{◌≡◌, ◌==◌, nat_lt, IfOk};
+ghost use Rattle.std.specs.Prelude.{◌≡◌, ◌==◌, nat_lt, IfOk, IfSome, Some, is_some};
 ghost use Rattle.std.specs.List.{filter, flat_map, list_any};
 ghost use Rattle.ncq_book.specs.Books.{member_of};
 ghost use Rattle.ncq_engine.specs.Engines.{last_in, has_news_in, mark_in};
@@ -34,9 +34,20 @@ pub(crate) fn started(alloc: Global, book: &Book, installs: &[u64]) -> Result<Fi
 fn has_started(book: &Book, install: u64) -> bool
     ensures { result ≡ has_started book.now.instant (member_of install book.now.members) }
 {
-    match book.get(install) {
-        Some(member) => member.timing.start <= book.instant(),
-        None => false,
+    starter(book, install).is_some()
+}
+
+/// The member of this install number, if it is there and has started.
+pub(crate) fn starter(book: &Book, install: u64) -> Option<&Member>
+    ensures some { IfSome result (λ m. member_of install book.now.members ≡ Some m.now) }
+    ensures started { is_some result
+        ≡ has_started book.now.instant (member_of install book.now.members) }
+{
+    let member = book.get(install)?;
+    if member.timing.start <= book.instant() {
+        Some(member)
+    } else {
+        None
     }
 }
 

@@ -1,36 +1,25 @@
-use Rattle.std.proofs.Common.{◌≡◌, ◌∙◌, ◌++◌, List, ℕ, length, ap, subst, sym}
-use Rattle.std.specs.Prelude.{IsSome}
-use Rattle.std.specs.List.{flat_map, AllByRecursion}
-use Rattle.ncq_book.specs.Books.{BookState, member_of, watchers_of}
+use Rattle.std.proofs.Common.{◌≡◌, ◌∙◌, ◌++◌, List, ℕ, length, ap}
+use Rattle.std.specs.List.{flat_map}
+use Rattle.ncq_book.specs.Books.{BookState, watchers_of}
 use Rattle.ncq_callback.specs.Labels.{labels}
 use Rattle.ncq_event.specs.declared.firing.Firing.{Firing}
 use Rattle.ncq_engine.specs.declared.telling.Answered.{Answered}
 use Rattle.ncq_engine.specs.Tellings.{firing_name, firing_text, started_at}
 use Rattle.ncq_engine.specs.Spans.{spans_of}
-use Rattle.ncq_engine.proofs.BookLaws.{started_there}
 use Rattle.ncq_engine.proofs.telling.answer_change.Goals as goal
-
-pub tell-requires-clause-there : goal.tell-requires-clause-there
-tell-requires-clause-there g c =
-    let roll = c.args.roll.now in
-    let slice : c.as_slice.result.now ≡ watchers_of c.args.fed.now roll.members = c.as_slice.ensures ∙ c.in_ok-watchers.ensures ∙ ap (λ (b : BookState). watchers_of c.args.fed.now b.members) c.book.ensures in
-    let firings : c.as_slice-2.result.now ≡ flat_map (started_at roll.instant roll.members) (watchers_of c.args.fed.now roll.members) =
-    c.as_slice-2.ensures ∙ c.in_ok-firings.ensures ∙ (λ i. flat_map (started_at (c.book-2.ensures i).instant (c.book-2.ensures i).members) (slice i)) in
-    subst (λ (fs : List Firing). AllByRecursion (λ (f : Firing). IsSome (member_of f.install roll.members)) fs) (sym firings) (started_there roll.instant roll.members (watchers_of c.args.fed.now roll.members))
 
 pub returns : goal.returns
 returns g c =
     let roll = c.args.roll.now in
     let slice : c.as_slice.result.now ≡ watchers_of c.args.fed.now roll.members = c.as_slice.ensures ∙ c.in_ok-watchers.ensures ∙ ap (λ (b : BookState). watchers_of c.args.fed.now b.members) c.book.ensures in
-    let firings : c.as_slice-2.result.now ≡ flat_map (started_at roll.instant roll.members) (watchers_of c.args.fed.now roll.members) =
-    c.as_slice-2.ensures ∙ c.in_ok-firings.ensures ∙ (λ i. flat_map (started_at (c.book-2.ensures i).instant (c.book-2.ensures i).members) (slice i)) in
     let text : Firing → List ℕ = firing_text (labels c.args.handlers.now.items.items (λ h. h.name) (λ h. h.kind)) c.args.store.now roll.table.files roll.members in
+    let starts : ℕ → List Firing = started_at roll.instant roll.members in
     record {
       told = record {
-        written = c.in_ok-spans.ensures.text ∙ (λ i. c.in_ok-answered.ensures.text i ++ flat_map text (firings i));
+        written = c.in_ok-spans.ensures.text ∙ (λ i. c.in_ok-answered.ensures.text i ++ flat_map text (flat_map starts (slice i)));
         from = ap (λ (a : Answered). a.from) c.with.ensures ∙ ap (λ (a : Answered). a.from) c.in_ok-answered.ensures.places ∙ ap length c.in_ok-answered.ensures.text;
         to = ap (λ (a : Answered). a.to) c.with.ensures;
         spans = ap (λ (a : Answered). a.spans) c.with.ensures ∙ c.in_ok-spans.ensures.spans
-            ∙ (λ i. spans_of (firing_name roll.members) text (length (c.in_ok-answered.ensures.text i)) (firings i));
+            ∙ (λ i. spans_of (firing_name roll.members) text (length (c.in_ok-answered.ensures.text i)) (flat_map starts (slice i)));
       };
     }

@@ -1,5 +1,5 @@
 use Rattle.std.proofs.Common.{◌≡◌, ◌++◌, ◌∷◌, [], List, ℕ, length, take, get_or, ◌+◌, ◌<◌, ◌≤◌, arith, sym, subst, ◌∙◌, ap, length-append}
-use Rattle.std.specs.Prelude.{Some, IsSome}
+use Rattle.std.specs.Prelude.{Some, IfSome, IsSome}
 use Rattle.std.specs.List.{flat_map}
 use Rattle.std.proofs.lemmas.List.{take_more, take_all}
 use Rattle.ncq_book.specs.declared.member.Member.{Member}
@@ -10,7 +10,7 @@ use Rattle.ncq_group.specs.Tables.{TableState}
 use Rattle.ncq_shelf.specs.KeptFiles.{Files}
 use Rattle.ncq_engine.specs.Engines.{CanTell, told_text}
 use Rattle.ncq_engine.specs.Spans.{span_of, spans_of}
-use Rattle.ncq_engine.specs.Tellings.{firing_name, firing_text}
+use Rattle.ncq_engine.specs.Tellings.{IsLatest, firing_name, firing_text}
 use Rattle.ncq_engine.proofs.TellingLoops.{each_here, found_has, name_found, not_missing, spans_on, text_found, text_on}
 use Rattle.ncq_engine.proofs.telling.tell.Goals as goal
 
@@ -28,6 +28,7 @@ fire-requires g c =
     record {
       can = subst (λ (t : TableState). CanTell all c.args.store.now t c.in-Some.member.now) (sym c.groups.ensures)
           (found_has (CanTell all c.args.store.now c.args.roll.now.table) item.install c.args.roll.now.members c.in-Some.member.now c.requires.can found);
+      latest = subst (λ (t : TableState). IfSome c.loop-firing.latest (IsLatest t.files)) (sym c.groups.ensures) c.loop-firing.invariant.latest;
     }
 
 pub loop-firing-preserved : goal.loop-firing-preserved
@@ -47,14 +48,15 @@ loop-firing-preserved g c =
     ap (λ (t : TableState). told_text all store t.files m item.instant) c.groups.ensures ∙ text_found all store files members item m found in
     let before : List ℕ = c.loop-firing.out.items in
     let after : List ℕ = c.fire.new.out.items in
-    let written : after ≡ before ++ firing_text all store files members item = c.in_ok-fire.ensures.text ∙ ap (λ (l : List ℕ). before ++ l) text in
+    let written : after ≡ before ++ firing_text all store files members item = c.in_ok-told.ensures.text ∙ ap (λ (l : List ℕ). before ++ l) text in
     let name : m.name ≡ firing_name members item = name_found members item m found in
     let placed : c.fire.new.spans ≡ c.loop-firing.spans ++ span_of (firing_name members item) (length before) (firing_text all store files members item) =
-    c.in_ok-fire.ensures.span ∙ (λ i. c.loop-firing.spans ++ span_of (name i) (length before) (text i)) in
+    c.in_ok-told.ensures.span ∙ (λ i. c.loop-firing.spans ++ span_of (name i) (length before) (text i)) in
     record {
       text = text_on firings at item one (firing_text all store files members) c.args.out.now.items before after c.loop-firing.invariant.text written;
       spans = spans_on firings at item one (firing_name members) (firing_text all store files members) (length c.args.out.now.items) (length before) c.loop-firing.spans c.fire.new.spans c.loop-firing.invariant.spans
           (ap length c.loop-firing.invariant.text ∙ length-append c.args.out.now.items (flat_map (firing_text all store files members) (take at firings))) placed;
+      latest = subst (λ (t : TableState). IsLatest t.files c.in_ok-told.told) c.groups.ensures c.in_ok-told.ensures.latest;
     }
 
 pub returns-clause-text : goal.returns-clause-text

@@ -1,8 +1,9 @@
 use Rattle.std.proofs.Common.{◌≡◌, ◌++◌, length, take}
+use Rattle.std.specs.Prelude.{IfSome}
 use Rattle.std.specs.List.{flat_map}
 use Rattle.ncq_callback.specs.Labels.{labels}
 use Rattle.ncq_engine.specs.Spans.{spans_of}
-use Rattle.ncq_engine.specs.Tellings.{firing_name, firing_text}
+use Rattle.ncq_engine.specs.Tellings.{IsLatest, firing_name, firing_text}
 use Rattle.ncq_engine.proofs.telling.tell.Given as goal
 
 abbrev pub invariant-loop-firing : goal.invariant-loop-firing
@@ -11,4 +12,5 @@ invariant-loop-firing g l = record {
       ++ flat_map (firing_text (labels l.handlers.items.items (λ h. h.name) (λ h. h.kind)) l.store l.roll.table.files l.roll.members) (take l.firing-index l.firings);
   spans : l.spans ≡ spans_of (firing_name l.roll.members) (firing_text (labels l.handlers.items.items (λ h. h.name) (λ h. h.kind)) l.store l.roll.table.files l.roll.members)
       (length l.initial.out.items) (take l.firing-index l.firings);
+  latest : IfSome l.latest (IsLatest l.roll.table.files);
 }
