@@ -6,12 +6,15 @@ use Rattle.std.proofs.KnownBytes.{Appends-nil}
 use Rattle.std.proofs.lemmas.Bool.Decides.{nat_tests}
 use Rattle.ncq_base.specs.Numbers.{read_u64}
 use Rattle.ncq_engine.specs.Notices.{Language}
+use Rattle.ncq_engine.specs.Stands.{EngineState}
+use Rattle.ncq_report.specs.Loads.{load_text}
+use Rattle.ncq_script.specs.Script.{script}
 use Rattle.ncq_words.specs.Forms.{Form, form_of, form_of_value, in_range, is_plain, load_form, load_number}
 use Rattle.ncq_words.specs.Forms.Form.{run, alone, load}
 use Rattle.ncq_run.specs.Output.{load_output}
-use Rattle.ncq_run.specs.Status.{Ended, EndedAs, Loaded, Told, WorksAs, is_load, told}
+use Rattle.ncq_run.specs.Status.{Ended, EndedAs, Loaded, StandsAs, StandsForThe, Told, WorksAs, is_load, told}
 use Rattle.ncq_run.specs.declared.session.Status.{Status}
-use Rattle.ncq_run.specs.declared.session.Status.TheVariants.{NoMemory, ReadFault, Usage}
+use Rattle.ncq_run.specs.declared.session.Status.TheVariants.{Done, NoMemory, ReadFault, ScriptTooLong, Usage, WriteFault}
 use Rattle.ncq_run.proofs.Turns.{nothing_written}
 use Rattle.ncq_run.proofs.WorkLaws.{no_step}
 
@@ -83,6 +86,21 @@ pub no_work : (form : Form) (language : Language) (limit : ℕ) (left : Option (
 no_work run language limit left steps = no_step language limit left steps
 no_work (alone name) language limit left steps = no_step language limit left steps
 no_work (load n) language limit left steps = λ bound works. omega arith
+
+pub nothing_stands : (form : Form) (language : Language) (limit most : ℕ) (left left' : Option (List ℕ)) (engine : EngineState) → StandsAs form language limit most left left' engine NoMemory
+nothing_stands run language limit most left left' engine = tt
+nothing_stands (alone name) language limit most left left' engine = tt
+nothing_stands (load n) language limit most left left' engine = tt
+
+-- after a load the engine stands for its script where the load is done
+pub load_stands : (language : Language) (limit most n : ℕ) (left left' : Option (List ℕ)) (engine : EngineState) (status : Status)
+    → (status ≡ Done → StandsForThe language (script limit (load_text n)) engine) → StandsAs (load n) language limit most left left' engine status
+load_stands language limit most n left left' engine Done stands = stands refl
+load_stands language limit most n left left' engine Usage stands = tt
+load_stands language limit most n left left' engine ReadFault stands = tt
+load_stands language limit most n left left' engine WriteFault stands = tt
+load_stands language limit most n left left' engine NoMemory stands = tt
+load_stands language limit most n left left' engine ScriptTooLong stands = tt
 
 -- no session ends with usage
 pub not_usage : (language : Language) (whose : Option (List ℕ)) (limit most : ℕ) (old new : Told) (status : Status) → Ended language whose limit most old new status → status ≡ Usage → ⊥

@@ -3,7 +3,7 @@ use Rattle.std.proofs.Common.{◌≡◌, ◌+◌, ◌-◌, ◌<◌, ◌≤◌, �
 use Rattle.std.specs.Prelude.{Option, None, Some, IfSome}
 use Rattle.std.specs.Io.KnownBytes.{Appends, Consumes, Keeps, IsAtEnd}
 use Rattle.std.proofs.KnownBytes.{Consumes-nil, Appends-nil, Consumes-trans, Consumes-kept, Consumes-whole}
-use Rattle.std.proofs.lemmas.List.{take-append-drop, take-take, length-take, append-nil}
+use Rattle.std.proofs.lemmas.List.{take-append-drop, take-take, length-take, append-nil, append_cancel_right}
 use Rattle.std.proofs.Math.Seq.{take-append_seam}
 use Rattle.ncq_outside.specs.Causes.{Rose, RoseBy}
 use Rattle.ncq_outside.proofs.CallerLemmas.{RoseBy-at_least, RoseBy-at_most}
@@ -18,7 +18,7 @@ use Rattle.ncq_engine.specs.Stands.{EngineState, Stands}
 use Rattle.ncq_run.proofs.Outputs.{nothing_whole, nothing_happened}
 use Rattle.ncq_run.proofs.WorkLaws.{all_work}
 use Rattle.ncq_run.specs.Output.{output_of, output_of_whole, history_of_whole, AreWithinWork}
-use Rattle.ncq_run.specs.Status.{Told, told, Ended, StandsForAll, IsDone, IsReadFault, IsWriteFault, IsTooLong, IsOutOfMemory, AppendsPrefix, AppendsProperPrefix}
+use Rattle.ncq_run.specs.Status.{Told, told, Ended, StandsForAll, StandsForFront, StandsForRead, StandsForThe, StandsAfter, IsDone, IsReadFault, IsWriteFault, IsTooLong, IsOutOfMemory, AppendsPrefix, AppendsProperPrefix}
 use Rattle.ncq_run.specs.Session.{SoFar}
 use Rattle.ncq_run.specs.declared.session.Status.{Status}
 
@@ -34,6 +34,18 @@ split_piece bytes buffer rest inside n le =
     ∙ ap (λ (xs : List ℕ). xs ++ rest) (sym (append_assoc bytes (take inside buffer) (drop inside (take n buffer))))
     ∙ append_assoc (bytes ++ take inside buffer) (drop inside (take n buffer)) rest
 
+-- known bytes that were taken are those in front of what is left
+taken_are : (a b : Option (List ℕ)) (bs bytes rest : List ℕ) → Consumes a b bs → a ≡ Some (bytes ++ rest) → b ≡ Some rest → bs ≡ bytes
+taken_are a b bs bytes rest read e f =
+    let now : Consumes (Some (bytes ++ rest)) (Some rest) bs = subst (λ (x : Option (List ℕ)). Consumes x (Some rest) bs) e (subst (λ (y : Option (List ℕ)). Consumes a y bs) f read) in
+    append_cancel_right bs bytes rest (sym now)
+
+-- the engine that stands for what is whole stands for those commands
+whole_stands : (language : Language) (limit : ℕ) (bytes : List ℕ) (engine : EngineState) → Stands engine (history_of_whole language limit bytes) → engine.count ≡ length (whole_script limit bytes)
+    → StandsForThe language (whole_script limit bytes) engine
+unfolding history_of_whole
+whole_stands language limit bytes engine stands counted = (stands, counted)
+
 rose_later : (a b c : ℕ) → a ≤ b → Rose b c → Rose a c
 rose_later a b c le rose = omega arith
 
@@ -41,6 +53,11 @@ module _ (language : Language) (whose : Option (List ℕ)) (reader : ScriptState
     (left' held' : Option (List ℕ)) (given' rf' wf' : ℕ) where
   pub turn_read_fault : Keeps left left' → Rose rf rf' → IsReadFault language whose (limit_of reader) start (told left' held given' rf' wf)
   turn_read_fault kept rose = record { rose = rose_later _ _ _ so.read_later rose; bytes = so.bytes; read = Consumes-kept _ _ _ _ so.read kept; written = so.written }
+
+  pub turn_fault_stands : Keeps left left' → StandsForRead language (limit_of reader) start.left left' engine
+  turn_fault_stands kept bytes rest e f =
+      let same : so.bytes ≡ bytes = taken_are start.left left' so.bytes bytes rest (Consumes-kept _ _ _ _ so.read kept) e f in
+      subst (λ (bs : List ℕ). StandsForThe language (whole_script (limit_of reader) bs) engine) same (whole_stands language (limit_of reader) so.bytes engine so.stands so.counted)
 
   pub turn_fault_work : IfSome start.left (λ bytes. AreWithinWork language (script (limit_of reader) bytes) begun steps)
   turn_fault_work = with_rest start.left left so.bytes (λ bytes. AreWithinWork language (script (limit_of reader) bytes) begun steps) so.read
@@ -97,18 +114,28 @@ module _ (language : Language) (whose : Option (List ℕ)) (reader : ScriptState
       pub turn_write_fault : Rose wf wf' → ((more : List ℕ) → AppendsProperPrefix start.held held' (output_of language whose (limit_of reader) ((so.bytes ++ take inside buffer) ++ more))) → IsWriteFault language whose (limit_of reader) start (told left' held' given' rf' wf')
       turn_write_fault rose p = record { rose = rose_later _ _ _ so.write_later rose; written = over_rest (λ script. AppendsProperPrefix start.held held' (output_of language whose (limit_of reader) script)) p }
 
-      pub turn_too_long : n ≤ length buffer → RoseBy given n given' → inside ≡ min n (most - taken) → most - taken < n → Appends start.held held' (output_of_whole language whose (limit_of reader) (so.bytes ++ take inside buffer))
-          → IsTooLong language whose (limit_of reader) most start (told left' held' given' rf' wf')
-      turn_too_long room rose small long written =
-          let full : most ≡ length (so.bytes ++ take inside buffer) = omega (arith, length-append so.bytes (take inside buffer), length-take inside buffer, so.long) in
-          record {
-            more = omega (arith, so.given.at_least, RoseBy-at_least _ _ _ rose);
-            long = with_rest start.left left' (so.bytes ++ take n buffer) (λ script. most < length script) (Consumes-trans _ _ _ _ _ so.read read)
-                (λ rest. omega (arith, length-append (so.bytes ++ take n buffer) rest, length-append so.bytes (take n buffer), length-take n buffer, so.long));
-            written = over_rest (λ script. Appends start.held held' (output_of_whole language whose (limit_of reader) (take most script)))
-                (λ more. let e : take most ((so.bytes ++ take inside buffer) ++ more) ≡ so.bytes ++ take inside buffer = ap (λ (k : ℕ). take k ((so.bytes ++ take inside buffer) ++ more)) full ∙ take-append_seam (so.bytes ++ take inside buffer) more in
-                subst (λ (bs : List ℕ). Appends start.held held' (output_of_whole language whose (limit_of reader) bs)) (sym e) written);
-          }
+      -- a piece that ends at the limit
+      module _ (room : n ≤ length buffer) (small : inside ≡ min n (most - taken)) (long : most - taken < n) where
+        -- what is within the limit is what was read, and the piece up to it
+        front_is : (more : List ℕ) → take most ((so.bytes ++ take inside buffer) ++ more) ≡ so.bytes ++ take inside buffer
+        front_is more =
+            let full : most ≡ length (so.bytes ++ take inside buffer) = omega (arith, length-append so.bytes (take inside buffer), length-take inside buffer, so.long) in
+            ap (λ (k : ℕ). take k ((so.bytes ++ take inside buffer) ++ more)) full ∙ take-append_seam (so.bytes ++ take inside buffer) more
+
+        pub turn_too_long : RoseBy given n given' → Appends start.held held' (output_of_whole language whose (limit_of reader) (so.bytes ++ take inside buffer)) → IsTooLong language whose (limit_of reader) most start (told left' held' given' rf' wf')
+        turn_too_long rose written = record {
+          more = omega (arith, so.given.at_least, RoseBy-at_least _ _ _ rose);
+          long = with_rest start.left left' (so.bytes ++ take n buffer) (λ script. most < length script) (Consumes-trans _ _ _ _ _ so.read read)
+              (λ rest. omega (arith, length-append (so.bytes ++ take n buffer) rest, length-append so.bytes (take n buffer), length-take n buffer, so.long));
+          written = over_rest (λ script. Appends start.held held' (output_of_whole language whose (limit_of reader) (take most script)))
+              (λ more. subst (λ (bs : List ℕ). Appends start.held held' (output_of_whole language whose (limit_of reader) bs)) (sym (front_is more)) written);
+        }
+
+        pub turn_front_stands : (engine' : EngineState) → Stands engine' (history_of_whole language (limit_of reader) (so.bytes ++ take inside buffer)) → engine'.count ≡ length (whole_script (limit_of reader) (so.bytes ++ take inside buffer))
+            → StandsForFront language (limit_of reader) most start.left engine'
+        turn_front_stands engine' stands counted = over_rest (λ script. StandsForThe language (whole_script (limit_of reader) (take most script)) engine')
+            (λ more. subst (λ (bs : List ℕ). StandsForThe language (whole_script (limit_of reader) bs) engine') (sym (front_is more))
+            (whole_stands language (limit_of reader) (so.bytes ++ take inside buffer) engine' stands counted))
 
     pub turn_goes_on : (reader' : ScriptState) (engine' : EngineState) (inside steps' : ℕ) → inside ≡ n → n ≤ length buffer → RoseBy given n given' → rf ≤ rf' → wf ≤ wf' → (limit_of reader') ≡ (limit_of reader)
         → FollowsScript reader' (so.bytes ++ take inside buffer) engine'.count → engine'.count ≡ length (whole_script (limit_of reader) (so.bytes ++ take inside buffer))
@@ -165,8 +192,9 @@ module _ (labels labels' : List Label) (same : labels ≡ labels') where
   pub ended_same : (whose : Option (List ℕ)) (limit limit' most most' : ℕ) (start now : Told) (status : Status) → limit ≡ limit' → most ≡ most' → Ended (language_of labels) whose limit most start now status → Ended (language_of labels') whose limit' most' start now status
   ended_same whose limit limit' most most' start now status e f ended = rw (← same, ← e, ← f) ended
 
-  pub stands_same : (limit limit' : ℕ) (left : Option (List ℕ)) (engine : EngineState) → limit ≡ limit' → StandsForAll (language_of labels) limit left engine → StandsForAll (language_of labels') limit' left engine
-  stands_same limit limit' left engine e stands = rw (← same, ← e) stands
+  pub stands_same : (limit limit' most most' : ℕ) (left left' : Option (List ℕ)) (engine : EngineState) (status : Status) → limit ≡ limit' → most ≡ most'
+      → StandsAfter (language_of labels) limit most left left' engine status → StandsAfter (language_of labels') limit' most' left left' engine status
+  stands_same limit limit' most most' left left' engine status e f stands = rw (← same, ← e, ← f) stands
 
   pub work_same : (limit limit' : ℕ) (left : Option (List ℕ)) (begun steps : ℕ) → limit ≡ limit' → IfSome left (λ bytes. AreWithinWork (language_of labels) (script limit bytes) begun steps)
       → IfSome left (λ bytes. AreWithinWork (language_of labels') (script limit' bytes) begun steps)

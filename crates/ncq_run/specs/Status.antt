@@ -1,11 +1,11 @@
--- What each status says of the source and the sink, before and after.
+-- What each status says of the source, the sink and the engine, before and after.
 use Rattle.std.specs.Prelude.{◌≡◌, ◌+◌, ◌<◌, ◌≤◌, ◌-◌, ◌^◌, min, ℕ, List, [], ◌++◌}
-use Rattle.std.specs.Prelude.{length, take, Bool, true, false, Option, None, Some, IfSome, ◌⊎◌}
+use Rattle.std.specs.Prelude.{length, take, Bool, true, false, Option, None, Some, IfSome, ◌⊎◌, ⊤}
 use Rattle.std.specs.Io.KnownBytes.{Appends, Consumes, IsAtEnd}
 use Rattle.ncq_outside.specs.Causes.{Rose}
 use Rattle.ncq_report.specs.Loads.{load_text}
 use Rattle.ncq_script.specs.declared.command.Command.{Command}
-use Rattle.ncq_script.specs.Script.{script}
+use Rattle.ncq_script.specs.Script.{script, whole_script}
 use Rattle.ncq_words.specs.Forms.{Form}
 use Rattle.ncq_words.specs.Forms.Form.{run, alone, load}
 use Rattle.ncq_engine.specs.Notices.{Language}
@@ -86,12 +86,6 @@ pub record IsOutOfMemory (language : Language) (whose : Option (List ℕ)) (limi
   pub written : IfSome old.left (λ script.
       AppendsPrefix old.held new.held (output_of language whose limit script))
 
--- the engine stands for the whole script, and counted its commands
-abbrev pub StandsForAll : Language → ℕ → Option (List ℕ) → EngineState → Type 0
-StandsForAll language limit left engine = IfSome left (λ bytes.
-    Stands engine (history_of language [] (script limit bytes))
-    × (engine.count ≡ length (script limit bytes)))
-
 -- how a session over a script ends
 abbrev pub Ended
     : Language → Option (List ℕ) → ℕ → ℕ → Told → Told → Status → Type 0
@@ -143,12 +137,43 @@ abbrev pub StandsForThe : Language → List Command → EngineState → Type 0
 StandsForThe language commands engine =
     Stands engine (history_of language [] commands) × (engine.count ≡ length commands)
 
--- it stands for the whole script of the form
-abbrev pub StandsAs : Form → Language → ℕ → Option (List ℕ) → EngineState → Type 0
-StandsAs run language limit left engine = StandsForAll language limit left engine
-StandsAs (alone name) language limit left engine = StandsForAll language limit left engine
-StandsAs (load n) language limit left engine =
+-- it stands for the whole script
+abbrev pub StandsForAll : Language → ℕ → Option (List ℕ) → EngineState → Type 0
+StandsForAll language limit left engine =
+    IfSome left (λ bytes. StandsForThe language (script limit bytes) engine)
+
+-- it stands for the commands that are whole in the bytes that were read
+abbrev pub StandsForRead
+    : Language → ℕ → Option (List ℕ) → Option (List ℕ) → EngineState → Type 0
+StandsForRead language limit left left' engine = (bytes rest : List ℕ)
+    → left ≡ Some (bytes ++ rest) → left' ≡ Some rest
+    → StandsForThe language (whole_script limit bytes) engine
+
+-- it stands for those that are whole within the limit of a script
+abbrev pub StandsForFront : Language → ℕ → ℕ → Option (List ℕ) → EngineState → Type 0
+StandsForFront language limit most left engine = IfSome left (λ script.
+    StandsForThe language (whole_script limit (take most script)) engine)
+
+-- for which commands of a script it stands, by how the session ended
+abbrev pub StandsAfter : Language → ℕ → ℕ → Option (List ℕ) → Option (List ℕ)
+    → EngineState → Status → Type 0
+StandsAfter language limit most left left' engine Done = StandsForAll language limit left engine
+StandsAfter language limit most left left' engine ReadFault =
+    StandsForRead language limit left left' engine
+StandsAfter language limit most left left' engine ScriptTooLong =
+    StandsForFront language limit most left engine
+StandsAfter language limit most left left' engine status = ⊤
+
+-- for which it stands with words of this form
+abbrev pub StandsAs : Form → Language → ℕ → ℕ → Option (List ℕ) → Option (List ℕ)
+    → EngineState → Status → Type 0
+StandsAs run language limit most left left' engine status =
+    StandsAfter language limit most left left' engine status
+StandsAs (alone name) language limit most left left' engine status =
+    StandsAfter language limit most left left' engine status
+StandsAs (load n) language limit most left left' engine Done =
     StandsForThe language (script limit (load_text n)) engine
+StandsAs (load n) language limit most left left' engine status = ⊤
 
 -- the steps are within the work of the whole script of the form
 abbrev pub WorksAs : Form → Language → ℕ → Option (List ℕ) → ℕ → ℕ → Type 0

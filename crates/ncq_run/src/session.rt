@@ -14,7 +14,7 @@ ghost use Rattle.ncq_engine.specs.Output.{history_of};
 ghost use Rattle.ncq_engine.specs.Stands.{Stands};
 ghost use Rattle.ncq_run.specs.Limits.{longest_line, longest_script};
 ghost use Rattle.ncq_run.specs.Status.{EndedAs, StandsAs, WorksAs, is_load};
-ghost use Rattle.ncq_run.specs.Status.{Told, told, Ended, exit_code_of, StandsForAll};
+ghost use Rattle.ncq_run.specs.Status.{Told, told, Ended, exit_code_of, StandsAfter};
 ghost use Rattle.ncq_words.specs.Forms.{form_of, texts_of};
 ghost use Rattle.ncq_run.specs.Status.{AppendsPrefix, AppendsProperPrefix};
 ghost use Rattle.ncq_run.specs.Session.{SoFar, IsReady};
@@ -292,13 +292,13 @@ fn turn<I: Source, O: Sink, L: Ledger>(
         session.old.reader) session.old.most start
         (told (I.left input.new) (O.held output.new) (I.given input.new)
         (I.faults input.new) (O.faults output.new)) status) }
-    ensures stands { IfSome result (λ status. status ≡ Status.Done → (start : Told) (begun : ℕ)
+    ensures stands { IfSome result (λ status. (start : Told) (begun : ℕ)
         → SoFar (language_of engine.old.labels) (option_copied whose.entry) session.old.reader
         engine.old session.old.taken
         start (told (I.left input.old) (O.held output.old) (I.given input.old)
         (I.faults input.old) (O.faults output.old)) begun steps.old
-        → StandsForAll (language_of engine.old.labels) (limit_of session.old.reader) start.left
-        engine.new) }
+        → StandsAfter (language_of engine.old.labels) (limit_of session.old.reader)
+        session.old.most start.left (I.left input.new) engine.new status) }
     ensures work { IfSome result (λ status. (start : Told) (begun : ℕ)
         → SoFar (language_of engine.old.labels) (option_copied whose.entry) session.old.reader
         engine.old session.old.taken
@@ -380,8 +380,8 @@ fn serve<I: Source, O: Sink, L: Ledger>(
         (I.faults input.old) (O.faults output.old))
         (told (I.left input.new) (O.held output.new) (I.given input.new)
         (I.faults input.new) (O.faults output.new)) result }
-    ensures stands { result ≡ Status.Done
-        → StandsForAll (language_of engine.old.labels) limit (I.left input.old) engine.new }
+    ensures stands { StandsAfter (language_of engine.old.labels) limit most
+        (I.left input.old) (I.left input.new) engine.new result }
     ensures work { IfSome (I.left input.old) (λ bytes. AreWithinWork
         (language_of engine.old.labels) (script limit bytes) steps.old steps.new) }
     ensures within { I.given input.new ≤ I.given input.old + (most + 1) }
@@ -427,9 +427,11 @@ fn serve<I: Source, O: Sink, L: Ledger>(
 /// more than one byte past 268,435,456 is read, and none in a load. A source that is sure never
 /// gives a `ReadFault`, and a sink gives a `WriteFault` only where it holds all that it was sure to
 /// hold.
-/// The engine is a new one, for these handlers. After `Done` it stands for the whole script, and
-/// counted its commands. Each row that is made is one step: where the source tells its bytes, the
-/// steps are within the work of the commands of the script, whatever the status.
+/// The engine is a new one, for these handlers. After `Done` it stands for the whole script, after
+/// `ReadFault` for the commands that are whole in the bytes that were read, and after
+/// `ScriptTooLong` for those that are whole in the first 268,435,456 bytes; and it counted them.
+/// Each row that is made is one step: where the source tells its bytes, the steps are within the
+/// work of the commands of the script, whatever the status.
 pub fn run<I: Source, O: Sink, L: Ledger>(
     alloc: Global,
     words: &[&str],
@@ -456,9 +458,9 @@ pub fn run<I: Source, O: Sink, L: Ledger>(
         (I.faults input.new) (O.faults output.new)) result) }
     ensures unread { IfSome (form_of (texts_of words.now)) (λ form.
         is_load form ≡ true → input.new ≡ input.old) }
-    ensures stands { IfSome (form_of (texts_of words.now)) (λ form. result ≡ Status.Done
-        → StandsAs form (language_of engine.old.labels) longest_line (I.left input.old)
-        engine.new) }
+    ensures stands { IfSome (form_of (texts_of words.now)) (λ form.
+        StandsAs form (language_of engine.old.labels) longest_line longest_script
+        (I.left input.old) (I.left input.new) engine.new result) }
     ensures work { IfSome (form_of (texts_of words.now)) (λ form.
         WorksAs form (language_of engine.old.labels) longest_line (I.left input.old)
         steps.old steps.new) }

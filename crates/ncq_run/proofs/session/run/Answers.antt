@@ -3,10 +3,10 @@ use Rattle.std.specs.Prelude.{Err}
 use Rattle.ncq_engine.specs.Languages.{language_of}
 use Rattle.ncq_words.specs.Forms.{texts_of}
 use Rattle.ncq_words.specs.Forms.Form.{run, alone, load}
-use Rattle.ncq_run.specs.Limits.{longest_line}
+use Rattle.ncq_run.specs.Limits.{longest_line, longest_script}
 use Rattle.ncq_run.specs.Status.{StandsAs, WorksAs, is_load, told}
-use Rattle.ncq_run.specs.declared.session.Status.TheVariants.{Done, NoMemory}
-use Rattle.ncq_run.proofs.FormLaws.{three_same, ended_for, if_none, load_is, load_never_reads, no_work, not_none, not_usage, not_usage_load, nothing_yet, of_any, of_form, of_none, reads}
+use Rattle.ncq_run.specs.declared.session.Status.TheVariants.{NoMemory}
+use Rattle.ncq_run.proofs.FormLaws.{three_same, ended_for, if_none, load_is, load_never_reads, load_stands, no_work, nothing_stands, not_none, not_usage, not_usage_load, nothing_yet, of_any, of_form, of_none, reads}
 use Rattle.ncq_run.proofs.session.run.Goals as goal
 
 pub returns-in-Ok-Run-clause-usage : goal.returns-in-Ok-Run-clause-usage
@@ -94,7 +94,8 @@ pub returns-in-Ok-Load-clause-unread : goal.returns-in-Ok-Load-clause-unread
 returns-in-Ok-Load-clause-unread g c = of_form _ (load c.in-Ok-Load.n) _ (rw c.in-Ok-Load.field-0-is at c.in-Ok-Load.ensures.form) (λ _. refl)
 
 pub returns-in-Ok-Load-clause-stands : goal.returns-in-Ok-Load-clause-stands
-returns-in-Ok-Load-clause-stands g c = of_form _ (load c.in-Ok-Load.n) _ (rw c.in-Ok-Load.field-0-is at c.in-Ok-Load.ensures.form) c.load.ensures.stands
+returns-in-Ok-Load-clause-stands g c = of_form _ (load c.in-Ok-Load.n) _ (rw c.in-Ok-Load.field-0-is at c.in-Ok-Load.ensures.form)
+    (load_stands (language_of c.args.engine.now.labels) longest_line longest_script c.in-Ok-Load.n (g.I.Source.left c.args.input.now) (g.I.Source.left c.args.input.now) _ _ c.load.ensures.stands)
 
 pub returns-in-Ok-Load-clause-work : goal.returns-in-Ok-Load-clause-work
 returns-in-Ok-Load-clause-work g c = of_form _ (load c.in-Ok-Load.n) _ (rw c.in-Ok-Load.field-0-is at c.in-Ok-Load.ensures.form) c.load.ensures.work
@@ -141,7 +142,8 @@ pub returns-in-Err-OutOfMemory-clause-unread : goal.returns-in-Err-OutOfMemory-c
 returns-in-Err-OutOfMemory-clause-unread g c = of_any _ (λ form. is_load form ≡ true → c.args.input.now ≡ c.args.input.now) (λ form _. refl)
 
 pub returns-in-Err-OutOfMemory-clause-stands : goal.returns-in-Err-OutOfMemory-clause-stands
-returns-in-Err-OutOfMemory-clause-stands g c = of_any _ (λ form. NoMemory ≡ Done → StandsAs form (language_of c.args.engine.now.labels) longest_line (g.I.Source.left c.args.input.now) c.args.engine.now) (λ form done. absurd cc)
+returns-in-Err-OutOfMemory-clause-stands g c = of_any _ (λ form. StandsAs form (language_of c.args.engine.now.labels) longest_line longest_script (g.I.Source.left c.args.input.now) (g.I.Source.left c.args.input.now) c.args.engine.now NoMemory)
+    (λ form. nothing_stands form (language_of c.args.engine.now.labels) longest_line longest_script (g.I.Source.left c.args.input.now) (g.I.Source.left c.args.input.now) c.args.engine.now)
 
 pub returns-in-Err-OutOfMemory-clause-work : goal.returns-in-Err-OutOfMemory-clause-work
 returns-in-Err-OutOfMemory-clause-work g c = of_any _ (λ form. WorksAs form (language_of c.args.engine.now.labels) longest_line (g.I.Source.left c.args.input.now) c.args.steps.now c.args.steps.now)

@@ -33,9 +33,9 @@ returns-in-Some-clause-ended g c =
     (c.in-Some.ensures.ends _ _ (so_far_same _ _ (sym c.turns.invariant.labels) _ _ _ _ _ _ _ _ c.turns.invariant.so_far))
 
 pub returns-in-Some-clause-stands : goal.returns-in-Some-clause-stands
-returns-in-Some-clause-stands g c done =
-    stands_same _ _ c.turns.invariant.labels _ _ _ _ c.turns.invariant.limit
-    (c.in-Some.ensures.stands done _ _ (so_far_same _ _ (sym c.turns.invariant.labels) _ _ _ _ _ _ _ _ c.turns.invariant.so_far))
+returns-in-Some-clause-stands g c =
+    stands_same _ _ c.turns.invariant.labels _ _ _ _ _ _ _ _ c.turns.invariant.limit c.turns.invariant.most
+    (c.in-Some.ensures.stands _ _ (so_far_same _ _ (sym c.turns.invariant.labels) _ _ _ _ _ _ _ _ c.turns.invariant.so_far))
 
 pub returns-in_default-clause-work : goal.returns-in_default-clause-work
 returns-in_default-clause-work g c = no_step (language_of c.args.engine.now.labels) c.args.limit _ c.args.steps.now

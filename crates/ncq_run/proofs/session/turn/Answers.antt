@@ -1,12 +1,17 @@
 use Rattle.std.proofs.Common.{◌≡◌, ◌≤◌, length, take, arith, rules, ap}
 use Rattle.std.specs.Prelude.{Err}
-use Rattle.ncq_run.proofs.Turns.{turn_read_fault, turn_done, turn_stands, end_out_of_memory, end_write_fault, turn_out_of_memory, turn_write_fault, turn_too_long, turn_goes_on, written_front, turn_fault_work, end_work, turn_work}
+use Rattle.ncq_run.proofs.Turns.{turn_read_fault, turn_done, turn_stands, turn_fault_stands, turn_front_stands, end_out_of_memory, end_write_fault, turn_out_of_memory, turn_write_fault, turn_too_long, turn_goes_on, written_front, turn_fault_work, end_work, turn_work}
 use Rattle.ncq_run.proofs.session.turn.Goals as goal
 
 pub returns-in_default-clause-ends : goal.returns-in_default-clause-ends
 returns-in_default-clause-ends g c start begun so =
     turn_read_fault _ _ c.args.session.now.reader c.args.engine.now c.args.session.now.taken c.args.session.now.most start _ _ _ _ _ _ _ so c.requires.ready.within
     _ (g.O.Sink.held c.args.output.now) _ _ (g.O.Sink.faults c.args.output.now) c.in_default.ensures.stays.0 c.in_default.ensures.cause.failed
+
+pub returns-in_default-clause-stands : goal.returns-in_default-clause-stands
+returns-in_default-clause-stands g c start begun so =
+    turn_fault_stands _ _ c.args.session.now.reader c.args.engine.now c.args.session.now.taken c.args.session.now.most start _ _ _ _ _ _ _ so c.requires.ready.within
+    _ (g.O.Sink.held c.args.output.now) 0 0 0 c.in_default.ensures.stays.0
 
 pub returns-in-Ok-answer_rest-clause-ends : goal.returns-in-Ok-answer_rest-clause-ends
 returns-in-Ok-answer_rest-clause-ends g c start begun so =
@@ -15,7 +20,7 @@ returns-in-Ok-answer_rest-clause-ends g c start begun so =
     (c.in-Ok-answer_rest.ensures.written so.bytes so.follows so.counted so.stands start.held so.written)
 
 pub returns-in-Ok-answer_rest-clause-stands : goal.returns-in-Ok-answer_rest-clause-stands
-returns-in-Ok-answer_rest-clause-stands g c done start begun so =
+returns-in-Ok-answer_rest-clause-stands g c start begun so =
     turn_stands _ _ c.args.session.now.reader c.args.engine.now c.args.session.now.taken c.args.session.now.most start _ _ _ _ _ _ _ so c.requires.ready.within
     _ (g.O.Sink.held c.args.output.now) 0 0 0 c.fill.new.buffer c.in-Ok.got c.in-Ok.ensures.bytes c.if-got-eq0.true (c.in-Ok.ensures.end c.if-got-eq0.true) _
     (c.in-Ok-answer_rest.ensures.stands so.bytes so.follows so.counted so.stands) (c.in-Ok-answer_rest.ensures.counted so.bytes so.follows)
@@ -38,8 +43,18 @@ returns-in-Ok-answer_piece-clause-ends g c start begun so =
     written_front _ c.args.session.now.buffer.len c.fill.new.buffer _ _ _ c.front_of-piece.ensures c.deref.ensures.value (omega (arith, c.fill.auto.buffer, c.deref_mut.ensures.len)) in
     let room : c.in-Ok.got ≤ length c.fill.new.buffer = omega (arith, c.fill.auto.buffer, c.deref_mut.ensures.len, c.in-Ok.ensures.small, c.min.ensures, c.requires.ready.room_is) in
     turn_too_long _ _ c.args.session.now.reader c.args.engine.now c.args.session.now.taken c.args.session.now.most start _ _ _ _ _ _ _ so c.requires.ready.within
-    _ _ _ _ _ c.fill.new.buffer c.in-Ok.got c.in-Ok.ensures.bytes c.min-inside.result (omega arith) room c.in-Ok.ensures.given (search rules) (omega arith)
+    _ _ _ _ _ c.fill.new.buffer c.in-Ok.got c.in-Ok.ensures.bytes c.min-inside.result (omega arith) room (search rules) (omega arith) c.in-Ok.ensures.given
     (rw (← piece) (c.in-Ok-answer_piece.ensures.written so.bytes so.follows so.counted so.stands start.held so.written).0)
+
+pub returns-in-Ok-answer_piece-clause-stands : goal.returns-in-Ok-answer_piece-clause-stands
+returns-in-Ok-answer_piece-clause-stands g c start begun so =
+    let piece : c.front_of-piece.result.now ≡ take c.min-inside.result c.fill.new.buffer =
+    written_front _ c.args.session.now.buffer.len c.fill.new.buffer _ _ _ c.front_of-piece.ensures c.deref.ensures.value (omega (arith, c.fill.auto.buffer, c.deref_mut.ensures.len)) in
+    let room : c.in-Ok.got ≤ length c.fill.new.buffer = omega (arith, c.fill.auto.buffer, c.deref_mut.ensures.len, c.in-Ok.ensures.small, c.min.ensures, c.requires.ready.room_is) in
+    turn_front_stands _ _ c.args.session.now.reader c.args.engine.now c.args.session.now.taken c.args.session.now.most start _ _ _ _ _ _ _ so c.requires.ready.within
+    _ (g.O.Sink.held c.args.output.now) 0 0 0 c.fill.new.buffer c.in-Ok.got c.in-Ok.ensures.bytes c.min-inside.result (omega arith) room (search rules) (omega arith) _
+    (rw (← piece) (c.in-Ok-answer_piece.ensures.written so.bytes so.follows so.counted so.stands start.held so.written).1)
+    (rw (← piece) (c.in-Ok-answer_piece.ensures.counted so.bytes so.follows))
 
 pub returns-in-Ok-2-clause-goes_on : goal.returns-in-Ok-2-clause-goes_on
 returns-in-Ok-2-clause-goes_on g c start begun so =
