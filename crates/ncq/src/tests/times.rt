@@ -130,6 +130,37 @@ const TIMERS: &[Parts<'_>] = &[
         &[SOURCE, TIMED, "EVERY 10", DOT, PUT_95, PUT_96, "clock 30\n"],
         &["1 ok\n2 ok\n3 ok\n4 ok\n5 ok\nnotice w 10\n", GAIN_96],
     ),
+    // Who asks the same since another instant, or shows it otherwise, is told otherwise.
+    (
+        &[
+            SOURCE,
+            CREATE,
+            "a",
+            SYMBOLS,
+            "EVERY 10",
+            DOT,
+            CREATE,
+            "b",
+            SYMBOLS,
+            "EVERY 20",
+            DOT,
+            CREATE,
+            "c",
+            " WHERE <Quotes><Quote><Symbol>$s</></></> IN \"quotes\" CONSTRUCT <x>$s</> DO print ",
+            "EVERY 20",
+            DOT,
+            PUT_A,
+            "clock 10\n",
+            PUT_95,
+            "clock 20\n",
+        ],
+        &[
+            "1 ok\n2 ok\n3 ok\n4 ok\n5 ok\n6 ok\nnotice a 10\ngain 1\n-A\nend\n7 ok\n8 ok\n",
+            "notice a 20\ngain 1\n-INTC\nend\n",
+            "notice b 20\ngain 1\n-A\ngain 1\n-INTC\nend\n",
+            "notice c 20\ngain 1\n(x\n-A\n)x\ngain 1\n(x\n-INTC\n)x\nend\n",
+        ],
+    ),
     // It fires at its create too.
     (
         &[SOURCE, PUT_95, TIMED, "EVERY 10", DOT, DELETE, "clock 15\n"],
