@@ -6,6 +6,7 @@ ghost use Rattle.ncq_pyx.specs.Canonical.{item_is_proper};
 ghost use Rattle.ncq_pyx.specs.Faults.{block_of, max_nesting};
 ghost use Rattle.ncq_pyx.specs.Spells.{innermost, fits, Reads, IsAnswer, Gives};
 ghost use Rattle.std.specs.Prelude.{List, Result, true};
+ghost use Rattle.ncq_tree.specs.declared.model.Node.TheVariants.{Text};
 ghost use Rattle.ncq_pyx.specs.declared.item.Item.{Item};
 ghost use Rattle.ncq_pyx.specs.declared.error.PyxError.{PyxError};
 ghost use Rattle.ncq_pyx.specs.Reading.{frames_of, names_of, given_of, ErasesOutside, Takes};
@@ -136,7 +137,7 @@ impl Reader {
             Turn::Say(text) => {
                 self.in_tag = false;
                 if let Some(mut top) = self.stack.pop() {
-                    top.children.push(Node::Text(text))?;
+                    say(self.alloc, &mut top.children, text)?;
                     self.stack.push(top)?;
                 }
             }
@@ -164,6 +165,18 @@ impl Reader {
         self.apply(turn)?;
         Ok(())
     }
+}
+
+/// Puts the text behind the children. Where it is the first it takes room for itself alone: most
+/// elements with a text have nothing else.
+fn say(alloc: Global, children: &mut Forest, text: Bytes) -> Result<(), AllocError>
+    ensures { OnOk result (children.new ≡ children.old ++ Text text ∷ []) }
+{
+    if children.len() == 0 {
+        *children = Forest::with_capacity(alloc, 1)?;
+    }
+    children.push(Node::Text(text))?;
+    Ok(())
 }
 
 /// Whether no more elements are open behind the turn, if so many are before it.
