@@ -5,6 +5,7 @@ pub mod ContentLaws
 pub mod Leads
 pub mod FedLaws
 pub mod GrowthLaws
+pub mod MissLaws
 pub mod TurnLaws
 pub mod NameLaws
 pub mod PendingLaws

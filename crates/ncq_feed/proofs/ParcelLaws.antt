@@ -13,7 +13,7 @@ use Rattle.ncq_readers.specs.Passed.{rows_to}
 use Rattle.ncq_shelf.specs.KeptFiles.{KeptFile, Files}
 use Rattle.ncq_shelf.specs.Stands.{IsThere}
 use Rattle.ncq_shelf.specs.Contents.{with_more}
-use Rattle.ncq_shelf.specs.Readers.{SelectsFrom, ArePassedOn, AreJoinsOver}
+use Rattle.ncq_shelf.specs.Readers.{SelectsFrom, MakesNothing, ArePassedOn, AreJoinsMet}
 use Rattle.ncq_shelf.specs.Readers.SelectsFrom.{equal as equal_from, range as range_from}
 use Rattle.ncq_shelf.proofs.CallerLemmas.{one_value}
 use Rattle.ncq_feed.specs.Runs.{Run, IsUnderWay, IsFor, IsGiven, is_among, news_of, news_in}
@@ -171,15 +171,15 @@ module _ (run : Run) (files : Files) (under : IsUnderWay run files) (at : ℕ) w
       ];
     }
 
-  -- the joins over the file are told
-  pub joins_told : (numbers old_pending new_pending : List ℕ) → AreJoinsOver files at numbers → ((number : ℕ) → is_among number new_pending ≡ (is_among number numbers || is_among number old_pending)) → AreTold run at old_pending new_pending
-  joins_told numbers old_pending new_pending are noted = record {
+  -- the joins over the file that make something of its rows are told
+  pub joins_told : (change : ℕ) → change ≡ now → (numbers old_pending new_pending : List ℕ) → AreJoinsMet files at change numbers → ((number : ℕ) → is_among number new_pending ≡ (is_among number numbers || is_among number old_pending)) → AreTold run at files old_pending new_pending
+  joins_told change is numbers old_pending new_pending met noted = record {
     stays = λ number idle. (none_of number (is_among number numbers) (is_among number old_pending) (sym (noted number) ∙ idle)).1;
     told = λ number idle over.
         let n = none_of number (is_among number numbers) (is_among number old_pending) (sym (noted number) ∙ idle) in
-        true≢false (sym ((are number).1 (over_up run files under at number over)) ∙ n.0);
+        subst (λ n. MakesNothing files at n number) is (met.others number (over_up run files under at number over) n.0);
     noted = λ number is. elim (or_cases (is_among number numbers) (is_among number old_pending) (sym (noted number) ∙ is)) [
-      | inl among ↦ inr (over_back run files under at number ((are number).0 among))
+      | inl among ↦ inr (over_back run files under at number (met.joins number among))
       | inr was ↦ inl was
     ];
   }

@@ -2,11 +2,19 @@
 use Rattle.std.proofs.Common.{◌≡◌, ℕ, zero, suc, ◌<◌, ◌≤◌, ◌+◌, Bool, true, false, List, [], ◌⊎◌, inl, inr, refl, sym, ap, ◌∙◌, subst, arith, true≢false}
 use Rattle.std.proofs.lemmas.Bool.{cases_eq, cases_lt}
 use Rattle.std.specs.List.{filter}
-use Rattle.ncq_feed.specs.Passing.{Wiring, IsPassedTo, Passes}
+use Rattle.ncq_feed.specs.Passing.{Wiring, MissesBelow, IsPassedTo, Passes}
+
+-- an empty list misses all rows, and a join gets nothing of rows that miss each other
+pub record AreMisses {X : Type 0} (wiring : Wiring X) : Type 0 where
+  pub no_lefts : (number : ℕ) → wiring.LeftMisses number []
+  pub no_rights : (number : ℕ) → wiring.RightMisses number []
+  pub none_left : (number : ℕ) (rights : List X) → wiring.BothMiss number [] rights
+  pub none_right : (number : ℕ) (lefts : List X) → wiring.BothMiss number lefts []
+  pub nothing : (number : ℕ) (lefts rights : List X) → wiring.LeftMisses number lefts → wiring.RightMisses number rights → wiring.BothMiss number lefts rights → wiring.JoinGets number lefts rights []
 
 module _ {X : Type 0} (wiring : Wiring X) (selects_down : (number input : ℕ) (test : X → Bool) → wiring.Selects number input test → input < number)
     (joins_down : (number left right : ℕ) → wiring.Joins number left right → (left < number) × (right < number))
-    (nothing_joined : (number : ℕ) → wiring.JoinGets number [] [] []) where
+    (misses : AreMisses wiring) where
   not_true : (b : Bool) → (b ≡ true → ⊥) → b ≡ false
   not_true true h = absurd (h refl)
   not_true false h = refl
@@ -20,8 +28,18 @@ module _ {X : Type 0} (wiring : Wiring X) (selects_down : (number input : ℕ) (
       still : (number : ℕ) → next ≤ number → number < first → news number ≡ []
       still number above less = at.quiet number above (idle_before number less)
 
-      nothing : (number inner : ℕ) → inner < number → next ≤ number → number < first → (inner < next → news inner ≡ []) → news inner ≡ []
-      nothing number inner below above less early = elim (cases_lt inner next) [ inl under ↦ early under | inr over ↦ still inner over (omega arith) ]
+      missed : (number left right : ℕ) → MissesBelow wiring next number left right news → MissesBelow wiring first number left right news
+      missed number left right before = record {
+        lefts = λ less. elim (cases_lt left next) [ inl under ↦ before.lefts under | inr over ↦ subst (wiring.LeftMisses number) (sym (still left over less)) (misses.no_lefts number) ];
+        rights = λ less. elim (cases_lt right next) [ inl under ↦ before.rights under | inr over ↦ subst (wiring.RightMisses number) (sym (still right over less)) (misses.no_rights number) ];
+        both = λ less less'. elim (cases_lt left next) [
+          | inl under ↦ elim (cases_lt right next) [
+            | inl under' ↦ before.both under under'
+            | inr over' ↦ subst (wiring.BothMiss number (news left)) (sym (still right over' less')) (misses.none_right number (news left))
+          ]
+          | inr over ↦ subst (λ x. wiring.BothMiss number x (news right)) (sym (still left over less)) (misses.none_left number (news right))
+        ];
+      }
 
       pub skip : IsPassedTo wiring first pending news
       skip = record {
@@ -36,21 +54,15 @@ module _ {X : Type 0} (wiring : Wiring X) (selects_down : (number input : ℕ) (
           | inl under ↦ at.joined number left right joins under
           | inr over ↦
               let down = joins_down number left right joins in
-              let c = at.calm number left right joins over (idle_before number less) in
-              let l = nothing number left down.0 over less c.0 in
-              let r = nothing number right down.1 over less c.1 in
-              let n = at.unjoined number left right joins over in
-              subst (λ x. wiring.JoinGets number x (news right) (news number)) (sym l)
-              (subst (λ x. wiring.JoinGets number [] x (news number)) (sym r)
-              (subst (λ x. wiring.JoinGets number [] [] x) (sym n) (nothing_joined number)))
+              let l : left < first = let d = down.0 in omega arith in
+              let r : right < first = let d = down.1 in omega arith in
+              let m = missed number left right (at.calm number left right joins over (idle_before number less)) in
+              subst (wiring.JoinGets number (news left) (news right)) (sym (at.unjoined number left right joins over))
+              (misses.nothing number (news left) (news right) (m.lefts l) (m.rights r) (m.both l r))
         ];
         unjoined = λ number left right joins above. at.unjoined number left right joins (omega arith);
         quiet = λ number above idle. at.quiet number (omega arith) idle;
-        calm = λ number left right joins above idle.
-            let c = at.calm number left right joins (omega arith) idle in (
-              λ less. elim (cases_lt left next) [ inl under ↦ c.0 under | inr over ↦ still left over less ],
-              λ less. elim (cases_lt right next) [ inl under ↦ c.1 under | inr over ↦ still right over less ],
-            );
+        calm = λ number left right joins above idle. missed number left right (at.calm number left right joins (omega arith) idle);
       }
 
     -- the first file passes its rows on, and is done
@@ -69,6 +81,39 @@ module _ {X : Type 0} (wiring : Wiring X) (selects_down : (number input : ℕ) (
           | inr differs ↦ passes.kept number input test selects less (omega arith)
         ]
       ]
+
+      missed_more : (number left right : ℕ) → wiring.Joins number left right → pending' number ≡ false → MissesBelow wiring next number left right news → MissesBelow wiring (next + 1) number left right news'
+      missed_more number left right joins idle before = record {
+        lefts = λ less. elim (cases_eq left next) [
+          | inl same ↦ (on_left same).0
+          | inr differs ↦ let under : left < next = omega arith in subst (wiring.LeftMisses number) (sym (passes.below left under)) (before.lefts under)
+        ];
+        rights = λ less. elim (cases_eq right next) [
+          | inl same ↦ (on_right same).0
+          | inr differs ↦ let under : right < next = omega arith in subst (wiring.RightMisses number) (sym (passes.below right under)) (before.rights under)
+        ];
+        both = λ less less'. elim (cases_eq left next) [
+          | inl same ↦ (on_left same).1
+          | inr differs ↦ elim (cases_eq right next) [
+            | inl same' ↦ (on_right same').1
+            | inr differs' ↦
+                let under : left < next = omega arith in
+                let under' : right < next = omega arith in
+                subst (λ x. wiring.BothMiss number x (news' right)) (sym (passes.below left under))
+                (subst (wiring.BothMiss number (news left)) (sym (passes.below right under')) (before.both under under'))
+          ]
+        ];
+      }
+        where
+          on_left : left ≡ next → wiring.LeftMisses number (news' left) × wiring.BothMiss number (news' left) (news' right)
+          on_left same =
+              subst (λ l. wiring.Joins number l right → wiring.LeftMisses number (news' l) × wiring.BothMiss number (news' l) (news' right)) (sym same)
+              (λ j. passes.left_told number right j idle) joins
+
+          on_right : right ≡ next → wiring.RightMisses number (news' right) × wiring.BothMiss number (news' left) (news' right)
+          on_right same =
+              subst (λ r. wiring.Joins number left r → wiring.RightMisses number (news' r) × wiring.BothMiss number (news' left) (news' r)) (sym same)
+              (λ j. passes.right_told number left j idle) joins
 
       pub pass : IsPassedTo wiring (next + 1) pending' news'
       pass = record {
@@ -93,18 +138,7 @@ module _ {X : Type 0} (wiring : Wiring X) (selects_down : (number input : ℕ) (
         unjoined = λ number left right joins above. passes.others number left right joins (omega arith) ∙ at.unjoined number left right joins (omega arith);
         quiet = λ number above idle. (passes.stays number (omega arith) idle).1;
         calm = λ number left right joins above idle.
-            let over : next < number = omega arith in
-            let before = at.calm number left right joins (omega arith) (passes.stays number over idle).0 in
-            let told = passes.told number left right joins over idle in (
-              λ less. elim (cases_eq left next) [
-                | inl same ↦ ap news' same ∙ told.0 same
-                | inr differs ↦ let under : left < next = omega arith in passes.below left under ∙ before.0 under
-              ],
-              λ less. elim (cases_eq right next) [
-                | inl same ↦ ap news' same ∙ told.1 same
-                | inr differs ↦ let under : right < next = omega arith in passes.below right under ∙ before.1 under
-              ],
-            );
+            missed_more number left right joins idle (at.calm number left right joins (omega arith) (passes.stays number (omega arith) idle).0);
       }
 
     -- once nothing is pending, every file below the bound has its rows

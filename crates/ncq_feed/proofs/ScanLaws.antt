@@ -222,7 +222,7 @@ module _ (run : Run) where
         joined = λ number left right j less. absurd (omega arith);
         unjoined = λ number left right j above. fed.rest number (λ s. scan_no_join run.files number source_name s.shape j.first j.second j.pairs s.stands j.stands);
         quiet = λ number above idle. fed.quiet number idle;
-        calm = λ number left right j above idle. (λ less. absurd (omega arith), λ less. absurd (omega arith));
+        calm = λ number left right j above idle. record { lefts = λ less. absurd (omega arith); rights = λ less. absurd (omega arith); both = λ less less'. absurd (omega arith) };
       };
       there = fed.there;
     }

@@ -11,12 +11,13 @@ use Rattle.ncq_shelf.specs.KeptFiles.{KeptFile, Files}
 use Rattle.ncq_shelf.specs.Stands.{IsThere}
 use Rattle.ncq_shelf.specs.Readers.{SelectsFrom, JoinsFrom, IsJoinOver}
 use Rattle.ncq_feed.specs.Passing.{IsPassedTo, Passes}
-use Rattle.ncq_feed.specs.Runs.{Run, IsStarted, IsUnderWay, ArePassed, JoinGetsFrom, IsScanFile, AreRight, wiring_of, is_among, news_of, news_in}
+use Rattle.ncq_feed.specs.Runs.{Run, IsStarted, IsUnderWay, ArePassed, JoinGetsFrom, IsScanFile, AreRight, LeftMissesFrom, RightMissesFrom, BothMissFrom, wiring_of, is_among, news_of, news_in}
 use Rattle.ncq_feed.specs.JoinFeeds.{IsJoined, AreKnown}
 use Rattle.ncq_feed.specs.Turns.{IsPassedDown, AreTold}
 use Rattle.ncq_feed.proofs.GrowthLaws.{there_up, based}
 use Rattle.ncq_feed.proofs.PassingLaws.{pass, skip, all_passed}
-use Rattle.ncq_feed.proofs.WiringLaws.{selects_down, joins_down, scan_no_selection, join_no_selection, scan_no_join, input_of-selection, selection_there, nothing_joined}
+use Rattle.ncq_feed.proofs.WiringLaws.{selects_down, joins_down, scan_no_selection, join_no_selection, scan_no_join, input_of-selection, selection_there}
+use Rattle.ncq_feed.proofs.MissLaws.{misses, left_misses, right_misses}
 use Rattle.ncq_feed.proofs.FedLaws.{fed, known_sides}
 
 nil_left : {A : Type 0} (xs : List A) → xs ++ [] ≡ xs
@@ -39,7 +40,8 @@ module _ (run : Run) (start : IsStarted run) (at : ℕ) (keys : List ℕ) (files
       (others : (number : ℕ) → ((test : SignedRow → Bool) → SelectsFrom run.files number at test → ⊥) → after number ≡ joined number)
       (later : (number : ℕ) → is_among number pending ≡ true → at < number)
       (quiet : (number : ℕ) → is_among number pending ≡ false → (is_among number keys ≡ false) × (after number ≡ joined number))
-      (told : (number left right : ℕ) → JoinsFrom run.files number left right → is_among number pending ≡ false → (left ≡ at → after at ≡ []) × (right ≡ at → after at ≡ [])) where
+      (left_told : (number right : ℕ) → JoinsFrom run.files number at right → is_among number pending ≡ false → LeftMissesFrom run number (after at) × BothMissFrom run number (after at) (after right))
+      (right_told : (number left : ℕ) → JoinsFrom run.files number left at → is_among number pending ≡ false → RightMissesFrom run number (after at) × BothMissFrom run number (after left) (after at)) where
     not_own : (test : SignedRow → Bool) → SelectsFrom run.files at at test → ⊥
     not_own test selects = let l = selects_down run.files start.ready.grounded at at test selects in omega arith
 
@@ -80,11 +82,12 @@ module _ (run : Run) (start : IsStarted run) (at : ℕ) (keys : List ℕ) (files
           let differs : number ≢ at = λ e. absurd (omega arith) in
           let still = not_at number differs q.0 in
           (still, q.1 ∙ join.others number differs ∙ passed.quiet number (omega arith) still);
-      told = λ number left right j above idle. told number left right j idle;
+      left_told = left_told;
+      right_told = right_told;
     }
 
     pub turn_passes : IsPassedTo (wiring_of run) (at + 1) (λ number. is_among number pending) after
-    turn_passes = pass (wiring_of run) (selects_down run.files start.ready.grounded) (joins_down run.files start.ready.grounded) (nothing_joined run) at (λ number. is_among number (at ∷ keys)) before passed (λ number. is_among number pending) after passes
+    turn_passes = pass (wiring_of run) (selects_down run.files start.ready.grounded) (joins_down run.files start.ready.grounded) (misses run) at (λ number. is_among number (at ∷ keys)) before passed (λ number. is_among number pending) after passes
 
 module _ (run : Run) (start : IsStarted run) (at : ℕ) (keys : List ℕ) (files0 files1 : Files)
     (passed : ArePassed run at (at ∷ keys) files0) (above : (other : ℕ) → is_among other keys ≡ true → at < other) (join : IsJoined run at files0 files1) where
@@ -100,13 +103,21 @@ module _ (run : Run) (start : IsStarted run) (at : ℕ) (keys : List ℕ) (files
   idle_turn none = record {
     passed = turn_passes run start at keys files0 files1 files1 keys passed.passed join
         (λ number test selects. sym (ap (λ xs. news_in run.store.changes files1 number ++ filter test xs) none ∙ nil_left (news_in run.store.changes files1 number)))
-        (λ number not_over. refl) above (λ number idle. (idle, refl)) (λ number left right j idle. (λ e. none, λ e. none));
+        (λ number not_over. refl) above (λ number idle. (idle, refl))
+        (λ number right j idle. (
+          subst (LeftMissesFrom run number) (sym none) ((misses run).no_lefts number),
+          subst (λ rows. BothMissFrom run number rows (news_in run.store.changes files1 right)) (sym none) ((misses run).none_left number (news_in run.store.changes files1 right)),
+        ))
+        (λ number left j idle. (
+          subst (RightMissesFrom run number) (sym none) ((misses run).no_rights number),
+          subst (BothMissFrom run number (news_in run.store.changes files1 left)) (sym none) ((misses run).none_right number (news_in run.store.changes files1 left)),
+        ));
     there = there_later;
   }
 
-  -- a file that got rows gives them to the selections over it, and tells the joins
-  pub busy_turn : (files2 : Files) (noted pending : List ℕ) → IsPassedDown run at keys noted files1 files2 → AreTold run at noted pending → ArePassed run (at + 1) pending files2
-  busy_turn files2 noted pending down told = record {
+  -- a file that got rows gives them to the selections over it, and tells the joins that make something of them
+  pub busy_turn : (files2 : Files) → IsUnderWay run files2 → (noted pending : List ℕ) → IsPassedDown run at keys noted files1 files2 → AreTold run at files2 noted pending → ArePassed run (at + 1) pending files2
+  busy_turn files2 under2 noted pending down told = record {
     passed = turn_passes run start at keys files0 files1 files2 pending passed.passed join down.taken down.others
         (λ number is. elim (told.noted number is) [
           | inl was ↦ elim (down.noted number was) [
@@ -116,10 +127,8 @@ module _ (run : Run) (start : IsStarted run) (at : ℕ) (keys : List ℕ) (files
           | inr over ↦ over_above number over
         ])
         (λ number idle. down.quiet number (told.stays number idle))
-        (λ number left right j idle. (
-          λ e. absurd (told.told number idle (record { left = left; right = right; joins = j; here = inl e })),
-          λ e. absurd (told.told number idle (record { left = left; right = right; joins = j; here = inr e })),
-        ));
+        (λ number right j idle. left_misses run files2 under2 at number (told.told number idle (record { left = at; right = right; joins = j; here = inl refl })) right j)
+        (λ number left j idle. right_misses run files2 under2 at number (told.told number idle (record { left = left; right = at; joins = j; here = inr refl })) left j);
     there = λ number is. elim (told.noted number is) [
       | inl was ↦ elim (down.noted number was) [
         | inl before ↦ there_later number before
@@ -157,7 +166,7 @@ pub next_turn : (run : Run) (files : Files) (under : IsUnderWay run files) (next
 next_turn run files under next at pending rest passed is above =
     let p : ArePassed run next (at ∷ rest) files = subst (λ keys. ArePassed run next keys files) is passed in
     record {
-      passed = skip (wiring_of run) (selects_down run.files under.start.ready.grounded) (joins_down run.files under.start.ready.grounded) (nothing_joined run) next
+      passed = skip (wiring_of run) (selects_down run.files under.start.ready.grounded) (joins_down run.files under.start.ready.grounded) (misses run) next
           (λ number. is_among number (at ∷ rest)) (λ number. news_in run.store.changes files number) p.passed at (p.passed.ahead at (first at rest)) (λ number h. least number (cases_eq number at) h);
       there = p.there;
     }
@@ -173,7 +182,7 @@ next_turn run files under next at pending rest passed is above =
 pub all_right : (run : Run) (files : Files) (under : IsUnderWay run files) (next : ℕ) (pending : List ℕ) → ArePassed run next pending files → pending ≡ [] → (number : ℕ) → AreRight run number (news_in run.store.changes files number)
 all_right run files under next pending passed none number file at =
     let bound = next + (number + 1) in
-    let done = all_passed (wiring_of run) (selects_down run.files under.start.ready.grounded) (joins_down run.files under.start.ready.grounded) (nothing_joined run) next
+    let done = all_passed (wiring_of run) (selects_down run.files under.start.ready.grounded) (joins_down run.files under.start.ready.grounded) (misses run) next
     (λ number. is_among number pending) (λ number. news_in run.store.changes files number) passed.passed bound (omega arith) (λ other. ap (λ keys. is_among other keys) none) in
     fed run under.start (λ number. news_in run.store.changes files number) under.stamped (λ number. is_among number pending) bound done number file at (omega arith) file at
 

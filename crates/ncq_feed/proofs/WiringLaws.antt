@@ -1,14 +1,11 @@
 -- Files are wired downwards: each is a scan, a selection or a join of files of smaller numbers.
-use Rattle.std.proofs.Common.{◌≡◌, ℕ, ◌<◌, Bool, List, [], ◌∷◌, Some, None, Option, ◌⊎◌, inl, inr, refl, sym, subst, ap, ◌∙◌}
+use Rattle.std.proofs.Common.{◌≡◌, ℕ, ◌<◌, Bool, List, Some, None, Option, ◌⊎◌, inl, inr, refl, sym, subst, ap, ◌∙◌}
 use Rattle.std.proofs.lemmas.Bool.{cases_eq}
 use Rattle.std.specs.FinMap.{get}
 use Rattle.ncq_row.specs.declared.pair.Pair.{Pair}
 use Rattle.ncq_row.specs.declared.shape.Shape.{Shape}
-use Rattle.ncq_row.specs.Embeddings.{Row}
 use Rattle.ncq_plan.specs.declared.expr.Expr.{Expr}
 use Rattle.ncq_plan.specs.declared.expr.Expr.TheVariants.{Scan, Join}
-use Rattle.ncq_plan.specs.Deltas.{right_delta, join_delta}
-use Rattle.ncq_plan.specs.Totals.{SameChanges}
 use Rattle.ncq_plan.proofs.CallerLemmas.{expr_cases}
 use Rattle.ncq_midfile.specs.declared.signed.SignedRow.{SignedRow}
 use Rattle.ncq_shelf.specs.KeptFiles.{KeptFile, Files}
@@ -17,7 +14,7 @@ use Rattle.ncq_shelf.specs.Parts.{IsInput}
 use Rattle.ncq_shelf.specs.Readers.{SelectsFrom, JoinsFrom}
 use Rattle.ncq_shelf.specs.Readers.SelectsFrom.{equal as equal_from, range as range_from}
 use Rattle.ncq_shelf.proofs.CallerLemmas.{one_value, there, equal-input_of, range-input_of, left-input_of, right-input_of, input_of-equal, input_of-range}
-use Rattle.ncq_feed.specs.Runs.{Run, IsScanFile, JoinGetsFrom}
+use Rattle.ncq_feed.specs.Runs.{IsScanFile}
 use Rattle.ncq_feed.proofs.Variants.{kind as variant, kind_scan, kind_equal, kind_range, kind_join, join_parts}
 
 module _ (files : Files) where
@@ -142,13 +139,3 @@ module _ (files : Files) (grounded : IsGrounded files) where
   one_right number left right left' right' j k =
       let p = join_parts j.first j.second k.first k.second j.pairs k.pairs (one_expr files number _ _ j.stands k.stands) in
       grounded.distinct right' right k.second k.on_right (subst (λ e. Stands files e right) p.1 j.on_right)
-
--- without changes of its inputs a join does not change
-no_right : (pairs : List Pair) (rows : List Row) → right_delta pairs rows [] ≡ []
-no_right pairs [] = refl
-no_right pairs (row ∷ rows) = no_right pairs rows
-
-pub nothing_joined : (run : Run) (number : ℕ) → JoinGetsFrom run number [] [] []
-nothing_joined run number left right joins before after held then =
-    let e : join_delta joins.pairs [] before after [] ≡ [] = no_right joins.pairs after in
-    subst (SameChanges []) (sym e) (record { plus = λ f. refl; minus = λ f. refl })

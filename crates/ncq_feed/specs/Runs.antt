@@ -19,7 +19,7 @@ use Rattle.ncq_delta.specs.Leads.{unnumbered}
 use Rattle.ncq_shelf.specs.KeptFiles.{KeptFile, Files}
 use Rattle.ncq_shelf.specs.Stands.{Stands, IsThere}
 use Rattle.ncq_shelf.specs.Contents.{AreWide, with_more, sum_over}
-use Rattle.ncq_shelf.specs.Readers.{SelectsFrom, JoinsFrom}
+use Rattle.ncq_shelf.specs.Readers.{SelectsFrom, JoinsFrom, NoneAgree}
 use Rattle.ncq_feed.specs.Feeds.{IsPreparedFrom, AreReady, delta_by}
 use Rattle.ncq_feed.specs.Passing.{Wiring, IsPassedTo}
 
@@ -92,6 +92,24 @@ JoinGetsFrom run number left_news right_news news =
     → SameChanges (unnumbered news)
     (delta_of_join joins.pairs (unnumbered left_news) before after (unnumbered right_news))
 
+-- none of the rows agrees with one that the join's right had before the change
+abbrev pub LeftMissesFrom : Run → ℕ → List SignedRow → Type 0
+LeftMissesFrom run number left_news =
+    (left right : ℕ) (joins : JoinsFrom run.files number left right)
+    → NoneAgree joins.pairs left_news joins.on_right.file.content.rows
+
+-- none of the rows agrees with one that the join's left had before the change
+abbrev pub RightMissesFrom : Run → ℕ → List SignedRow → Type 0
+RightMissesFrom run number right_news =
+    (left right : ℕ) (joins : JoinsFrom run.files number left right)
+    → NoneAgree joins.pairs joins.on_left.file.content.rows right_news
+
+-- none of the first rows agrees with one of the second where the join compares them
+abbrev pub BothMissFrom : Run → ℕ → List SignedRow → List SignedRow → Type 0
+BothMissFrom run number left_news right_news =
+    (left right : ℕ) (joins : JoinsFrom run.files number left right)
+    → NoneAgree joins.pairs left_news right_news
+
 -- the files before the change as scans, selections and joins
 abbrev pub wiring_of : Run → Wiring SignedRow
 wiring_of run = record {
@@ -100,6 +118,9 @@ wiring_of run = record {
   Selects = SelectsFrom run.files;
   Joins = JoinsFrom run.files;
   JoinGets = JoinGetsFrom run;
+  LeftMisses = LeftMissesFrom run;
+  RightMisses = RightMissesFrom run;
+  BothMiss = BothMissFrom run;
 }
 
 -- the change has been passed on to all files below the number, and files are pending

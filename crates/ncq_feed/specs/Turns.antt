@@ -6,7 +6,7 @@ use Rattle.ncq_split.specs.declared.parcel.Parcel.{Parcel}
 use Rattle.ncq_readers.specs.Passed.{rows_to}
 use Rattle.ncq_shelf.specs.KeptFiles.{Files}
 use Rattle.ncq_shelf.specs.Stands.{IsThere}
-use Rattle.ncq_shelf.specs.Readers.{SelectsFrom, IsJoinOver}
+use Rattle.ncq_shelf.specs.Readers.{SelectsFrom, IsJoinOver, MakesNothing}
 use Rattle.ncq_feed.specs.Runs.{Run, news_in, is_among, IsFor}
 
 -- the parcel is for a file that is there, and its row is for that file
@@ -42,12 +42,13 @@ pub record IsPassedDown (run : Run) (at : ℕ) (old_pending new_pending : List �
       → (is_among number old_pending ≡ true)
       ⊎ ((test : SignedRow → Bool) × SelectsFrom run.files number at test)
 
--- each join over the file is pending
-pub record AreTold (run : Run) (at : ℕ) (old_pending new_pending : List ℕ) : Type 0 where
+-- each join over the file is pending, or makes nothing of its rows of the change
+pub record AreTold (run : Run) (at : ℕ) (files : Files) (old_pending new_pending : List ℕ)
+    : Type 0 where
   pub stays : (number : ℕ) → is_among number new_pending ≡ false
       → is_among number old_pending ≡ false
   pub told : (number : ℕ) → is_among number new_pending ≡ false
-      → IsJoinOver run.files at number → ⊥
+      → IsJoinOver run.files at number → MakesNothing files at run.store.changes number
   pub noted : (number : ℕ) → is_among number new_pending ≡ true
       → (is_among number old_pending ≡ true) ⊎ IsJoinOver run.files at number
 

@@ -19,8 +19,8 @@ use std::collections::BTreeSet;
 use std::sync::ledger::Ledger;
 
 /// The turn of a pending file, which is no longer pending: a join gets its rows of the change now,
-/// and what a file got goes on to the selections and the joins over it. The answer is whether the
-/// file got rows.
+/// and what a file got goes on to the selections over it and the joins that make something of it.
+/// The answer is whether the file got rows.
 pub(crate) fn take_turn<L: Ledger>(
     alloc: Global,
     shelf: &mut Shelf,
@@ -49,7 +49,7 @@ pub(crate) fn take_turn<L: Ledger>(
         return Ok(false);
     }
     pass_down(alloc, shelf, at, now, pending, steps)?;
-    tell_joins(alloc, shelf, at, pending)?;
+    tell_joins(alloc, shelf, at, now, pending)?;
     Ok(true)
 }
 
@@ -98,19 +98,21 @@ fn deliver(
     Ok(())
 }
 
-/// Makes each join over the file pending.
+/// Makes each join over the file pending that makes something of its rows of the change.
 fn tell_joins(
     alloc: Global,
     shelf: &Shelf,
     at: u64,
+    now: u64,
     pending: &mut BTreeSet<u64>,
 ) -> Result<(), AllocError>
     ghost run: { Run }
+    requires now { now ≡ run.store.changes }
     requires under { IsUnderWay run shelf.now }
     requires there { IsThere run.files at }
-    ensures { OnOk result (AreTold run at pending.old.keys pending.new.keys) }
+    ensures { OnOk result (AreTold run at shelf.now pending.old.keys pending.new.keys) }
 {
-    let joins = shelf.joins_over(alloc, at)?;
+    let joins = shelf.joins_met(alloc, at, now)?;
     note_all(pending, joins.as_slice())?;
     Ok(())
 }

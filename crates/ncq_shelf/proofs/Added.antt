@@ -1,37 +1,29 @@
 -- A file comes in: the files that it reads know it, and its source does if it is a scan.
-use Rattle.std.proofs.Common.{◌≡◌, ◌≢◌, ◌⊎◌, ◌↔◌, ℕ, Bool, true, false, cond, List, [], Some, None, Option, nat_eq, inl, inr, refl, sym, ap, ◌∙◌, subst, true≢false}
+use Rattle.std.proofs.Common.{◌≡◌, ◌⊎◌, ◌↔◌, ℕ, cond, List, [], Some, None, nat_eq, inl, inr, refl, sym, ap, ◌∙◌, subst, true≢false}
 use Rattle.std.specs.Map.{lookup}
-use Rattle.std.specs.Option.{option_map}
 use Rattle.std.specs.Str.{bytes_eq}
 use Rattle.std.proofs.lemmas.Bool.{cases_eq, eq-eqb, ne_eqb}
-use Rattle.std.specs.FinMap.{get, insert, remove}
-use Rattle.ncq_base.specs.declared.atom.Atom.{Atom}
-use Rattle.ncq_base.specs.declared.interval.Interval.{Interval}
-use Rattle.ncq_row.specs.declared.pair.Pair.{Pair}
-use Rattle.ncq_row.specs.declared.shape.Shape.{Shape}
+use Rattle.std.specs.FinMap.{get, insert}
 use Rattle.ncq_plan.specs.declared.expr.Expr.{Expr}
-use Rattle.ncq_plan.specs.declared.expr.Expr.TheVariants.{Scan, EqSel, RangeSel, Join}
-use Rattle.ncq_plan.proofs.CallerLemmas.{expr_cases}
+use Rattle.ncq_plan.specs.declared.expr.Expr.TheVariants.{Scan}
 use Rattle.ncq_readers.specs.Readings.{Reading}
 use Rattle.ncq_readers.specs.Readings.Reading.{equal, range, joined}
-use Rattle.ncq_readers.specs.ReaderTables.{ReaderTables, IsReader, TellsUnread}
+use Rattle.ncq_readers.specs.ReaderTables.{ReaderTables, IsReader}
 use Rattle.ncq_shelf.specs.Parts.{IsInput}
-use Rattle.ncq_shelf.specs.KeptFiles.{KeptFile, Files}
-use Rattle.ncq_shelf.specs.Stands.{Stands, IsReadIn, TellsIdle}
+use Rattle.ncq_shelf.specs.KeptFiles.{Files}
+use Rattle.ncq_shelf.specs.Stands.{Stands}
 use Rattle.ncq_shelf.specs.Inputs.{AreInputs}
 use Rattle.ncq_shelf.specs.Readers.{IsScanOf}
 use Rattle.ncq_shelf.specs.Indexed.{IsIndexed, is_expr}
 use Rattle.ncq_shelf.specs.Shown.{shown, state_of}
-use Rattle.ncq_shelf.specs.Wired.{Reads, ReadsSo, KnowsReaders, KnowsScans, IsWired, IsShelved, IsEnrolled, AreAlike}
+use Rattle.ncq_shelf.specs.Wired.{Reads, ReadsSo, KnowsReaders, KnowsScans, IsShelved, IsEnrolled, AreAlike}
 use Rattle.ncq_shelf.specs.Enrolled.{IsUnread, IsScanIn, ScansSource, GainsScan, SameScans}
 use Rattle.ncq_shelf.specs.declared.file.File.{File}
 use Rattle.ncq_shelf.specs.declared.inputs.Inputs.{Inputs}
 use Rattle.ncq_shelf.specs.declared.inputs.Inputs.TheVariants.{Nothing, One, Two}
 use Rattle.ncq_shelf.proofs.Maps.{put_same, put_other, one_value, there as is_there}
-use Rattle.ncq_shelf.proofs.ShownFiles.{get_shown}
-use Rattle.ncq_shelf.proofs.Layers.{no_input-scan, input_of-equal, input_of-range, input_of-join}
 use Rattle.ncq_shelf.proofs.InputLaws.{only_told, sides_told}
-use Rattle.ncq_shelf.proofs.Indexes.{shown_at, kept_at, shown_put, indexed_added, indexed_none}
+use Rattle.ncq_shelf.proofs.Indexes.{kept_at, shown_put, indexed_added}
 use Rattle.ncq_shelf.proofs.Readings.{reads_input}
 use Rattle.ncq_shelf.proofs.ScanLaws.{Scans}
 use Rattle.ncq_shelf.proofs.Others.{AreOthers, enrolled_others, alike_others, shown_others, was_there, indexed_others}

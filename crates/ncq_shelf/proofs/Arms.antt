@@ -1,5 +1,5 @@
 -- What a file reads, by its operator.
-use Rattle.std.proofs.Common.{◌≡◌, ◌≢◌, ◌⊎◌, ◌↔◌, ℕ, List, Some, nat_eq, inl, inr, refl, sym, ap, ◌∙◌, subst}
+use Rattle.std.proofs.Common.{◌≡◌, ◌↔◌, ℕ, List, Some, nat_eq, inl, inr, refl, sym, ap, ◌∙◌, subst}
 use Rattle.std.specs.Map.{lookup}
 use Rattle.ncq_base.specs.declared.atom.Atom.{Atom}
 use Rattle.ncq_base.specs.declared.interval.Interval.{Interval}
@@ -9,15 +9,13 @@ use Rattle.ncq_plan.specs.declared.expr.Expr.{Expr}
 use Rattle.ncq_plan.specs.declared.expr.Expr.TheVariants.{Scan, EqSel, RangeSel, Join}
 use Rattle.ncq_plan.specs.declared.expr.Expr.TheViews.{out-Expr}
 use Rattle.ncq_plan.specs.declared.expr.Expr.TheOpen.{Expr-F}
-use Rattle.ncq_plan.specs.declared.expr.Expr.TheOpen.Expr-F.{Scan as ScanLayer, EqSel as EqLayer, RangeSel as RangeLayer, Join as JoinLayer}
 use Rattle.ncq_readers.specs.Readings.{Reading}
 use Rattle.ncq_readers.specs.Readings.Reading.{equal, range, joined}
-use Rattle.ncq_readers.specs.ReaderTables.{IsReader}
 use Rattle.ncq_shelf.specs.Parts.{IsInput}
 use Rattle.ncq_shelf.specs.Stands.{Files, Stands}
-use Rattle.ncq_shelf.specs.Inputs.{IsOnlyInput, AreSides, AreInputs}
+use Rattle.ncq_shelf.specs.Inputs.{IsOnlyInput, AreInputs}
 use Rattle.ncq_shelf.specs.Shown.{shown}
-use Rattle.ncq_shelf.specs.Wired.{IsSideOf, Reads}
+use Rattle.ncq_shelf.specs.Wired.{Reads}
 use Rattle.ncq_shelf.specs.Enrolled.{AreSidesOf, HasFile, OneEach, is_at, is_at_either}
 use Rattle.ncq_shelf.specs.declared.file.File.{File}
 use Rattle.ncq_shelf.specs.declared.inputs.Inputs.{Inputs}
@@ -26,7 +24,7 @@ use Rattle.ncq_shelf.proofs.Maps.{one_value}
 use Rattle.ncq_shelf.proofs.Indexes.{kept_at}
 use Rattle.ncq_shelf.proofs.InputLaws.{only_told}
 use Rattle.ncq_shelf.proofs.Readings.{reads_input}
-use Rattle.ncq_shelf.proofs.Layers.{out-Scan, out-EqSel, out-RangeSel, out-Join, no_input-scan, input_of-equal, equal-input_of, input_of-range, range-input_of, input_of-join, left-input_of, right-input_of}
+use Rattle.ncq_shelf.proofs.Layers.{out-EqSel, out-RangeSel, out-Join, no_input-scan, input_of-equal, equal-input_of, input_of-range, range-input_of, input_of-join, left-input_of, right-input_of}
 
 pub scan_reads_nothing : (whole : Expr) (source : List ℕ) (shape : Shape) → whole ≡ Scan source shape → (inner : Expr) (way : Reading) → Reads inner way whole → ⊥
 scan_reads_nothing whole source shape is inner way r = no_input-scan inner source shape (subst (IsInput inner) is (reads_input inner way whole r))
@@ -123,7 +121,7 @@ module _ (files : List (ℕ × File)) (one : OneEach files) (whole : Expr) (inpu
 
     module _ (left right : ℕ) (told : AreSidesOf inputs left right) where
       -- the sides have the files of these numbers
-      stand : Stands (shown files) first left × Stands (shown files) second right
+      pub stand : Stands (shown files) first left × Stands (shown files) second right
       stand = elim inputs as (λ i. AreSidesOf i left right → AreInputs (shown files) whole i → Stands (shown files) first left × Stands (shown files) second right) [
         | Nothing ↦ λ t a. absurd t
         | One n ↦ λ t a. (subst (Stands (shown files) first) (sym t.0) (only_told (shown files) whole n a first left_is), subst (Stands (shown files) second) (sym t.1) (only_told (shown files) whole n a second right_is))

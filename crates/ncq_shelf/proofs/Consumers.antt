@@ -1,15 +1,11 @@
 -- The readers that a file knows, and the files that read it.
-use Rattle.std.proofs.Common.{◌≡◌, ℕ, zero, suc, ◌<◌, Bool, true, false, ◌&&◌, List, [], ◌∷◌, Some, None, Option, nat_eq, ◌⊎◌, inl, inr, refl, sym, ap, ◌∙◌, subst, true≢false, length, arith}
+use Rattle.std.proofs.Common.{◌≡◌, ℕ, ◌<◌, Bool, true, false, ◌&&◌, List, [], ◌∷◌, Some, None, nat_eq, inl, inr, refl, sym, ap, ◌∙◌, subst, true≢false, length}
 use Rattle.std.specs.Prelude.{nat_lt}
 use Rattle.std.specs.Map.{lookup}
 use Rattle.std.specs.Str.{bytes_eq}
 use Rattle.std.specs.List.{AllByRecursion}
-use Rattle.std.specs.FinMap.{get}
 use Rattle.std.proofs.lemmas.List.Elements.{All-from_recursion}
 use Rattle.std.proofs.lemmas.Bool.{ltb-true}
-use Rattle.ncq_base.specs.declared.atom.Atom.{Atom}
-use Rattle.ncq_base.specs.declared.interval.Interval.{Interval}
-use Rattle.ncq_row.specs.declared.pair.Pair.{Pair}
 use Rattle.ncq_plan.specs.declared.expr.Expr.{Expr}
 use Rattle.ncq_plan.specs.declared.expr.Expr.TheVariants.{EqSel, RangeSel, Join}
 use Rattle.ncq_plan.specs.Exprs.{expr_width}
@@ -20,22 +16,17 @@ use Rattle.ncq_readers.specs.Readings.{Reading, IsSelection, HaveSlot}
 use Rattle.ncq_readers.specs.Readings.Reading.{equal, range, joined}
 use Rattle.ncq_readers.specs.ReaderTables.{ReaderTables, IsReader, IsRead, IsUnread}
 use Rattle.ncq_readers.specs.Passed.{ReadOnce, HaveSlots}
-use Rattle.ncq_shelf.specs.KeptFiles.{KeptFile, Files}
 use Rattle.ncq_shelf.specs.Parts.{IsInput}
 use Rattle.ncq_shelf.specs.Stands.{Stands, IsReadIn}
 use Rattle.ncq_shelf.specs.Contents.{AreFormed}
-use Rattle.ncq_shelf.specs.Inputs.{AreInputs}
-use Rattle.ncq_shelf.specs.Indexed.{IsIndexed}
 use Rattle.ncq_shelf.specs.Readers.{AreScansOf, IsJoinOver, AreJoinsOver, SelectsFrom}
 use Rattle.ncq_shelf.specs.Shown.{shown, state_of}
-use Rattle.ncq_shelf.specs.Wired.{IsSideOf, Reads, ReadsSo, IsWired, IsShelved}
+use Rattle.ncq_shelf.specs.Wired.{Reads, ReadsSo, IsShelved}
 use Rattle.ncq_shelf.specs.declared.file.File.{File}
-use Rattle.ncq_shelf.specs.declared.inputs.Inputs.{Inputs}
-use Rattle.ncq_shelf.specs.declared.inputs.Inputs.TheVariants.{Nothing, One, Two}
 use Rattle.ncq_shelf.proofs.Maps.{one_value, there}
 use Rattle.std.specs.Option.{option_map}
 use Rattle.ncq_shelf.proofs.ShownFiles.{get_shown}
-use Rattle.ncq_shelf.proofs.Indexes.{shown_at, kept_at, indexed_none}
+use Rattle.ncq_shelf.proofs.Indexes.{shown_at, indexed_none}
 use Rattle.ncq_shelf.proofs.Added.{input_of_kept}
 use Rattle.ncq_shelf.proofs.Layers.{left-input_of, right-input_of}
 use Rattle.ncq_shelf.proofs.Readings.{reads_once, reads_input, input_read}

@@ -1,14 +1,11 @@
 -- Files without the rows of later changes, one after the other, and what is seen of them.
-use Rattle.std.proofs.Common.{◌≡◌, ℕ, zero, suc, ◌<◌, ◌≤◌, true, false, cond, List, [], ◌∷◌, ◌++◌, map, take, drop, length, Some, None, Option, nat_eq, ◌+◌, refl, sym, ap, ◌∙◌, subst, arith, add-one}
+use Rattle.std.proofs.Common.{◌≡◌, ℕ, zero, suc, ◌<◌, ◌≤◌, true, false, cond, List, [], ◌∷◌, map, length, Some, None, Option, nat_eq, ◌+◌, refl, sym, ap, ◌∙◌, arith, add-one}
 use Rattle.std.specs.Prelude.{slice_get}
 use Rattle.indexmap.specs.IndexMap.{IndexMap, with_entries, with_value_at}
 use Rattle.std.specs.Option.{option_map}
 use Rattle.std.specs.Map.{lookup}
 use Rattle.std.specs.FinMap.{get}
 use Rattle.ncq_plan.specs.declared.expr.Expr.{Expr}
-use Rattle.ncq_shelf.specs.KeptFiles.{KeptFile, Files}
-use Rattle.ncq_shelf.specs.Stands.{Stands}
-use Rattle.ncq_shelf.specs.Inputs.{AreInputs}
 use Rattle.ncq_shelf.specs.Contents.{cut_to}
 use Rattle.ncq_readers.specs.ReaderTables.{ReaderTables}
 use Rattle.ncq_shelf.specs.Wired.{IsShelved}
@@ -16,7 +13,6 @@ use Rattle.ncq_shelf.specs.Shown.{shown, state_of, cut_file, cut_entry}
 use Rattle.ncq_shelf.specs.declared.file.File.{File}
 use Rattle.ncq_shelf.proofs.Maps.{one_value, there}
 use Rattle.ncq_shelf.proofs.ShownFiles.{get_shown}
-use Rattle.ncq_shelf.proofs.Indexes.{shown_at, kept_at}
 use Rattle.ncq_shelf.proofs.SameFiles.{HasSame, HaveSame, shelved_same}
 
 -- the entries with another value at a place

@@ -8,15 +8,12 @@ use Rattle.std.specs.FinMap.{get, insert, remove, same_map, nat_cmp-IsAntisymmet
 use Rattle.ncq_base.specs.Exact.{exact_is, exact_itself}
 use Rattle.ncq_plan.specs.declared.expr.Expr.{Expr}
 use Rattle.ncq_plan.specs.contracts.expr.Expr.{the_row as expr_row}
-use Rattle.ncq_shelf.specs.Parts.{IsInput}
-use Rattle.ncq_shelf.specs.KeptFiles.{KeptFile, Files}
+use Rattle.ncq_shelf.specs.KeptFiles.{KeptFile}
 use Rattle.ncq_shelf.specs.Stands.{Stands, IsIdle, Finds}
 use Rattle.ncq_shelf.specs.Inputs.{AreInputs}
 use Rattle.ncq_shelf.specs.Indexed.{IsIndexed, is_expr}
 use Rattle.ncq_shelf.specs.Shown.{shown, state_of}
 use Rattle.ncq_shelf.specs.declared.file.File.{File}
-use Rattle.ncq_shelf.specs.declared.inputs.Inputs.{Inputs}
-use Rattle.ncq_shelf.specs.declared.inputs.Inputs.TheVariants.{Nothing, One, Two}
 use Rattle.ncq_shelf.proofs.Maps.{put_same, put_other, gone_same, gone_other, one_value, there}
 use Rattle.ncq_shelf.proofs.ShownFiles.{get_shown}
 use Rattle.ncq_shelf.proofs.Maps.{rest_stays}

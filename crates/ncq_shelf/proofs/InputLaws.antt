@@ -1,5 +1,5 @@
 -- The inputs of a file and their files.
-use Rattle.std.proofs.Common.{◌≡◌, ◌≢◌, ℕ, Some, ◌⊎◌, inl, inr, refl, sym, ap, ◌∙◌, subst}
+use Rattle.std.proofs.Common.{◌≡◌, ◌≢◌, ℕ, Some, ◌⊎◌, inl, inr, sym, ap, ◌∙◌, subst}
 use Rattle.std.specs.FinMap.{get, remove}
 use Rattle.ncq_plan.specs.declared.expr.Expr.{Expr}
 use Rattle.ncq_shelf.specs.Parts.{IsInput}

@@ -7,7 +7,6 @@ use Rattle.ncq_plan.specs.declared.expr.Expr.{Expr}
 use Rattle.ncq_base.specs.declared.interval.Interval.{Interval}
 use Rattle.ncq_plan.specs.declared.expr.Expr.TheVariants.{Scan, EqSel, RangeSel, Join, rolls-Scan, rolls-EqSel, rolls-RangeSel, rolls-Join}
 use Rattle.ncq_plan.specs.declared.expr.Expr.TheViews.{out-Expr, out-roll-Expr}
-use Rattle.ncq_plan.specs.declared.expr.Expr.TheOpen.{Expr-F}
 use Rattle.ncq_plan.specs.declared.expr.Expr.TheOpen.Expr-F.{Scan as ScanLayer, EqSel as EqLayer, RangeSel as RangeLayer, Join as JoinLayer}
 use Rattle.ncq_shelf.specs.Parts.{IsInput, IsRead}
 

@@ -17,4 +17,9 @@ pub mod ScanLaws
 pub mod Others
 pub mod Added
 pub mod Removed
+pub mod KeyLaws
+pub mod KeyedLaws
+pub mod KeyedAdded
+pub mod MetLaws
+pub mod MeetLaws
 pub mod CallerLemmas

@@ -1,21 +1,20 @@
 -- The parcels for the readers of a file, and how many there are.
-use Rattle.std.proofs.Common.{◌≡◌, ℕ, ◌+◌, ◌≤◌, Bool, true, false, cond, List, [], ◌∷◌, map, filter, length, Some, None, Option, nat_eq, inl, inr, refl, sym, ap, ◌∙◌, subst, true≢false, arith, eqb-true, eq-eqb}
+use Rattle.std.proofs.Common.{◌≡◌, ℕ, ◌+◌, ◌≤◌, Bool, true, false, cond, List, [], ◌∷◌, map, filter, length, Some, None, nat_eq, inl, inr, refl, sym, ap, ◌∙◌, arith, eq-eqb}
 use Rattle.std.specs.Map.{lookup}
 use Rattle.std.specs.List.{AllByRecursion}
-use Rattle.std.specs.Ordering.{nat_cmp, eq_by_cmp}
+use Rattle.std.specs.Ordering.{nat_cmp}
 use Rattle.std.specs.Cmp.{unsigned_tied}
 use Rattle.std.specs.FinMap.{get, find, entries, get-entries}
 use Rattle.ncq_base.specs.Counts.{total_by}
 use Rattle.ncq_plan.specs.declared.expr.Expr.{Expr}
 use Rattle.ncq_midfile.specs.declared.signed.SignedRow.{SignedRow}
 use Rattle.ncq_split.specs.declared.parcel.Parcel.{Parcel}
-use Rattle.ncq_readers.specs.Readings.{Reading, IsSelection}
-use Rattle.ncq_readers.specs.ReaderTables.{ReaderTables, IsReader}
+use Rattle.ncq_readers.specs.ReaderTables.{ReaderTables}
 use Rattle.std.proofs.lemmas.Bool.{cases_lt}
 use Rattle.std.specs.Prelude.{nat_lt}
 use Rattle.ncq_midfile.specs.Content.{since}
 use Rattle.ncq_readers.proofs.PassedLaws.{selection_gets, others_get_none}
-use Rattle.ncq_readers.specs.Passed.{AreTables, ReadOnce, parcels_in, rows_to}
+use Rattle.ncq_readers.specs.Passed.{AreTables, parcels_in, rows_to}
 use Rattle.ncq_shelf.specs.KeptFiles.{KeptFile, Files}
 use Rattle.ncq_shelf.specs.Contents.{sum_over}
 use Rattle.ncq_shelf.specs.Readers.{SelectsFrom, ArePassedOn, AreBoundBy}

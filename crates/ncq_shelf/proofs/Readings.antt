@@ -1,8 +1,5 @@
 -- An expression reads another in one way at most.
-use Rattle.std.proofs.Common.{◌≡◌, ℕ, List, inl, inr, refl, sym, ap, ◌∙◌, subst}
-use Rattle.ncq_base.specs.declared.atom.Atom.{Atom}
-use Rattle.ncq_base.specs.declared.interval.Interval.{Interval}
-use Rattle.ncq_row.specs.declared.pair.Pair.{Pair}
+use Rattle.std.proofs.Common.{◌≡◌, inl, inr, refl, sym, ap, ◌∙◌, subst}
 use Rattle.ncq_plan.specs.declared.expr.Expr.{Expr}
 use Rattle.ncq_plan.specs.declared.expr.Expr.TheVariants.{EqSel, RangeSel, Join}
 use Rattle.ncq_plan.specs.declared.expr.Expr.TheOpen.{Expr-F}

@@ -1,19 +1,17 @@
 -- A file goes: the files that it read know it no more, nor does its source if it is a scan.
-use Rattle.std.proofs.Common.{◌≡◌, ◌≢◌, ◌↔◌, ℕ, Bool, cond, List, Some, None, Option, nat_eq, inl, inr, refl, sym, ap, ◌∙◌, subst}
+use Rattle.std.proofs.Common.{◌≡◌, ◌≢◌, ◌↔◌, ℕ, cond, List, Some, None, nat_eq, inl, inr, refl, sym, ap, ◌∙◌, subst}
 use Rattle.std.specs.Map.{lookup}
 use Rattle.std.proofs.lemmas.Bool.{cases_eq, eq-eqb, ne_eqb}
 use Rattle.std.specs.FinMap.{get, remove}
 use Rattle.ncq_plan.specs.declared.expr.Expr.{Expr}
 use Rattle.ncq_plan.specs.declared.expr.Expr.TheVariants.{Scan}
-use Rattle.ncq_readers.specs.Readings.{Reading}
-use Rattle.ncq_readers.specs.ReaderTables.{IsReader}
-use Rattle.ncq_shelf.specs.KeptFiles.{KeptFile, Files}
+use Rattle.ncq_shelf.specs.KeptFiles.{Files}
 use Rattle.ncq_shelf.specs.Stands.{Stands, IsIdle}
 use Rattle.ncq_shelf.specs.Inputs.{AreInputs}
 use Rattle.ncq_shelf.specs.Readers.{IsScanOf}
 use Rattle.ncq_shelf.specs.Indexed.{is_expr}
 use Rattle.ncq_shelf.specs.Shown.{shown, state_of}
-use Rattle.ncq_shelf.specs.Wired.{Reads, ReadsSo, KnowsReaders, KnowsScans, IsShelved, IsStruck}
+use Rattle.ncq_shelf.specs.Wired.{Reads, KnowsReaders, KnowsScans, IsShelved, IsStruck}
 use Rattle.ncq_shelf.specs.Enrolled.{OneEach, IsKnown, IsScanIn, ScansSource, LosesScan}
 use Rattle.ncq_shelf.specs.declared.file.File.{File}
 use Rattle.ncq_shelf.proofs.Maps.{gone_same, gone_other, one_value, rest_stays, there as is_there}

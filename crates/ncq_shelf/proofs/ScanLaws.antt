@@ -7,10 +7,9 @@ use Rattle.std.proofs.lemmas.Slice.Eq.{bytes_eq-Decides}
 use Rattle.ncq_row.specs.declared.shape.Shape.{Shape}
 use Rattle.ncq_plan.specs.declared.expr.Expr.{Expr}
 use Rattle.ncq_plan.specs.declared.expr.Expr.TheVariants.{Scan}
-use Rattle.ncq_readers.specs.Readings.{Reading}
 use Rattle.ncq_readers.specs.Readings.Reading.{joined}
 use Rattle.ncq_readers.specs.ReaderTables.{ReaderTables, IsReader, TellsUnread, Gains, Loses}
-use Rattle.ncq_shelf.specs.Enrolled.{IsScanIn, ScansSource, GainsScan, LosesScan, SameScans}
+use Rattle.ncq_shelf.specs.Enrolled.{IsScanIn, ScansSource, GainsScan, LosesScan}
 use Rattle.ncq_shelf.proofs.Maps.{one_value, there}
 use Rattle.ncq_shelf.proofs.Layers.{out-Scan}
 use Rattle.ncq_shelf.proofs.Arms.{layers}

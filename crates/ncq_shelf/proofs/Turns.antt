@@ -1,5 +1,5 @@
 -- Files whose readers change, file by file.
-use Rattle.std.proofs.Common.{◌≡◌, ◌≢◌, ◌⊎◌, ◌↔◌, ℕ, true, false, cond, List, Some, None, Ok, Err, Result, OnOk, OnErr, nat_eq, inl, inr, refl, sym, ap, ◌∙◌, subst}
+use Rattle.std.proofs.Common.{◌≡◌, ◌≢◌, ◌⊎◌, ◌↔◌, ℕ, cond, List, Some, None, Ok, Err, Result, OnOk, OnErr, nat_eq, inl, inr, refl, sym, ap, ◌∙◌, subst}
 use Rattle.std.specs.Map.{lookup}
 use Rattle.std.proofs.lemmas.Bool.{cases_eq, eq-eqb, ne_eqb}
 use Rattle.ncq_readers.specs.Readings.{Reading}

@@ -1,7 +1,6 @@
 -- The rows of files: against the sources, by a change, and in all.
-use Rattle.std.specs.Prelude.{◌≡◌, ◌≢◌, ℕ, ◌≤◌, List, ◌++◌, map, length, Option, Some}
+use Rattle.std.specs.Prelude.{◌≡◌, ℕ, ◌≤◌, List, ◌++◌, map, length, Some}
 use Rattle.std.specs.List.{AllByRecursion}
-use Rattle.std.specs.Option.{option_map}
 use Rattle.std.specs.FinMap.{get, entries}
 use Rattle.ncq_base.specs.Counts.{total_by}
 use Rattle.ncq_row.specs.Embeddings.{Row}

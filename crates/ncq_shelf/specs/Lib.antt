@@ -3,6 +3,8 @@ pub mod Enrolled
 pub mod Indexed
 pub mod Inputs
 pub mod KeptFiles
+pub mod Keyed
+pub mod Met
 pub mod Parts
 pub mod Readers
 pub mod Shown

@@ -1,13 +1,15 @@
 -- What reads a file of a shelf, and what it gets of a change.
-use Rattle.std.specs.Prelude.{◌≡◌, ◌⊎◌, ◌↔◌, ℕ, ◌≤◌, Bool, true, List, [], filter, length, nat_eq}
-use Rattle.std.specs.List.{list_any}
+use Rattle.std.specs.Prelude.{◌≡◌, ◌⊎◌, ◌↔◌, ℕ, ◌≤◌, Bool, true, false, List, [], filter, length}
+use Rattle.std.specs.Prelude.{nat_eq}
+use Rattle.std.specs.List.{list_any, AllByRecursion}
 use Rattle.ncq_base.specs.declared.atom.Atom.{Atom}
 use Rattle.ncq_base.specs.declared.interval.Interval.{Interval}
 use Rattle.ncq_row.specs.declared.pair.Pair.{Pair}
 use Rattle.ncq_row.specs.declared.shape.Shape.{Shape}
 use Rattle.ncq_plan.specs.declared.expr.Expr.{Expr}
 use Rattle.ncq_plan.specs.declared.expr.Expr.TheVariants.{Scan, EqSel, RangeSel, Join}
-use Rattle.ncq_plan.specs.Meets.{has_atom, is_within}
+use Rattle.ncq_plan.specs.Meets.{has_atom, is_within, agree}
+use Rattle.ncq_midfile.specs.Content.{since}
 use Rattle.ncq_midfile.specs.declared.signed.SignedRow.{SignedRow}
 use Rattle.ncq_split.specs.declared.parcel.Parcel.{Parcel}
 use Rattle.ncq_readers.specs.Passed.{rows_to}
@@ -56,6 +58,29 @@ pub record IsJoinOver (files : Files) (input number : ℕ) : Type 0 where
 abbrev pub AreJoinsOver : Files → ℕ → List ℕ → Type 0
 AreJoinsOver files input numbers =
     (number : ℕ) → IsAmong number numbers ↔ IsJoinOver files input number
+
+-- no row of the left has the atoms of one of the right where the pairs compare them
+abbrev pub NoneAgree : List Pair → List SignedRow → List SignedRow → Type 0
+NoneAgree pairs lefts rights =
+    AllByRecursion (λ left. AllByRecursion (λ right. agree pairs left.row right.row ≡ false) rights)
+    lefts
+
+-- the join makes nothing of the file's rows above a change: none of them agrees with a row that its
+-- other side has, of whatever change and sign
+pub record MakesNothing (files : Files) (input change number : ℕ) : Type 0 where
+  pub on_left : (right : ℕ) (joins : JoinsFrom files number input right)
+      → NoneAgree joins.pairs (since change joins.on_left.file.content.rows)
+      joins.on_right.file.content.rows
+  pub on_right : (left : ℕ) (joins : JoinsFrom files number left input)
+      → NoneAgree joins.pairs joins.on_left.file.content.rows
+      (since change joins.on_right.file.content.rows)
+
+-- the numbers are those of joins over the file, and the other joins over it make nothing of its
+-- rows above the change
+pub record AreJoinsMet (files : Files) (input change : ℕ) (numbers : List ℕ) : Type 0 where
+  pub joins : (number : ℕ) → IsAmong number numbers → IsJoinOver files input number
+  pub others : (number : ℕ) → IsJoinOver files input number
+      → list_any (nat_eq number) numbers ≡ false → MakesNothing files input change number
 
 -- each selection over the file gets those of the rows that it takes, in their order, and no other
 -- file gets any

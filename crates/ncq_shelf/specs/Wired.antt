@@ -4,9 +4,8 @@ use Rattle.std.specs.Prelude.{◌≡◌, ◌⊎◌, ◌↔◌, ℕ, List, nat_eq
 use Rattle.std.specs.Map.{lookup}
 use Rattle.std.specs.Str.{bytes_eq}
 use Rattle.ncq_row.specs.declared.pair.Pair.{Pair}
-use Rattle.ncq_row.specs.declared.shape.Shape.{Shape}
 use Rattle.ncq_plan.specs.declared.expr.Expr.{Expr}
-use Rattle.ncq_plan.specs.declared.expr.Expr.TheVariants.{Scan, EqSel, RangeSel, Join}
+use Rattle.ncq_plan.specs.declared.expr.Expr.TheVariants.{EqSel, RangeSel, Join}
 use Rattle.ncq_readers.specs.Readings.{Reading}
 use Rattle.ncq_readers.specs.Readings.Reading.{equal, range, joined}
 use Rattle.ncq_readers.specs.ReaderTables.{ReaderTables, IsReader}

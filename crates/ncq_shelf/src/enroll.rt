@@ -87,7 +87,7 @@ fn one_of(inputs: Inputs) -> u64
 }
 
 /// The numbers of the two inputs: a file that is joined with itself is both.
-fn sides_of(inputs: Inputs) -> (u64, u64)
+pub(crate) fn sides_of(inputs: Inputs) -> (u64, u64)
     requires { inputs ≡ Nothing → ⊥ }
     ensures { AreSidesOf inputs result.0 result.1 }
 {

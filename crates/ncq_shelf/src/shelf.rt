@@ -10,13 +10,16 @@ ghost use Rattle.ncq_shelf.specs.Contents.{AreFormed, AreWide, with_more, cut_to
 ghost use Rattle.ncq_shelf.specs.Contents.{IsCompacted};
 ghost use Rattle.ncq_shelf.specs.Inputs.{AreInputs};
 ghost use Rattle.ncq_shelf.specs.KeptFiles.{KeptFile};
-ghost use Rattle.ncq_shelf.specs.Readers.{AreScansOf, AreJoinsOver, ArePassedOn, AreBoundBy};
+ghost use Rattle.ncq_shelf.specs.Readers.{AreScansOf, AreJoinsMet, ArePassedOn, AreBoundBy};
 ghost use Rattle.ncq_shelf.specs.Stands.{Finds, IsGrounded, IsIdle, IsThere, Stands, TellsIdle};
 
 use crate::cut::cut_all;
 use crate::enroll::{enroll, strike};
 use crate::file::File;
 use crate::inputs::Inputs;
+use crate::keyed::key_join;
+use crate::keys::Keys;
+use crate::met::joins_in;
 use crate::scans::{enroll_scan, strike_scan};
 use indexmap::IndexMap;
 use ncq_base::{Bytes, Copied, Sequence, Steps};
@@ -28,18 +31,22 @@ use std::alloc::{AllocError, Global};
 use std::marker::Model;
 use std::sync::ledger::Ledger;
 
+/// So many joins over a file are told without a look at what its rows meet.
+const FEW_JOINS: usize = 4;
+
 /// Files by their numbers.
 #[derive(Drop)]
 pub struct Shelf {
     files: IndexMap<u64, File>,
     numbers: IndexMap<Expr, u64>,
     scans: IndexMap<Bytes, Readers>,
+    keys: Keys,
 }
 
 impl Model for Shelf {
     ghost use Rattle.ncq_shelf.specs.KeptFiles.{Files, files_code};
     ghost use Rattle.ncq_shelf.specs.Shown.{shown};
-    ghost use Rattle.ncq_shelf.specs.Wired.{IsShelved};
+    ghost use Rattle.ncq_shelf.specs.Keyed.{IsKept};
 
     ghost Value = { Files };
 
@@ -48,7 +55,7 @@ impl Model for Shelf {
     ghost view = { λ m. shown m.files.entries };
 
     ghost invariant = { λ m.
-        IsShelved m.files.entries m.numbers.entries m.scans.entries };
+        IsKept m.files.entries m.numbers.entries m.scans.entries m.keys };
 }
 
 impl Shelf {
@@ -60,6 +67,7 @@ impl Shelf {
             files: IndexMap::new(alloc),
             numbers: IndexMap::new(alloc),
             scans: IndexMap::new(alloc),
+            keys: Keys::new(alloc),
         }
     }
 
@@ -160,6 +168,7 @@ impl Shelf {
         let _number = self.numbers.swap_remove(&file.expr);
         strike(&mut self.files, &file.expr, file.inputs, number);
         strike_scan(&mut self.scans, &file.expr, number);
+        self.keys.forget(number);
         file.inputs
     }
 
@@ -183,6 +192,7 @@ impl Shelf {
         let copy = expr.copy(alloc)?;
         self.numbers.reserve(1)?;
         self.files.reserve(1)?;
+        key_join(&mut self.keys, &self.files, expr, inputs, number)?;
         enroll(alloc, &mut self.files, expr, inputs, number)?;
         enroll_scan(alloc, &mut self.scans, expr, number)?;
         let file = File {
@@ -209,6 +219,7 @@ impl Shelf {
             → self.new ≡ insert self.old number (with_more file (row ∷ []))) }
         ensures err { OnErr result (self.new ≡ self.old) }
     {
+        self.keys.note_row(number, &row.row)?;
         let Some(file) = self.files.get_mut(&number) else {
             unreachable!()
         };
@@ -276,16 +287,33 @@ impl Shelf {
         Ok(numbers)
     }
 
-    /// The numbers of the joins over a file, each once. Nothing else is looked at.
-    pub fn joins_over(&self, alloc: Global, input: u64) -> Result<Sequence<u64>, AllocError>
-        requires { IsThere self.now input }
-        ensures joins { IfOk result (λ numbers. AreJoinsOver self.now input numbers) }
+    /// The numbers of joins over a file, each once; those that are left out make nothing of its rows
+    /// above a change.
+    pub fn joins_met(
+        &self,
+        alloc: Global,
+        input: u64,
+        change: u64,
+    ) -> Result<Sequence<u64>, AllocError>
+        requires there { IsThere self.now input }
+        requires base { (file : KeptFile) → get self.now input ≡ Some file
+            → file.content.base ≤ change }
+        requires formed { AreFormed self.now }
+        requires wide { AreWide self.now }
+        ensures met { IfOk result (λ numbers. AreJoinsMet self.now input change numbers) }
         ensures once { IfOk result (λ numbers. IsDistinct nat_eq numbers) }
     {
         let Some(file) = self.files.get(&input) else {
             unreachable!()
         };
-        let numbers = copy_of(alloc, file.readers.joins())?;
+        let joins = file.readers.joins();
+        if joins.len() <= FEW_JOINS {
+            let all = copy_of(alloc, joins)?;
+            return Ok(all);
+        }
+        let rows = file.content.rows_since(change);
+        let met = joins_in(alloc, &self.files, &self.keys, input, rows)?;
+        let numbers = copy_of(alloc, met.as_slice())?;
         Ok(numbers)
     }
 

@@ -25,7 +25,7 @@ pass_down-requires g c = λ κs within.
     (within, (c.requires.1.0, (c.feed_join.ensures.under, turn_start g.run c.args.at c.args.pending.now.keys c.args.shelf.now c.requires.1.1.1.0)))
 
 pub tell_joins-requires : goal.tell_joins-requires
-tell_joins-requires g c = (c.pass_down.ensures.under, turn_start g.run c.args.at c.args.pending.now.keys c.args.shelf.now c.requires.1.1.1.0)
+tell_joins-requires g c = (c.requires.1.0, (c.pass_down.ensures.under, turn_start g.run c.args.at c.args.pending.now.keys c.args.shelf.now c.requires.1.1.1.0))
 
 pub returns-then-is_empty-clause-passed : goal.returns-then-is_empty-clause-passed
 returns-then-is_empty-clause-passed g c =
@@ -51,7 +51,7 @@ returns-clause-nothing g c = λ none. absurd (true≢false none)
 pub returns-clause-passed : goal.returns-clause-passed
 returns-clause-passed g c =
     busy_turn g.run c.requires.1.1.0.start c.args.at c.args.pending.now.keys c.args.shelf.now c.feed_join.new.shelf c.requires.1.1.1.0 c.requires.1.1.1.1 c.in_ok-feed_join.ensures.joined
-    c.pass_down.new.shelf c.pass_down.new.pending.keys c.tell_joins.new.pending.keys c.in_ok-pass_down.ensures.down c.in_ok-tell_joins.ensures
+    c.pass_down.new.shelf c.pass_down.ensures.under c.pass_down.new.pending.keys c.tell_joins.new.pending.keys c.in_ok-pass_down.ensures.down c.in_ok-tell_joins.ensures
 
 pub returns-in_err-feed_join-clause-cost : goal.returns-in_err-feed_join-clause-cost
 returns-in_err-feed_join-clause-cost g c =

@@ -1,7 +1,7 @@
 use Rattle.std.proofs.Common.{◌<◌, ◌≤◌, sym, ap, ◌∙◌, length, slice_get, subst, arith}
 use Rattle.std.proofs.lemmas.Cmp.{nat_eq_equiv}
 use Rattle.std.proofs.lemmas.Map.Entries.{lookup_from_place}
-use Rattle.ncq_shelf.proofs.CutLaws.{written, next_is, cut_more, cut_length, whole_cut, cut_front}
+use Rattle.ncq_shelf.proofs.CutLaws.{written, next_is, cut_more, cut_length, whole_cut}
 use Rattle.ncq_shelf.proofs.cut.cut_all.Goals as goal
 
 pub loop-at-preserved : goal.loop-at-preserved

@@ -1,4 +1,4 @@
-use Rattle.std.proofs.Common.{subst, sym, ap, ◌∙◌}
+use Rattle.std.proofs.Common.{sym, ap, ◌∙◌}
 use Rattle.ncq_readers.specs.Readings.Reading.{equal, range, joined}
 use Rattle.ncq_plan.specs.declared.expr.Expr.TheVariants.{EqSel}
 use Rattle.ncq_shelf.specs.Shown.{shown}

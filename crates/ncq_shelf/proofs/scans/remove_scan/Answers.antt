@@ -1,6 +1,4 @@
 use Rattle.std.proofs.Common.{sym, rules, Some, None}
-use Rattle.std.specs.Map.{lookup}
-use Rattle.ncq_readers.specs.Readings.Reading.{joined}
 use Rattle.ncq_shelf.proofs.ScanLaws.{turned_here, turned_others, turned_again, with_tables, without_tables, loses_scan, no_reader}
 use Rattle.ncq_shelf.proofs.scans.remove_scan.Goals as goal
 

@@ -1,10 +1,9 @@
-use Rattle.std.proofs.Common.{◌≡◌, ◌∷◌, [], ◌++◌, Some, sym, ap, ◌∙◌, subst, refl, rules}
-use Rattle.std.proofs.lemmas.Result.{on_ok_weaker, on_err_weaker}
+use Rattle.std.proofs.Common.{◌≡◌, Some, sym, ap, ◌∙◌, subst, refl, rules}
+use Rattle.std.proofs.lemmas.Result.{on_err_weaker}
 use Rattle.std.specs.Option.{option_map}
 use Rattle.std.specs.FinMap.{get, insert}
-use Rattle.ncq_midfile.specs.Files.{FileState}
 use Rattle.ncq_shelf.specs.KeptFiles.{KeptFile}
-use Rattle.ncq_shelf.specs.Contents.{with_more, IsCompacted}
+use Rattle.ncq_shelf.specs.Contents.{IsCompacted}
 use Rattle.ncq_shelf.specs.Shown.{shown, state_of}
 use Rattle.ncq_shelf.specs.declared.file.File.{File}
 use Rattle.ncq_shelf.proofs.Maps.{one_value, there, put_again}
@@ -12,6 +11,9 @@ use Rattle.ncq_shelf.proofs.ShownFiles.{get_shown}
 use Rattle.ncq_shelf.proofs.Indexes.{shown_at}
 use Rattle.ncq_shelf.proofs.SameFiles.{shown_written, shelved_written}
 use Rattle.ncq_shelf.proofs.Compactions.{compacted}
+use Rattle.ncq_shelf.specs.Keyed.{IsKeyed}
+use Rattle.ncq_shelf.proofs.KeyedLaws.{keyed_put}
+use Rattle.ncq_shelf.proofs.KeyedAdded.{compact_held}
 use Rattle.ncq_shelf.proofs.shelf.Shelf.compact.Goals as goal
 
 pub unreachable-requires : goal.unreachable-requires
@@ -31,8 +33,17 @@ pub invariant_of-self : goal.invariant_of-self
 invariant_of-self c =
     let file = c.in-Some.file.now in
     let w : File = record file { content = c.compact.new.self } in
+    let shelved =
     shelved_written c.self.inside.files.entries c.args.number file w (sym c.in-Some.ensures.value) refl refl refl
-    (c.get_mut.follows.lender w).entries ((c.get_mut.follows.holds w).3 (search rules)).0 c.self.inside.numbers.entries c.self.inside.scans.entries c.self.invariant
+    (c.get_mut.follows.lender w).entries ((c.get_mut.follows.holds w).3 (search rules)).0 c.self.inside.numbers.entries c.self.inside.scans.entries c.self.invariant.shelved in
+    let written = shown_written c.self.inside.files.entries c.args.number file w (sym c.in-Some.ensures.value) refl refl refl
+    (c.get_mut.follows.lender w).entries ((c.get_mut.follows.holds w).3 (search rules)).0 in
+    record {
+      shelved = shelved;
+      keyed = subst (λ m. IsKeyed m c.self.inside.keys) (sym written)
+          (keyed_put (shown c.self.inside.files.entries) c.args.number (state_of file) (state_of w) c.self.inside.keys (shown_at c.self.inside.files.entries c.args.number file (sym c.in-Some.ensures.value)) refl
+          (λ slot k. compact_held c.compact.result c.self.inside.keys.holders c.args.number slot c.args.change file.content c.compact.new.self c.compact.ensures.content c.compact.ensures.err) c.self.invariant.keyed);
+    }
 
 pub returns-clause-ok : goal.returns-clause-ok
 returns-clause-ok c =

@@ -17,4 +17,4 @@ returns c = λ file at.
     let e : state_of c.in-Some.file.now ≡ file =
     one_value (shown_at c.self.inside.files.entries c.args.number c.in-Some.file.now (sym c.in-Some.ensures.value)) (subst (λ f. get f c.args.number ≡ Some file) (sym c.self.view_is) at) in
     subst (λ f. AreInputs f file.expr c.in-Some.file.now.inputs) c.self.view_is
-    (subst (λ s. AreInputs (shown c.self.inside.files.entries) s.expr c.in-Some.file.now.inputs) e (c.self.invariant.indexed.inputs c.args.number c.in-Some.file.now (sym c.in-Some.ensures.value)))
+    (subst (λ s. AreInputs (shown c.self.inside.files.entries) s.expr c.in-Some.file.now.inputs) e (c.self.invariant.shelved.indexed.inputs c.args.number c.in-Some.file.now (sym c.in-Some.ensures.value)))

@@ -1,6 +1,4 @@
-use Rattle.std.proofs.Common.{◌≡◌, true, false, not, Some, sym, ap, ◌∙◌, subst}
-use Rattle.std.specs.List.{list_any}
-use Rattle.std.specs.Map.{values_of}
+use Rattle.std.proofs.Common.{◌≡◌, true, false, Some, sym, ap, ◌∙◌, subst}
 use Rattle.std.specs.Option.{option_map}
 use Rattle.std.specs.FinMap.{get}
 use Rattle.ncq_shelf.specs.Stands.{IsReadIn, TellsIdle}
@@ -33,10 +31,10 @@ returns c =
         file = state_of file;
         at = subst (λ f. get f c.args.number ≡ Some (state_of file)) c.self.view_is here;
         unused = c.if-file-ne0.false;
-        unread = λ r. told_unread c.self.inside.files.entries c.self.inside.numbers.entries c.self.inside.scans.entries c.self.invariant c.args.number file found none (subst (λ f. IsReadIn f file.expr) (sym c.self.view_is) r);
+        unread = λ r. told_unread c.self.inside.files.entries c.self.inside.numbers.entries c.self.inside.scans.entries c.self.invariant.shelved c.args.number file found none (subst (λ f. IsReadIn f file.expr) (sym c.self.view_is) r);
       }
       | false ↦ λ some state at unused.
           let same : state_of file ≡ state = one_value here (subst (λ f. get f c.args.number ≡ Some state) (sym c.self.view_is) at) in
           subst (λ f. IsReadIn f state.expr) c.self.view_is (subst (λ (s : KeptFile). IsReadIn (shown c.self.inside.files.entries) s.expr) same
-          (told_read c.self.inside.files.entries c.self.inside.numbers.entries c.self.inside.scans.entries c.self.invariant c.args.number file found some))
+          (told_read c.self.inside.files.entries c.self.inside.numbers.entries c.self.inside.scans.entries c.self.invariant.shelved c.args.number file found some))
     ] c.is_empty.ensures.tells

@@ -1,10 +1,9 @@
-use Rattle.std.proofs.Common.{◌≡◌, ℕ, ◌+◌, ◌≤◌, List, length, Some, sym, ap, ◌∙◌, subst, arith}
+use Rattle.std.proofs.Common.{◌≡◌, Some, sym, ap, ◌∙◌, subst, arith}
 use Rattle.std.specs.Option.{option_map}
 use Rattle.std.specs.FinMap.{get}
 use Rattle.std.proofs.lemmas.Result.{IfOk-weaker}
 use Rattle.ncq_plan.specs.Exprs.{expr_width}
 use Rattle.ncq_midfile.specs.Content.{since}
-use Rattle.ncq_midfile.specs.declared.signed.SignedRow.{SignedRow}
 use Rattle.ncq_readers.specs.Passed.{HaveSlots, parcels_in}
 use Rattle.ncq_shelf.specs.KeptFiles.{KeptFile, Files}
 use Rattle.ncq_shelf.specs.Contents.{AreFormed, sum_over}
@@ -28,7 +27,7 @@ pub parcels-requires : goal.parcels-requires
 parcels-requires g c =
     let file = c.in-Some.file.now in
     subst (HaveSlots file.readers) (sym c.rows_since.ensures)
-    (have_slots c.self.inside.files.entries c.self.inside.numbers.entries c.self.inside.scans.entries c.self.invariant c.args.input file (sym c.in-Some.ensures.value)
+    (have_slots c.self.inside.files.entries c.self.inside.numbers.entries c.self.inside.scans.entries c.self.invariant.shelved c.args.input file (sym c.in-Some.ensures.value)
     (subst AreFormed (sym c.self.view_is) c.requires.formed) (since c.args.change file.content.rows)
     (wide_since (expr_width file.expr) c.args.change file.content.rows
     (c.requires.wide c.args.input (state_of file) (subst (λ f. get f c.args.input ≡ Some (state_of file)) c.self.view_is (shown_at c.self.inside.files.entries c.args.input file (sym c.in-Some.ensures.value))))))
@@ -42,7 +41,7 @@ returns-clause-parcels g c = IfOk-weaker c.parcels.result _ _ (λ parcels e stat
     subst (λ ps. ArePassedOn c.args.self.now c.args.input (since c.args.change state.content.rows) ps) (sym e)
     (subst (λ f. ArePassedOn f c.args.input (since c.args.change state.content.rows) (parcels_in file.readers c.rows_since.result.now)) c.self.view_is
     (subst (λ rs. ArePassedOn (shown c.self.inside.files.entries) c.args.input rs (parcels_in file.readers c.rows_since.result.now)) rows
-    (passed_on c.self.inside.files.entries c.self.inside.numbers.entries c.self.inside.scans.entries c.self.invariant c.args.input file (sym c.in-Some.ensures.value) c.parcels.ensures.tables c.rows_since.result.now)))) c.parcels.ensures.parcels
+    (passed_on c.self.inside.files.entries c.self.inside.numbers.entries c.self.inside.scans.entries c.self.invariant.shelved c.args.input file (sym c.in-Some.ensures.value) c.parcels.ensures.tables c.rows_since.result.now)))) c.parcels.ensures.parcels
 
 pub returns-clause-cost : goal.returns-clause-cost
 returns-clause-cost g c = λ state bound at bounded.
@@ -52,7 +51,7 @@ returns-clause-cost g c = λ state bound at bounded.
     let rows : c.rows_since.result.now ≡ since c.args.change state.content.rows = c.rows_since.ensures ∙ ap (λ (s : KeptFile). since c.args.change s.content.rows) same in
     let inside : AreBoundBy (shown c.self.inside.files.entries) c.args.input c.rows_since.result.now bound =
     subst (λ f. AreBoundBy f c.args.input c.rows_since.result.now bound) (sym c.self.view_is) (subst (λ rs. AreBoundBy c.args.self.now c.args.input rs bound) (sym rows) bounded) in
-    let most = passed_bound c.self.inside.files.entries c.self.inside.numbers.entries c.self.inside.scans.entries c.self.invariant c.args.input file (sym c.in-Some.ensures.value) c.parcels.ensures.tables c.rows_since.result.now bound inside in
+    let most = passed_bound c.self.inside.files.entries c.self.inside.numbers.entries c.self.inside.scans.entries c.self.invariant.shelved c.args.input file (sym c.in-Some.ensures.value) c.parcels.ensures.tables c.rows_since.result.now bound inside in
     let seen : sum_over (shown c.self.inside.files.entries) bound ≡ sum_over c.args.self.now bound = ap (λ (f : Files). sum_over f bound) c.self.view_is in
     let cost = c.parcels.ensures.cost in
     omega arith

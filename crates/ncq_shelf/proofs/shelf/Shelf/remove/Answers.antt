@@ -8,6 +8,8 @@ use Rattle.ncq_shelf.proofs.Maps.{one_value, there}
 use Rattle.ncq_shelf.proofs.ShownFiles.{get_shown}
 use Rattle.ncq_shelf.proofs.Indexes.{shown_at}
 use Rattle.ncq_shelf.proofs.Removed.{inputs_left, one_left, known_left, shown_less, shelved_less}
+use Rattle.ncq_shelf.specs.Keyed.{IsKeyed}
+use Rattle.ncq_shelf.proofs.KeyedLaws.{keyed_less}
 use Rattle.ncq_shelf.proofs.shelf.Shelf.remove.Goals as goal
 
 pub returns-in_default-clause-gone : goal.returns-in_default-clause-gone
@@ -21,32 +23,39 @@ returns-in_default-clause-inputs c =
 pub strike-requires-clause-inputs : goal.strike-requires-clause-inputs
 strike-requires-clause-inputs c =
     let idle : IsIdle (shown c.self.inside.files.entries) c.args.number = subst (λ f. IsIdle f c.args.number) (sym c.self.view_is) c.requires in
-    inputs_left c.self.inside.files.entries c.self.inside.numbers.entries c.self.inside.scans.entries c.self.invariant c.args.number idle c.in-Some.file (sym c.in-Some.ensures.value)
+    inputs_left c.self.inside.files.entries c.self.inside.numbers.entries c.self.inside.scans.entries c.self.invariant.shelved c.args.number idle c.in-Some.file (sym c.in-Some.ensures.value)
     c.swap_remove.new.self.entries c.swap_remove.ensures.updates.0 c.swap_remove-number.new.self.entries c.swap_remove-number.ensures.updates.0
 
 pub strike-requires-clause-one : goal.strike-requires-clause-one
 strike-requires-clause-one c =
     let idle : IsIdle (shown c.self.inside.files.entries) c.args.number = subst (λ f. IsIdle f c.args.number) (sym c.self.view_is) c.requires in
-    one_left c.self.inside.files.entries c.self.inside.numbers.entries c.self.inside.scans.entries c.self.invariant c.args.number idle c.in-Some.file (sym c.in-Some.ensures.value)
+    one_left c.self.inside.files.entries c.self.inside.numbers.entries c.self.inside.scans.entries c.self.invariant.shelved c.args.number idle c.in-Some.file (sym c.in-Some.ensures.value)
     c.swap_remove.new.self.entries c.swap_remove.ensures.updates.0 c.swap_remove-number.new.self.entries c.swap_remove-number.ensures.updates.0
 
 pub strike-requires-clause-known : goal.strike-requires-clause-known
 strike-requires-clause-known c =
     let idle : IsIdle (shown c.self.inside.files.entries) c.args.number = subst (λ f. IsIdle f c.args.number) (sym c.self.view_is) c.requires in
-    known_left c.self.inside.files.entries c.self.inside.numbers.entries c.self.inside.scans.entries c.self.invariant c.args.number idle c.in-Some.file (sym c.in-Some.ensures.value)
+    known_left c.self.inside.files.entries c.self.inside.numbers.entries c.self.inside.scans.entries c.self.invariant.shelved c.args.number idle c.in-Some.file (sym c.in-Some.ensures.value)
     c.swap_remove.new.self.entries c.swap_remove.ensures.updates.0 c.swap_remove-number.new.self.entries c.swap_remove-number.ensures.updates.0
 
 pub invariant_of-self-2 : goal.invariant_of-self-2
 invariant_of-self-2 c =
     let idle : IsIdle (shown c.self.inside.files.entries) c.args.number = subst (λ f. IsIdle f c.args.number) (sym c.self.view_is) c.requires in
-    shelved_less c.self.inside.files.entries c.self.inside.numbers.entries c.self.inside.scans.entries c.self.invariant c.args.number idle c.in-Some.file (sym c.in-Some.ensures.value)
+    let shelved = shelved_less c.self.inside.files.entries c.self.inside.numbers.entries c.self.inside.scans.entries c.self.invariant.shelved c.args.number idle c.in-Some.file (sym c.in-Some.ensures.value)
     c.swap_remove.new.self.entries c.swap_remove.ensures.updates.0 c.swap_remove-number.new.self.entries c.swap_remove-number.ensures.updates.0
-    c.strike.new.files.entries c.strike.ensures c.strike_scan.new.scans.entries c.strike_scan.ensures
+    c.strike.new.files.entries c.strike.ensures c.strike_scan.new.scans.entries c.strike_scan.ensures in
+    let less = shown_less c.self.inside.files.entries c.self.inside.numbers.entries c.self.inside.scans.entries c.self.invariant.shelved c.args.number idle c.in-Some.file (sym c.in-Some.ensures.value)
+    c.swap_remove.new.self.entries c.swap_remove.ensures.updates.0 c.swap_remove-number.new.self.entries c.swap_remove-number.ensures.updates.0
+    c.strike.new.files.entries c.strike.ensures c.strike_scan.new.scans.entries c.strike_scan.ensures in
+    record {
+      shelved = shelved;
+      keyed = subst (λ m. IsKeyed m c.forget.new.self) (sym less) (keyed_less (shown c.self.inside.files.entries) c.args.number c.self.inside.keys c.forget.new.self c.forget.ensures c.self.invariant.keyed);
+    }
 
 pub returns-clause-gone : goal.returns-clause-gone
 returns-clause-gone c =
     let idle : IsIdle (shown c.self.inside.files.entries) c.args.number = subst (λ f. IsIdle f c.args.number) (sym c.self.view_is) c.requires in
-    shown_less c.self.inside.files.entries c.self.inside.numbers.entries c.self.inside.scans.entries c.self.invariant c.args.number idle c.in-Some.file (sym c.in-Some.ensures.value)
+    shown_less c.self.inside.files.entries c.self.inside.numbers.entries c.self.inside.scans.entries c.self.invariant.shelved c.args.number idle c.in-Some.file (sym c.in-Some.ensures.value)
     c.swap_remove.new.self.entries c.swap_remove.ensures.updates.0 c.swap_remove-number.new.self.entries c.swap_remove-number.ensures.updates.0
     c.strike.new.files.entries c.strike.ensures c.strike_scan.new.scans.entries c.strike_scan.ensures
     ∙ (λ i. remove (c.self.view_is i) c.args.number)
@@ -56,4 +65,4 @@ returns-clause-inputs c = λ state at.
     let e : state_of c.in-Some.file ≡ state =
     one_value (shown_at c.self.inside.files.entries c.args.number c.in-Some.file (sym c.in-Some.ensures.value)) (subst (λ f. get f c.args.number ≡ Some state) (sym c.self.view_is) at) in
     subst (λ f. AreInputs f state.expr c.in-Some.file.inputs) c.self.view_is
-    (subst (λ s. AreInputs (shown c.self.inside.files.entries) s.expr c.in-Some.file.inputs) e (c.self.invariant.indexed.inputs c.args.number c.in-Some.file (sym c.in-Some.ensures.value)))
+    (subst (λ s. AreInputs (shown c.self.inside.files.entries) s.expr c.in-Some.file.inputs) e (c.self.invariant.shelved.indexed.inputs c.args.number c.in-Some.file (sym c.in-Some.ensures.value)))

@@ -1,12 +1,14 @@
 use Rattle.std.proofs.Common.{◌≡◌, Some, sym, ap, ◌∙◌, subst, refl, rules}
 use Rattle.std.specs.Option.{option_map}
 use Rattle.std.specs.FinMap.{get, insert}
-use Rattle.ncq_shelf.specs.Shown.{state_of}
+use Rattle.ncq_shelf.specs.Shown.{shown, state_of}
 use Rattle.ncq_shelf.specs.declared.file.File.{File}
 use Rattle.ncq_shelf.proofs.Maps.{one_value, there}
 use Rattle.ncq_shelf.proofs.ShownFiles.{get_shown}
 use Rattle.ncq_shelf.proofs.Indexes.{shown_at}
 use Rattle.ncq_shelf.proofs.SameFiles.{shown_written, shelved_written}
+use Rattle.ncq_shelf.specs.Keyed.{IsKeyed}
+use Rattle.ncq_shelf.proofs.KeyedLaws.{keyed_put}
 use Rattle.ncq_shelf.proofs.shelf.Shelf.set_uses.Goals as goal
 
 pub returns-in_default : goal.returns-in_default
@@ -17,8 +19,17 @@ pub invariant_of-self-2 : goal.invariant_of-self-2
 invariant_of-self-2 c =
     let file = c.in-Some.file.now in
     let w : File = record file { uses = c.args.uses } in
+    let shelved =
     shelved_written c.self.inside.files.entries c.args.number file w (sym c.in-Some.ensures.value) refl refl refl
-    (c.get_mut.follows.lender w).entries ((c.get_mut.follows.holds w).3 (search rules)).0 c.self.inside.numbers.entries c.self.inside.scans.entries c.self.invariant
+    (c.get_mut.follows.lender w).entries ((c.get_mut.follows.holds w).3 (search rules)).0 c.self.inside.numbers.entries c.self.inside.scans.entries c.self.invariant.shelved in
+    let written = shown_written c.self.inside.files.entries c.args.number file w (sym c.in-Some.ensures.value) refl refl refl
+    (c.get_mut.follows.lender w).entries ((c.get_mut.follows.holds w).3 (search rules)).0 in
+    record {
+      shelved = shelved;
+      keyed = subst (λ m. IsKeyed m c.self.inside.keys) (sym written)
+          (keyed_put (shown c.self.inside.files.entries) c.args.number (state_of file) (state_of w) c.self.inside.keys (shown_at c.self.inside.files.entries c.args.number file (sym c.in-Some.ensures.value)) refl
+          (λ slot k h. h) c.self.invariant.keyed);
+    }
 
 pub returns : goal.returns
 returns c = λ file at.
