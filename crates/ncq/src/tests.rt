@@ -24,6 +24,7 @@ mod cuts;
 mod declarations;
 mod faults;
 mod forms;
+mod joins;
 mod limits;
 mod lines;
 mod many;
