@@ -8,6 +8,7 @@ ghost use Rattle.ncq_book.specs.Books.{is_named, is_of, member_of, timing_of, wa
 ghost use Rattle.ncq_book.specs.Books.{with_note, InstallsRise, NamesDiffer};
 
 use crate::finders::Finders;
+use crate::held::Held;
 use crate::member::Member;
 use ncq_base::Bytes;
 use ncq_event::{Firings, Installs};
@@ -20,7 +21,7 @@ use std::marker::Model;
 /// an instant of the clock. Contracts see the list of them in that order, and the instant.
 #[derive(Drop)]
 pub struct Book {
-    members: BTreeMap<u64, Member>,
+    members: BTreeMap<u64, Held>,
     finders: Finders,
 }
 
@@ -86,7 +87,8 @@ impl Book {
     pub fn get(&self, install: u64) -> Option<&Member>
         ensures { option_copied result ≡ member_of install self.now.members }
     {
-        self.members.get(&install)
+        let held = self.members.get(&install)?;
+        Some(held.get())
     }
 
     /// The install numbers of those that fire at changes and have one of these files, rising, each
@@ -124,12 +126,14 @@ impl Book {
             ≡ record self.old { members = self.old.members ++ member ∷ [] }) }
         ensures err { OnErr result (self.new ≡ self.old) }
     {
-        self.finders.enroll(alloc, &member)?;
-        match self.members.insert(member.install, member) {
+        let install = member.install;
+        let held = Held::new(alloc, member)?;
+        self.finders.enroll(alloc, held.get())?;
+        match self.members.insert(install, held) {
             Ok(_) => Ok(()),
             Err(refused) => {
-                let (_, member) = refused.value;
-                self.finders.strike(&member);
+                let (_, held) = refused.value;
+                self.finders.strike(held.get());
                 Err(AllocError)
             }
         }
@@ -142,9 +146,9 @@ impl Book {
         } }
         ensures taken { result ≡ member_of install self.old.members }
     {
-        let member = self.members.remove(&install)?;
-        self.finders.strike(&member);
-        Some(member)
+        let held = self.members.remove(&install)?;
+        self.finders.strike(held.get());
+        Some(held.into_inner())
     }
 
     /// Notes this number for the member of this install number, if it is there. It takes no memory.
@@ -153,8 +157,8 @@ impl Book {
           members = map (with_note install number) self.old.members;
         } }
     {
-        if let Some(member) = self.members.get_mut(&install) {
-            member.noted = Some(number);
+        if let Some(held) = self.members.get_mut(&install) {
+            held.note(number);
         }
     }
 

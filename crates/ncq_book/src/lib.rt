@@ -6,6 +6,7 @@
 
 mod book;
 mod finders;
+mod held;
 mod member;
 mod names;
 #[cfg(test)]

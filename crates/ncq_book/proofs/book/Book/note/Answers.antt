@@ -1,5 +1,7 @@
 use Rattle.std.proofs.Common.{◌∙◌, ap, sym, subst, map}
-use Rattle.std.specs.Prelude.{Some}
+use Rattle.std.specs.Map.{set_value}
+use Rattle.std.specs.BTreeMap.{is_at}
+use Rattle.std.specs.Ordering.{nat_cmp}
 use Rattle.ncq_book.specs.Books.{BookState, with_note}
 use Rattle.ncq_book.specs.Kept.{members_in, IsKept}
 use Rattle.ncq_book.specs.contracts.book.Book.{the_view}
@@ -11,10 +13,11 @@ pub invariant_of-self : goal.invariant_of-self
 invariant_of-self c =
     elim c.match-get_mut.branch [
       | in-Some w ↦
-          let written = record w.in-Some.member.now { noted = Some c.args.number } in
+          let written = w.note.new.self in
+          let set = (c.get_mut.follows.holds written).0 ∙ ap (set_value (is_at (nat_cmp c.args.install)) c.self.inside.members.entries) w.note.ensures in
           subst (λ b. IsKept (members_in b.members.entries) b.members.entries b.finders) (sym w.self-inside-is)
-          (noted_kept c.args.install c.args.number c.self.inside.members.entries c.self.inside.finders c.self.invariant (c.get_mut.follows.lender written).entries w.in-Some.member.now
-          (sym w.in-Some.ensures.value) (c.get_mut.follows.holds written).0)
+          (noted_kept c.args.install c.args.number c.self.inside.members.entries c.self.inside.finders c.self.invariant (c.get_mut.follows.lender written).entries w.in-Some.held.now
+          (sym w.in-Some.ensures.value) set)
       | in_default w ↦
           subst (λ b. IsKept (members_in b.members.entries) b.members.entries b.finders)
           (sym (w.self-inside-is ∙ (λ i. record { members = c.get_mut.follows.holds-at-none i; finders = c.self.inside.finders }))) c.self.invariant
@@ -25,10 +28,11 @@ returns c =
     let turned = ap (λ (b : BookState). record b { members = map (with_note c.args.install c.args.number) b.members }) c.self.view_is in
     elim c.match-get_mut.branch [
       | in-Some w ↦
-          let written = record w.in-Some.member.now { noted = Some c.args.number } in
+          let written = w.note.new.self in
+          let set = (c.get_mut.follows.holds written).0 ∙ ap (set_value (is_at (nat_cmp c.args.install)) c.self.inside.members.entries) w.note.ensures in
           let is =
-          noted_shown c.args.install c.args.number c.self.inside.members.entries c.self.inside.finders c.self.invariant (c.get_mut.follows.lender written).entries w.in-Some.member.now
-          (sym w.in-Some.ensures.value) (c.get_mut.follows.holds written).0 in
+          noted_shown c.args.install c.args.number c.self.inside.members.entries c.self.inside.finders c.self.invariant (c.get_mut.follows.lender written).entries w.in-Some.held.now
+          (sym w.in-Some.ensures.value) set in
           ap the_view w.self-inside-is ∙ (λ i. record { members = is i; instant = c.self.inside.finders.calendar.instant }) ∙ turned
       | in_default w ↦
           let is = noted_nobody c.args.install c.args.number c.self.inside.members.entries c.self.inside.finders c.self.invariant (sym w.in_default.ensures.value) in
