@@ -3,14 +3,10 @@
 use std::alloc::{AllocError, Global};
 use std::process::Abort;
 
-mod atoms;
 mod bags;
-mod lists;
 mod queries;
 mod shown;
-mod stores;
 mod tables;
-mod texts;
 
 /// The texts, one behind the other.
 fn joined(alloc: Global, parts: &[&str]) -> Result<Vec<u8>, AllocError> {

@@ -16,6 +16,3 @@ pub use memory::{Calls, MemorySink, MemorySource, memory_sink, memory_source};
 pub use plain::{PlainSink, PlainSource, plain_sink, plain_source};
 pub use stream::{StdSink, StdSource};
 pub use traits::{Failed, Sink, Source};
-
-#[cfg(test)]
-mod tests;

@@ -11,8 +11,6 @@ mod item;
 mod laws;
 mod reader;
 mod tag;
-#[cfg(test)]
-mod tests;
 mod turns;
 mod writing;
 mod written;

@@ -7,8 +7,6 @@ mod laws;
 mod load;
 mod report;
 mod tally;
-#[cfg(test)]
-mod tests;
 mod texts;
 
 pub use laws::{lines_are_one, loads_are_short};

@@ -16,8 +16,6 @@ mod laws;
 mod names;
 mod prepare;
 mod store;
-#[cfg(test)]
-mod tests;
 
 pub use change::{Change, ChangeError, Entries, Entry, SourceId};
 pub use key::{Key, child_value, key_of};

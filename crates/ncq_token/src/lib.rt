@@ -13,6 +13,3 @@ mod tokenise;
 pub use laws::{names_are_names, tokens_are};
 pub use token::{Token, TokenError, TokenItems};
 pub use tokenise::tokens;
-
-#[cfg(test)]
-mod tests;

@@ -12,8 +12,6 @@ mod laws;
 mod model;
 mod normalize;
 mod ordering;
-#[cfg(test)]
-mod tests;
 mod text;
 
 pub use checks::{are_rising, is_normal};

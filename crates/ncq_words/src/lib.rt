@@ -10,6 +10,3 @@ mod read;
 
 pub use form::Form;
 pub use read::{WordsError, read_words};
-
-#[cfg(test)]
-mod tests;

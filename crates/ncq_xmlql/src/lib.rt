@@ -27,6 +27,3 @@ pub use model::{
     QueryItems, Statement, Suffix, Template, TemplateAttribute, TemplateAttributes, Templates,
 };
 pub use statement::{StatementError, parse_statement};
-
-#[cfg(test)]
-mod tests;

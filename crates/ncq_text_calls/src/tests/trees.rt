@@ -1,8 +1,10 @@
-use crate::{
+//! Forests: their normal form, their string value and their order.
+
+use ncq_base::bytes_of;
+use ncq_tree::{
     Attribute, Attributes, Element, Forest, Node, copy_forest, is_normal, is_same, normal,
     normal_element, order, string_value,
 };
-use ncq_base::bytes_of;
 use std::alloc::{AllocError, Global};
 use std::cmp::Ordering;
 use std::test::Fail;

@@ -1,8 +1,10 @@
-use crate::{
+//! Statements, each shown as a text that has all its parts.
+
+use ncq_base::{Bytes, Limit, Op};
+use ncq_xmlql::{
     Content, Operand, Pattern, Query, QueryItem, Statement, StatementError, Suffix, Template,
     parse_statement,
 };
-use ncq_base::{Bytes, Limit, Op};
 use std::alloc::{AllocError, Global};
 use std::process::Abort;
 use std::test::Fail;

@@ -1,25 +1,12 @@
-use crate::{Item, Items, MAX_NESTING, PyxError, read_block, write_element, write_forest};
-use ncq_base::{Lines, bytes_of, is_line};
+//! Blocks of PYX lines, read and written.
+
+use super::{lines_of, push_line};
+use ncq_base::{Lines, bytes_of};
+use ncq_pyx::{Item, Items, MAX_NESTING, PyxError, read_block, write_element, write_forest};
 use ncq_tree::{Attribute, Attributes, Element, Forest, Node};
 use std::alloc::{AllocError, Global};
 use std::process::Abort;
 use std::test::Fail;
-
-/// The lines that are parted by slashes.
-fn lines_of(alloc: Global, text: &[u8]) -> Result<Lines, AllocError> {
-    let mut lines = Lines::new(alloc);
-    for line in text.split(|b| *b == b'/') {
-        push_line(&mut lines, line)?;
-    }
-    Ok(lines)
-}
-
-fn push_line(lines: &mut Lines, line: &[u8]) -> Result<(), AllocError> {
-    if !is_line(line) {
-        return Err(AllocError);
-    }
-    lines.push(line)
-}
 
 /// The canonical lines of each element, and `!` and the key of each removal.
 fn write_items(items: Items, out: &mut Vec<u8>) -> Result<(), AllocError> {

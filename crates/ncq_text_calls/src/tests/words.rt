@@ -1,4 +1,6 @@
-use crate::{Form, WordsError, read_words};
+//! Words of the command line, and the form that they fit.
+
+use ncq_words::{Form, WordsError, read_words};
 use std::alloc::Global;
 use std::process::Abort;
 

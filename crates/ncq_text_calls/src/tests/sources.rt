@@ -1,26 +1,19 @@
+//! Deltas of sources in turn, what their elements and entries are, and the keys of elements.
+
 ghost use Rattle.std.specs.Prelude.{◌<◌, ◌^◌, ◌-◌};
 ghost use Rattle.ncq_source.specs.StoreStates.{IsDeclared};
 
-use crate::{Change, ChangeError, DeclareError, Entry, Key, SourceId, Store, child_value, key_of};
-use ncq_base::{Bytes, Lines, Shared, bytes_of, is_line};
-use ncq_pyx::{Item, Items, Written, read_block, write_element};
+use super::items_of;
+use ncq_base::{Bytes, Shared, bytes_of};
+use ncq_pyx::{Item, Items, Written, write_element};
+use ncq_source::{
+    Change, ChangeError, DeclareError, Entry, Key, SourceId, Store, child_value, key_of,
+};
 use ncq_tree::{Attribute, Attributes, Element, Forest, Node, string_value};
 use std::alloc::{AllocError, Global};
 use std::hash::RandomState;
 use std::process::Abort;
 use std::test::Fail;
-
-/// The items that the lines, parted by slashes, spell.
-fn items_of(alloc: Global, text: &str) -> Result<Items, AllocError> {
-    let mut lines = Lines::new(alloc);
-    for line in text.split('/') {
-        if !is_line(line.as_bytes()) {
-            return Err(AllocError);
-        }
-        lines.push(line.as_bytes())?;
-    }
-    read_block(alloc, &lines).map_err(|_| AllocError)
-}
 
 /// The element that the item puts.
 fn put_by(item: Option<Item>) -> Result<Element, AllocError> {
@@ -354,7 +347,7 @@ fn sources_have_a_name_a_root_and_a_last_change(rt: HostRuntime) -> Result<(), F
 }
 
 /// The canonical lines of the elements of the source, written anew.
-fn lines_of(alloc: Global, store: &Store, name: &str) -> Result<Vec<u8>, AllocError> {
+fn new_lines_of(alloc: Global, store: &Store, name: &str) -> Result<Vec<u8>, AllocError> {
     let mut out = Vec::new(alloc);
     if let Some(id) = store.find(name.as_bytes()) {
         for at in 0..store.size(id) {
@@ -377,7 +370,7 @@ fn kept_lines_of(alloc: Global, store: &Store, name: &str) -> Result<Vec<u8>, Al
 
 /// Whether the elements of the source have these canonical lines, kept and written anew.
 fn has_lines(alloc: Global, store: &Store, name: &str, want: &str) -> Result<bool, AllocError> {
-    let lines = lines_of(alloc, store, name)?;
+    let lines = new_lines_of(alloc, store, name)?;
     let kept = kept_lines_of(alloc, store, name)?;
     Ok(lines.as_slice() == want.as_bytes() && kept.as_slice() == want.as_bytes())
 }

@@ -1,8 +1,10 @@
-use crate::{
+//! Sources and sinks, in memory and over std.
+
+use ncq_base::bytes_of;
+use ncq_outside::{
     Calls, Failed, Sink, Source, StdSink, StdSource, memory_sink, memory_source, plain_sink,
     plain_source,
 };
-use ncq_base::bytes_of;
 use std::alloc::{AllocError, Global};
 use std::io;
 use std::process::Abort;

@@ -3,9 +3,9 @@
 ghost use Rattle.std.specs.Prelude.{IfOk};
 ghost use Rattle.ncq_source.specs.StoreStates.{IsDeclared};
 
-use super::expect_bytes;
-use ncq_base::{Lines, bytes_of, is_line};
-use ncq_pyx::{Item, Items, read_block};
+use super::{expect_bytes, items_of};
+use ncq_base::bytes_of;
+use ncq_pyx::Item;
 use ncq_source::{Entry, Key, SourceId, Store};
 use ncq_tree::Element;
 use std::alloc::Global;
@@ -28,15 +28,7 @@ fn quotes(alloc: Global, seed: RandomState) -> Result<(Store, SourceId), Fail>
 }
 
 /// The put of the quote INTC.
-fn put_of_intc(rt: &impl Abort, alloc: Global) -> Result<Items, Fail> {
-    let block = ["(Quote", "(Symbol", "-INTC", ")Symbol", ")Quote"];
-    let mut lines = Lines::new(alloc);
-    for line in block {
-        assert!(rt; is_line(line.as_bytes()));
-        lines.push(line.as_bytes())?;
-    }
-    Ok(read_block(alloc, &lines)?)
-}
+const INTC: &str = "(Quote/(Symbol/-INTC/)Symbol/)Quote";
 
 #[test]
 fn a_declared_source_is_found(rt: HostRuntime) -> Result<(), Fail> {
@@ -64,7 +56,7 @@ fn expect_key(
 #[test]
 fn an_element_tells_its_key(rt: HostRuntime) -> Result<(), Fail> {
     let (store, id) = quotes(rt.alloc(), RandomState::new(&rt)?)?;
-    let items = put_of_intc(&rt, rt.alloc())?;
+    let items = items_of(rt.alloc(), INTC)?;
     assert!(rt; matches!(items.get(0), Some(Item::Put(_))));
     if let Some(Item::Put(element)) = items.get(0) {
         expect_key(&rt, rt.alloc(), &store, id, element)?;
@@ -84,7 +76,7 @@ fn expect_put(rt: &impl Abort, entries: &[Entry]) {
 #[test]
 fn a_store_takes_what_was_put(rt: HostRuntime) -> Result<(), Fail> {
     let (mut store, _) = quotes(rt.alloc(), RandomState::new(&rt)?)?;
-    let items = put_of_intc(&rt, rt.alloc())?;
+    let items = items_of(rt.alloc(), INTC)?;
     let change = store.prepare(rt.alloc(), b"quotes", items)?;
     expect_put(&rt, change.entries());
     store.reserve(&change)?;

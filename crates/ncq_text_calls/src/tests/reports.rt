@@ -1,6 +1,8 @@
-//! Texts worked out by hand, each behind a byte that was there before.
-use crate::{Summary, Tally, generate, write_report, write_tally};
+//! Reports, tallies and the commands of a load, worked out by hand, each behind a byte that was
+//! there before.
+
 use ncq_base::bytes_of;
+use ncq_report::{Summary, Tally, generate, write_report, write_tally};
 use ncq_signature::{GroupLine, GroupLines};
 use std::alloc::{AllocError, Global};
 use std::test::Fail;

@@ -1,5 +1,7 @@
-use crate::{Token, TokenError, tokens};
+//! The tokens of statements.
+
 use ncq_base::Op;
+use ncq_token::{Token, TokenError, tokens};
 use std::alloc::{AllocError, Global};
 use std::process::Abort;
 use std::test::Fail;

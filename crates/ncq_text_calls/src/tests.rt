@@ -1,0 +1,55 @@
+//! What the calls of several crates are given, and what they are compared by.
+
+use ncq_base::{Lines, is_line};
+use ncq_pyx::{Items, read_block};
+use std::alloc::{AllocError, Global};
+use std::process::Abort;
+
+mod atoms;
+mod blocks;
+mod instants;
+mod lists;
+mod outside;
+mod reports;
+mod sources;
+mod statements;
+mod stores;
+mod texts;
+mod tokens;
+mod trees;
+mod words;
+
+/// The texts, one behind the other.
+fn joined(alloc: Global, parts: &[&str]) -> Result<Vec<u8>, AllocError> {
+    let mut all = Vec::new(alloc);
+    for part in parts {
+        all.extend_from_slice(part.as_bytes())?;
+    }
+    Ok(all)
+}
+
+fn expect_bytes(rt: &impl Abort, got: &[u8], want: &[u8], why: &str) {
+    assert_eq!(rt; got, want, "{why}");
+}
+
+/// The lines that are parted by slashes.
+fn lines_of(alloc: Global, text: &[u8]) -> Result<Lines, AllocError> {
+    let mut lines = Lines::new(alloc);
+    for line in text.split(|b| *b == b'/') {
+        push_line(&mut lines, line)?;
+    }
+    Ok(lines)
+}
+
+fn push_line(lines: &mut Lines, line: &[u8]) -> Result<(), AllocError> {
+    if !is_line(line) {
+        return Err(AllocError);
+    }
+    lines.push(line)
+}
+
+/// The items that the lines, parted by slashes, spell.
+fn items_of(alloc: Global, text: &str) -> Result<Items, AllocError> {
+    let lines = lines_of(alloc, text.as_bytes())?;
+    read_block(alloc, &lines).map_err(|_| AllocError)
+}
