@@ -3,7 +3,7 @@
 ghost use Rattle.std.specs.Prelude.{◌≡◌, ◌<◌};
 
 use crate::session;
-use ncq_base::{Steps, bytes_of};
+use ncq_base::{Steps, bytes_of, write_decimal};
 use ncq_callback::Handlers;
 use ncq_engine::Engine;
 use ncq_outside::{Calls, Sink, Source, memory_sink, memory_source};
@@ -24,6 +24,7 @@ mod cuts;
 mod declarations;
 mod faults;
 mod forms;
+mod installs;
 mod joins;
 mod limits;
 mod lines;
@@ -31,6 +32,8 @@ mod many;
 mod notices;
 mod refused;
 mod reports;
+mod shared;
+mod sides;
 mod statements;
 mod times;
 mod values;
@@ -111,6 +114,40 @@ fn joined(alloc: Global, parts: &[&str]) -> Result<Vec<u8>, AllocError> {
         all.extend_from_slice(part.as_bytes())?;
     }
     Ok(all)
+}
+
+/// A text, a number, and a text.
+fn put(front: &str, number: u64, rest: &str, out: &mut Vec<u8>) -> Result<(), AllocError> {
+    out.extend_from_slice(front.as_bytes())?;
+    write_decimal(number, out)?;
+    out.extend_from_slice(rest.as_bytes())
+}
+
+/// A byte of what is told, as `push_notice` has it.
+fn push_told_byte(byte: u8, out: &mut Vec<u8>) -> Result<(), AllocError> {
+    match byte {
+        b'+' => out.extend_from_slice(b"gain "),
+        b'-' => out.extend_from_slice(b"lose "),
+        b'0'..=b'9' => {
+            out.push(byte)?;
+            out.extend_from_slice(b"\n(p\n-")
+        }
+        b';' => out.extend_from_slice(b"\n)p\n"),
+        _ => Ok(out.push(byte)?),
+    }
+}
+
+/// A notice with this first line, or nothing where nothing is told. Each difference is told by its
+/// sign, its count of one digit, and the text of an element `p`: `+1ab;` is the gain of one `ab`.
+fn push_notice(head: &[u8], told: &str, out: &mut Vec<u8>) -> Result<(), AllocError> {
+    if told.is_empty() {
+        return Ok(());
+    }
+    out.extend_from_slice(head)?;
+    for byte in told.as_bytes() {
+        push_told_byte(*byte, out)?;
+    }
+    out.extend_from_slice(b"end\n")
 }
 
 fn calls_of(alloc: Global, numbers: &[u64]) -> Result<Calls, AllocError> {

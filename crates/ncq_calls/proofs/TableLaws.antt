@@ -53,6 +53,10 @@ declared_alike store ready id alike within =
     let same : length ready.sources ≡ length store.sources = sym (length-map ready.sources without_room) ∙ ap length alike.sources ∙ length-map store.sources without_room in
     omega (arith, same, within)
 
+-- a table without files fits every store
+pub fits_at_first : (files : Files) (now : ℕ) (world : World) → files ≡ empty → Fits now world files
+fits_at_first files now world none other file at = absurd (nothing_there files none other file at)
+
 -- no file has a use yet
 pub uses_at_first : (files : Files) → files ≡ empty → (number : ℕ) (file : KeptFile) → get files number ≡ Some file → file.uses < 2 ^ 64 - 1
 uses_at_first files none number file at = absurd (nothing_there files none number file at)

@@ -7,8 +7,6 @@
 mod change;
 mod laws;
 mod probe;
-#[cfg(test)]
-mod tests;
 mod whole;
 
 pub use change::join_delta;

@@ -11,7 +11,5 @@ mod interval;
 mod numbers;
 mod scan;
 mod sides;
-#[cfg(test)]
-mod tests;
 
 pub use fill::first_rows;

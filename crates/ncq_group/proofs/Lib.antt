@@ -11,4 +11,3 @@ pub mod Installed
 pub mod FedFacts
 pub mod SameTable
 pub mod CompactLaws
-pub mod TestLaws

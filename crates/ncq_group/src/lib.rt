@@ -12,8 +12,6 @@ mod laws;
 mod mark;
 mod place;
 mod table;
-#[cfg(test)]
-mod tests;
 mod undo;
 
 pub use laws::files_are_the_live;

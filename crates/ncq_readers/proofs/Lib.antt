@@ -4,4 +4,3 @@ pub mod KeyLaws
 pub mod PassedLaws
 pub mod ReaderLaws
 pub mod TableLaws
-pub mod TestLaws

@@ -8,8 +8,6 @@ mod equals;
 mod laws;
 mod ranges;
 mod readers;
-#[cfg(test)]
-mod tests;
 
 pub use laws::selections_get_what_they_take;
 pub use readers::Readers;

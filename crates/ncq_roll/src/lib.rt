@@ -5,7 +5,5 @@
 #![tactic(auto)]
 
 mod roll;
-#[cfg(test)]
-mod tests;
 
 pub use roll::Roll;

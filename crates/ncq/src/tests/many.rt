@@ -1,8 +1,8 @@
 //! Sixty subscribers of five kinds over two sources: nothing is refused, and each gets in `alone`
 //! what the whole output tells it.
 
-use super::{calls_of, expect_bytes, run_program};
-use ncq_base::{bytes_of, write_decimal};
+use super::{calls_of, expect_bytes, put, run_program};
+use ncq_base::bytes_of;
 use ncq_outside::{Sink, memory_sink, memory_source};
 use ncq_run::Status;
 use std::alloc::{AllocError, Global};
@@ -11,13 +11,6 @@ use std::test::Fail;
 
 /// The room for what is written.
 const ROOM: usize = 8_000_000;
-
-/// A text, a number, and a text.
-fn put(front: &str, number: u64, rest: &str, out: &mut Vec<u8>) -> Result<(), AllocError> {
-    out.extend_from_slice(front.as_bytes())?;
-    write_decimal(number, out)?;
-    out.extend_from_slice(rest.as_bytes())
-}
 
 /// A company with one of four areas.
 fn put_company(number: u64, out: &mut Vec<u8>) -> Result<(), AllocError> {

@@ -1,8 +1,7 @@
 use Rattle.std.proofs.Common.{sym, subst, ◌∙◌, ◌≤◌, ◌-◌, ◌^◌, arith}
 use Rattle.ncq_plan.specs.WellFormed.{IsWellFormedExpr}
 use Rattle.ncq_plan.proofs.PlanFits.{plan_is_well_formed}
-use Rattle.ncq_group.proofs.TestLaws.{fits_at_first}
-use Rattle.ncq_calls.proofs.TableLaws.{stands_installed, uses_at_first}
+use Rattle.ncq_calls.proofs.TableLaws.{fits_at_first, stands_installed, uses_at_first}
 use Rattle.ncq_calls.proofs.tests.tables.table_of.Goals as goal
 
 pub install-requires-clause-formed : goal.install-requires-clause-formed
