@@ -204,18 +204,31 @@ fn push_answers(number: u64, row: &Row, out: &mut Vec<u8>) -> Result<(), AllocEr
     out.extend_from_slice(b"end\n")
 }
 
+/// The session of these rows, and what it writes.
+fn push_run(
+    alloc: Global,
+    rows: &[Row],
+    script: &mut Vec<u8>,
+    want: &mut Vec<u8>,
+) -> Result<(), AllocError> {
+    script.extend_from_slice(SOURCES.as_bytes())?;
+    want.extend_from_slice(b"1 ok\n2 ok\n")?;
+    let mut number = 3u64;
+    for row in rows {
+        push_turn(alloc, row.0, script)?;
+        push_answers(number, row, want)?;
+        number = number.saturating_add(2);
+    }
+    Ok(())
+}
+
 #[test]
 fn files_stand_while_a_query_needs_them(rt: HostRuntime) -> Result<(), Fail> {
     let alloc = rt.alloc();
     for rows in RUNS {
-        let mut script = joined(alloc, &[SOURCES])?;
-        let mut want = joined(alloc, &["1 ok\n2 ok\n"])?;
-        let mut number = 3u64;
-        for row in *rows {
-            push_turn(alloc, row.0, &mut script)?;
-            push_answers(number, row, &mut want)?;
-            number = number.saturating_add(2);
-        }
+        let mut script = Vec::new(alloc);
+        let mut want = Vec::new(alloc);
+        push_run(alloc, rows, &mut script, &mut want)?;
         let outside = Outside {
             room: 65536,
             ..in_pieces(64)
