@@ -1,4 +1,3 @@
 pub mod Agreement
 pub mod JoinLaws
 pub mod LeadLaws
-pub mod Narrow
