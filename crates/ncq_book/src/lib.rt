@@ -8,8 +8,6 @@ mod book;
 mod finders;
 mod member;
 mod names;
-#[cfg(test)]
-mod tests;
 mod watchers;
 
 pub use book::Book;
