@@ -1,7 +1,6 @@
-use Rattle.std.proofs.Common.{◌≡◌, ◌≤◌, ◌∷◌, [], length, sym, subst}
+use Rattle.std.proofs.Common.{◌≡◌, ◌≤◌, length, sym, subst}
 use Rattle.std.specs.List.{AllByRecursion}
 use Rattle.ncq_midfile.specs.Content.{IsSound}
-use Rattle.ncq_midfile.specs.Matching.{HaveSlots}
 use Rattle.ncq_midfile.specs.declared.signed.SignedRow.{SignedRow}
 use Rattle.ncq_midfile.proofs.Sounds.{all_front, sound_up_to}
 use Rattle.ncq_row_calls.proofs.HistoryLaws.{one_slot, one_up_to}
