@@ -9,8 +9,6 @@ mod finders;
 mod held;
 mod member;
 mod names;
-#[cfg(test)]
-mod tests;
 mod watchers;
 
 pub use book::Book;

@@ -8,8 +8,6 @@ mod building;
 mod laws;
 mod residual;
 mod streaming;
-#[cfg(test)]
-mod tests;
 mod writing;
 
 pub use building::build;

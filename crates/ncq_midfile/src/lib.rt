@@ -14,8 +14,6 @@ mod key;
 mod laws;
 mod matching;
 mod signed;
-#[cfg(test)]
-mod tests;
 
 pub use file::MidFile;
 pub use laws::contents_are_counted;

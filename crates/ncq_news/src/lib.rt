@@ -7,8 +7,6 @@
 
 mod firing;
 mod laws;
-#[cfg(test)]
-mod tests;
 
 pub use firing::news;
 pub use laws::news_tell_the_difference;

@@ -17,8 +17,6 @@ mod row;
 mod shape;
 mod slot;
 mod subject;
-#[cfg(test)]
-mod tests;
 mod value;
 
 pub use key::{RowKey, SlotAtom};

@@ -9,8 +9,6 @@ mod copy;
 mod group;
 mod laws;
 mod signature;
-#[cfg(test)]
-mod tests;
 mod text;
 
 pub use group::{GroupLine, GroupLines};

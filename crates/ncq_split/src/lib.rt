@@ -8,8 +8,6 @@ mod equal;
 mod laws;
 mod parcel;
 mod range;
-#[cfg(test)]
-mod tests;
 
 pub use equal::split_equal;
 pub use laws::files_get_what_they_select;
