@@ -22,13 +22,11 @@ use ncq_engine::Engine;
 use ncq_outside::{Sink, Source, StdSink, StdSource};
 use ncq_run::{Status, exit_code, run};
 use std::alloc::{AllocError, Global};
-use std::env::Env;
 use std::hash::RandomState;
 use std::io::ErrorKind;
 use std::marker::Brand;
 use std::mem::forget;
 use std::process::ExitCode;
-use std::random::RandomSource;
 use std::sync::ledger::{Blank, Ledger};
 use std::{env, io};
 
@@ -37,7 +35,7 @@ mod tests;
 
 /// The words after the program's name. Where one of them is not UTF-8, there is one word and it is
 /// empty.
-fn words_of<R: Env + AllocGlobal>(rt: &R) -> Result<Vec<String>, AllocError> {
+fn words_of(rt: &HostRuntime) -> Result<Vec<String>, AllocError> {
     let mut words = Vec::new(rt.alloc());
     match env::args(rt) {
         Ok(args) => {
@@ -49,6 +47,36 @@ fn words_of<R: Env + AllocGlobal>(rt: &R) -> Result<Vec<String>, AllocError> {
         Err(_) => words.push(String::new(rt.alloc()))?,
     }
     Ok(words)
+}
+
+/// What the action `print` does.
+fn print(argument: &[u8], notice: &Notice, out: &mut Vec<u8>) -> Result<(), AllocError>
+    ensures { Writes
+        (render Kind.Print argument.now
+        notice.now.name notice.now.instant notice.now.entries)
+        out.old.items out.new.items result }
+{
+    print_notice(argument, notice, out)
+}
+
+/// What the action `count` does.
+fn count(argument: &[u8], notice: &Notice, out: &mut Vec<u8>) -> Result<(), AllocError>
+    ensures { Writes
+        (render Kind.Count argument.now
+        notice.now.name notice.now.instant notice.now.entries)
+        out.old.items out.new.items result }
+{
+    count_notice(argument, notice, out)
+}
+
+/// What the action `mailto` does.
+fn mail(argument: &[u8], notice: &Notice, out: &mut Vec<u8>) -> Result<(), AllocError>
+    ensures { Writes
+        (render Kind.MailTo argument.now
+        notice.now.name notice.now.instant notice.now.entries)
+        out.old.items out.new.items result }
+{
+    mail_notice(argument, notice, out)
 }
 
 /// Adds a handler behind the others. Each name is added once, so memory alone can be wanting.
@@ -79,7 +107,7 @@ fn add_handler(
 /// `mailto`, whose steps are counted in a ledger of its own.
 /// It ends with `Usage` only where the words fit no form, and then with `Usage` or want of memory.
 fn session<I: Source, O: Sink, L: Ledger>(
-    alloc: Global,
+    rt: &HostRuntime,
     seed: RandomState,
     words: &[&str],
     input: &mut I,
@@ -95,39 +123,16 @@ where
     ensures no_form { IfOk result (λ status. IfNone (form_of (texts_of words.now))
         ((status ≡ Status.Usage) ⊎ (status ≡ Status.NoMemory))) }
 {
-    let print: Call = Box::new(
-        alloc,
-        |argument: &[u8], notice: &Notice, out: &mut Vec<u8>| -> Result<(), AllocError>
-            ensures { Writes
-                (render Kind.Print argument.now
-                notice.now.name notice.now.instant notice.now.entries)
-                out.old.items out.new.items result }
-        { print_notice(argument, notice, out) },
-    )?;
-    let count: Call = Box::new(
-        alloc,
-        |argument: &[u8], notice: &Notice, out: &mut Vec<u8>| -> Result<(), AllocError>
-            ensures { Writes
-                (render Kind.Count argument.now
-                notice.now.name notice.now.instant notice.now.entries)
-                out.old.items out.new.items result }
-        { count_notice(argument, notice, out) },
-    )?;
-    let mail: Call = Box::new(
-        alloc,
-        |argument: &[u8], notice: &Notice, out: &mut Vec<u8>| -> Result<(), AllocError>
-            ensures { Writes
-                (render Kind.MailTo argument.now
-                notice.now.name notice.now.instant notice.now.entries)
-                out.old.items out.new.items result }
-        { mail_notice(argument, notice, out) },
-    )?;
+    let alloc = rt.alloc();
     let mut handlers = Handlers::new(alloc);
-    add_handler(alloc, &mut handlers, b"print", Kind::Print, print)?;
-    add_handler(alloc, &mut handlers, b"count", Kind::Count, count)?;
-    add_handler(alloc, &mut handlers, b"mailto", Kind::MailTo, mail)?;
+    let call: Call = Box::new(alloc, print)?;
+    add_handler(alloc, &mut handlers, b"print", Kind::Print, call)?;
+    let call: Call = Box::new(alloc, count)?;
+    add_handler(alloc, &mut handlers, b"count", Kind::Count, call)?;
+    let call: Call = Box::new(alloc, mail)?;
+    add_handler(alloc, &mut handlers, b"mailto", Kind::MailTo, call)?;
     let mut engine = Engine::new(alloc, seed, &handlers)?;
-    let mut steps = Steps::<L>::new(blank);
+    let mut steps = Steps::<L>::new(rt, blank);
     let status = run(
         alloc,
         words,
@@ -143,23 +148,20 @@ where
 }
 
 /// What the words of the command line ask for, from standard input to standard output. Where the
-/// system gives no random bytes for the seed, that is a read fault, and nothing else is read or
-/// written.
-fn answer<R: Env + Input + Print + RandomSource + AllocGlobal>(
-    rt: &R,
-) -> Result<Status, AllocError> {
+/// system gives no random bytes for the seed, there is no means to begin, as without memory, and
+/// nothing is read or written.
+fn answer(rt: &HostRuntime) -> Result<Status, AllocError> {
     let Ok(seed) = RandomState::new(rt) else {
-        return Ok(Status::ReadFault);
+        return Ok(Status::NoMemory);
     };
-    let alloc = rt.alloc();
     let owned = words_of(rt)?;
-    let mut words = Vec::new(alloc);
+    let mut words = Vec::new(rt.alloc());
     for word in &owned {
         words.push(word.as_str())?;
     }
     let mut input = StdSource::new(rt.reader());
     let mut output = StdSink::new(io::writer(rt));
-    session::<_, _, Brand>(alloc, seed, &words, &mut input, &mut output, Blank::new(1))
+    session::<_, _, Brand>(rt, seed, &words, &mut input, &mut output, Blank::new(1))
 }
 
 /// The exit code of an answer: that of its status, and 5 where memory ran out before there was one.

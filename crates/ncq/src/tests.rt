@@ -1,4 +1,5 @@
-//! Whole sessions over memory: a script comes in, and the status and the written bytes are compared with values that were worked by hand.
+//! Whole sessions over memory: a script comes in, and the status and the written bytes are compared
+//! with values that were worked by hand.
 
 ghost use Rattle.std.specs.Prelude.{◌≡◌, ◌<◌};
 
@@ -43,7 +44,8 @@ const SOURCE: &str = "source quotes root Quotes key Symbol\n";
 
 /// Installs the query `w`: the quotes whose symbol is INTC.
 const WATCH: &str =
-    "create w WHERE <Quotes><Quote><Symbol>INTC</></> ELEMENT_AS $g</> IN \"quotes\" CONSTRUCT $g DO print\n.\n";
+    "create w WHERE <Quotes><Quote><Symbol>INTC</></> ELEMENT_AS $g</> IN \"quotes\" CONSTRUCT $g \
+     DO print\n.\n";
 
 /// Puts the quote INTC at 95.5, and the same quote at 96.
 const PUT_95: &str =
@@ -57,7 +59,8 @@ const TOLD_95: &str =
     "notice w 0\ngain 1\n(Quote\n(Symbol\n-INTC\n)Symbol\n(Price\n-95.5\n)Price\n)Quote\nend\n";
 
 const TOLD_96: &str =
-    "notice w 0\nlose 1\n(Quote\n(Symbol\n-INTC\n)Symbol\n(Price\n-95.5\n)Price\n)Quote\ngain 1\n(Quote\n(Symbol\n-INTC\n)Symbol\n(Price\n-96\n)Price\n)Quote\nend\n";
+    "notice w 0\nlose 1\n(Quote\n(Symbol\n-INTC\n)Symbol\n(Price\n-95.5\n)Price\n)Quote\ngain 1\n\
+     (Quote\n(Symbol\n-INTC\n)Symbol\n(Price\n-96\n)Price\n)Quote\nend\n";
 
 /// Deletes the quote INTC.
 const DELETE: &str = "delta quotes\n!INTC\n.\n";
@@ -72,7 +75,8 @@ type Case<'a> = (&'a str, &'a str);
 /// The parts of a script beside the parts of its whole output.
 type Parts<'a> = (&'a [&'a str], &'a [&'a str]);
 
-/// The numbers of the reads and writes that fail, the most bytes of a read, and the room for what is written.
+/// The numbers of the reads and writes that fail, the most bytes of a read, and the room for what
+/// is written.
 #[derive(Clone, Copy)]
 struct Outside<'a> {
     piece: usize,
@@ -160,7 +164,7 @@ fn calls_of(alloc: Global, numbers: &[u64]) -> Result<Calls, AllocError> {
 
 /// A run of a new engine over these handlers, whose steps are counted in this ledger.
 fn counted_run<I: Source, O: Sink, L: Ledger>(
-    alloc: Global,
+    host: &HostRuntime,
     words: &[&str],
     input: &mut I,
     output: &mut O,
@@ -172,7 +176,8 @@ where
     requires parts { blank.parts ≡ L.parts }
     requires some { 0 < L.parts }
 {
-    let mut steps = Steps::<L>::new(blank);
+    let alloc = host.alloc();
+    let mut steps = Steps::<L>::new(host, blank);
     let Ok(seed) = RandomState::new(&OneSeed) else {
         return Status::NoMemory;
     };
@@ -192,18 +197,18 @@ where
 
 /// A run over these handlers, with a counter of its own.
 fn run_on<I: Source, O: Sink>(
-    alloc: Global,
+    host: &HostRuntime,
     words: &[&str],
     input: &mut I,
     output: &mut O,
     handlers: &Handlers,
 ) -> Status {
-    counted_run::<_, _, Brand>(alloc, words, input, output, handlers, Blank::new(1))
+    counted_run::<_, _, Brand>(host, words, input, output, handlers, Blank::new(1))
 }
 
 /// A session of the program.
 fn run_program<I: Source, O: Sink>(
-    alloc: Global,
+    host: &HostRuntime,
     words: &[&str],
     input: &mut I,
     output: &mut O,
@@ -211,19 +216,24 @@ fn run_program<I: Source, O: Sink>(
     let Ok(seed) = RandomState::new(&OneSeed) else {
         return Status::NoMemory;
     };
-    session::<_, _, Brand>(alloc, seed, words, input, output, Blank::new(1)).unwrap_or(
+    session::<_, _, Brand>(host, seed, words, input, output, Blank::new(1)).unwrap_or(
         Status::NoMemory,
     )
 }
 
 /// The outcome of `ncq run` on this script.
-fn outcome_of(alloc: Global, script: &[u8], outside: Outside<'_>) -> Result<Outcome, AllocError> {
+fn outcome_of(
+    host: &HostRuntime,
+    script: &[u8],
+    outside: Outside<'_>,
+) -> Result<Outcome, AllocError> {
+    let alloc = host.alloc();
     let read_faults = calls_of(alloc, outside.read_faults)?;
     let write_faults = calls_of(alloc, outside.write_faults)?;
     let script = bytes_of(alloc, script)?;
     let mut input = memory_source(script, outside.piece.max(1), read_faults);
     let mut output = memory_sink(alloc, outside.room, write_faults)?;
-    let status = run_program(alloc, &["run"], &mut input, &mut output);
+    let status = run_program(host, &["run"], &mut input, &mut output);
     Ok(Outcome {
         status,
         written: Vec::from_slice(alloc, output.held())?,
@@ -237,14 +247,14 @@ fn expect_bytes(rt: &impl Abort, got: &[u8], want: &[u8], why: &str) {
 /// The session on this script ends so, with this written.
 fn expect_end(
     rt: &impl Abort,
-    alloc: Global,
+    host: &HostRuntime,
     script: &[u8],
     outside: Outside<'_>,
     status: Status,
     written: &[u8],
     why: &str,
 ) -> Result<(), Fail> {
-    let outcome = outcome_of(alloc, script, outside)?;
+    let outcome = outcome_of(host, script, outside)?;
     assert_eq!(rt; outcome.status, status, "{why}");
     expect_bytes(rt, &outcome.written, written, why);
     Ok(())
@@ -253,13 +263,13 @@ fn expect_end(
 /// The script is answered with this output, however it is cut into pieces.
 fn expect_output(
     rt: &impl Abort,
-    alloc: Global,
+    host: &HostRuntime,
     script: &[u8],
     want: &[u8],
     why: &str,
 ) -> Result<(), Fail> {
     for piece in [1, 7, 65536] {
-        expect_end(rt, alloc, script, in_pieces(piece), Status::Done, want, why)?;
+        expect_end(rt, host, script, in_pieces(piece), Status::Done, want, why)?;
     }
     Ok(())
 }
@@ -267,24 +277,26 @@ fn expect_output(
 /// Each script, behind the front, is answered with its output behind that of the front.
 fn expect_each(
     rt: &impl Abort,
-    alloc: Global,
+    host: &HostRuntime,
     front: Case<'_>,
     cases: &[Case<'_>],
 ) -> Result<(), Fail> {
+    let alloc = host.alloc();
     for (script, want) in cases {
         let all = joined(alloc, &[front.0, *script])?;
         let want = joined(alloc, &[front.1, *want])?;
-        expect_output(rt, alloc, &all, &want, script)?;
+        expect_output(rt, host, &all, &want, script)?;
     }
     Ok(())
 }
 
 /// Each script that is joined of its parts is answered with its parts of output.
-fn expect_parts(rt: &impl Abort, alloc: Global, cases: &[Parts<'_>]) -> Result<(), Fail> {
+fn expect_parts(rt: &impl Abort, host: &HostRuntime, cases: &[Parts<'_>]) -> Result<(), Fail> {
+    let alloc = host.alloc();
     for (script, want) in cases {
         let script = joined(alloc, script)?;
         let want = joined(alloc, want)?;
-        expect_output(rt, alloc, &script, &want, "")?;
+        expect_output(rt, host, &script, &want, "")?;
     }
     Ok(())
 }

@@ -5,6 +5,7 @@ ghost use Rattle.ncq_base.specs.AtomTexts.{atom_text, number_text, size_text, si
 ghost use Rattle.ncq_base.specs.AtomTexts.{fraction_text, fraction_digits, quoted_text};
 ghost use Rattle.ncq_base.specs.AtomTexts.{quoted_byte};
 ghost use Rattle.std.specs.List.{flat_map};
+ghost use Rattle.std.specs.Io.{StartsWith};
 
 use crate::atom::Atom;
 use crate::escape::write_escaped;
@@ -28,7 +29,7 @@ pub fn write_atom(atom: &Atom, out: &mut Vec<u8>) -> Result<(), AllocError>
 /// Appends the text of an atom; what was there stays in front.
 fn push_atom(atom: &Atom, out: &mut Vec<u8>) -> Result<(), AllocError>
     ensures ok { OnOk result (out.new.items ≡ out.old.items ++ atom_text atom.now) }
-    ensures front { take (length out.old.items) out.new.items ≡ out.old.items }
+    ensures front { StartsWith out.new.items out.old.items }
 {
     match atom {
         Atom::Num(n) => write_number(*n, out),
@@ -39,7 +40,7 @@ fn push_atom(atom: &Atom, out: &mut Vec<u8>) -> Result<(), AllocError>
 /// Appends a number that is given in millionths; what was there stays in front.
 pub fn write_number(n: i128, out: &mut Vec<u8>) -> Result<(), AllocError>
     ensures ok { OnOk result (out.new.items ≡ out.old.items ++ number_text n) }
-    ensures front { take (length out.old.items) out.new.items ≡ out.old.items }
+    ensures front { StartsWith out.new.items out.old.items }
 {
     push_sign(n, out)?;
     push_size(n.unsigned_abs(), out)
@@ -48,7 +49,7 @@ pub fn write_number(n: i128, out: &mut Vec<u8>) -> Result<(), AllocError>
 /// Appends a number without its sign; what was there stays in front.
 fn push_size(size: u128, out: &mut Vec<u8>) -> Result<(), AllocError>
     ensures ok { OnOk result (out.new.items ≡ out.old.items ++ size_text size) }
-    ensures front { take (length out.old.items) out.new.items ≡ out.old.items }
+    ensures front { StartsWith out.new.items out.old.items }
 {
     push_whole(size / 1_000_000, out)?;
     push_fraction(size % 1_000_000, out)
@@ -57,7 +58,7 @@ fn push_size(size: u128, out: &mut Vec<u8>) -> Result<(), AllocError>
 /// Appends `-` for a negative number; what was there stays in front.
 fn push_sign(n: i128, out: &mut Vec<u8>) -> Result<(), AllocError>
     ensures ok { OnOk result (out.new.items ≡ out.old.items ++ sign_text n) }
-    ensures front { take (length out.old.items) out.new.items ≡ out.old.items }
+    ensures front { StartsWith out.new.items out.old.items }
 {
     if n < 0 {
         out.push(b'-')?;
@@ -68,7 +69,7 @@ fn push_sign(n: i128, out: &mut Vec<u8>) -> Result<(), AllocError>
 /// Appends a whole number without leading zeros; what was there stays in front.
 fn push_whole(n: u128, out: &mut Vec<u8>) -> Result<(), AllocError>
     ensures ok { OnOk result (out.new.items ≡ out.old.items ++ decimal n) }
-    ensures front { take (length out.old.items) out.new.items ≡ out.old.items }
+    ensures front { StartsWith out.new.items out.old.items }
 {
     let mut buffer = Buffer::new();
     out.extend_from_slice(buffer.format(n).as_bytes())
@@ -79,7 +80,7 @@ fn push_whole(n: u128, out: &mut Vec<u8>) -> Result<(), AllocError>
 fn push_fraction(fraction: u128, out: &mut Vec<u8>) -> Result<(), AllocError>
     requires { fraction < 1000000 }
     ensures ok { OnOk result (out.new.items ≡ out.old.items ++ fraction_text fraction) }
-    ensures front { take (length out.old.items) out.new.items ≡ out.old.items }
+    ensures front { StartsWith out.new.items out.old.items }
 {
     if fraction == 0 {
         return Ok(());
@@ -94,7 +95,7 @@ fn push_fraction(fraction: u128, out: &mut Vec<u8>) -> Result<(), AllocError>
 fn push_digits(most: usize, fraction: u128, out: &mut Vec<u8>) -> Result<(), AllocError>
     requires { fraction < 1000000 }
     ensures ok { OnOk result (out.new.items ≡ out.old.items ++ fraction_digits most fraction) }
-    ensures front { take (length out.old.items) out.new.items ≡ out.old.items }
+    ensures front { StartsWith out.new.items out.old.items }
 {
     if most == 0 {
         return Ok(());
@@ -118,7 +119,7 @@ fn first_digit(fraction: u128) -> u8
 /// Appends a text in quotation marks, with its escapes; what was there stays in front.
 fn push_quoted(text: &[u8], out: &mut Vec<u8>) -> Result<(), AllocError>
     ensures ok { OnOk result (out.new.items ≡ out.old.items ++ quoted_text text.now) }
-    ensures front { take (length out.old.items) out.new.items ≡ out.old.items }
+    ensures front { StartsWith out.new.items out.old.items }
 {
     out.push(b'"')?;
     push_quoted_bytes(text, out)?;
@@ -129,7 +130,7 @@ fn push_quoted(text: &[u8], out: &mut Vec<u8>) -> Result<(), AllocError>
 /// Appends each byte of a text with its escape; what was there stays in front.
 fn push_quoted_bytes(text: &[u8], out: &mut Vec<u8>) -> Result<(), AllocError>
     ensures ok { OnOk result (out.new.items ≡ out.old.items ++ flat_map quoted_byte text.now) }
-    ensures front { take (length out.old.items) out.new.items ≡ out.old.items }
+    ensures front { StartsWith out.new.items out.old.items }
 {
     for byte in text {
         push_quoted_byte(*byte, out)?;
@@ -139,7 +140,7 @@ fn push_quoted_bytes(text: &[u8], out: &mut Vec<u8>) -> Result<(), AllocError>
 
 fn push_quoted_byte(byte: u8, out: &mut Vec<u8>) -> Result<(), AllocError>
     ensures ok { OnOk result (out.new.items ≡ out.old.items ++ quoted_byte byte) }
-    ensures front { take (length out.old.items) out.new.items ≡ out.old.items }
+    ensures front { StartsWith out.new.items out.old.items }
 {
     match byte {
         b'"' => out.extend_from_slice(b"\\\""),

@@ -4,6 +4,7 @@ ghost use Rattle.std.specs.Prelude.{vec_len};
 ghost use Rattle.ncq_base.specs.Escapes.{meant, unescaped, escaped, escaped_byte, is_literal};
 ghost use Rattle.ncq_base.specs.Escapes.{is_plain};
 ghost use Rattle.std.specs.List.{list_all};
+ghost use Rattle.std.specs.Io.{StartsWith};
 
 use crate::bytes::{Bytes, bytes_of};
 use std::alloc::{AllocError, Global};
@@ -90,7 +91,7 @@ fn is_plain(byte: u8) -> bool
 #[tactic(auto, using(crate::proofs::EscapeLaws::plain_escaped))]
 fn push_escaped_all(text: &[u8], out: &mut Vec<u8>) -> Result<(), AllocError>
     ensures ok { OnOk result (out.new.items ≡ out.old.items ++ escaped text.now) }
-    ensures front { take (length out.old.items) out.new.items ≡ out.old.items }
+    ensures front { StartsWith out.new.items out.old.items }
 {
     if are_plain(text) {
         return out.extend_from_slice(text);

@@ -6,7 +6,7 @@ use Rattle.ncq_pyx.specs.Canonical.{is_proper}
 use Rattle.ncq_row.specs.Embeddings.{Rows}
 use Rattle.ncq_plan.specs.declared.query.NormalQuery.{NormalQuery}
 use Rattle.ncq_plan.specs.declared.template.SlotTemplate.{SlotTemplate}
-use Rattle.ncq_plan.specs.Exprs.{rows_in}
+use Rattle.ncq_plan.specs.Exprs.{World, rows_in}
 use Rattle.ncq_plan.specs.Plans.{plan_of}
 use Rattle.ncq_plan.specs.Residuals.{passes}
 use Rattle.ncq_plan.specs.Templates.{constructed}
@@ -17,7 +17,7 @@ use Rattle.ncq_construct.proofs.RowsProper.{expr_rows_are_proper, rows_filter}
 use Rattle.ncq_xmlql.specs.declared.model.Statement.{Statement}
 use Rattle.ncq_xmlql.specs.WellFormed.{IsWellFormed}
 use Rattle.ncq_bind.specs.Answers.{arms_of, places_of, answer}
-use Rattle.ncq_bind.specs.Bound.{item_is_bound, template_is_bound}
+use Rattle.ncq_bind.specs.Bound.{item_is_bound, query_is_bound, template_is_bound}
 use Rattle.ncq_bind.specs.Constraints.{first_slot}
 use Rattle.ncq_bind.specs.NormalQueries.{normal_query}
 use Rattle.ncq_bind.specs.Laws.{PlanLaw, ProperLaw}
@@ -27,14 +27,19 @@ use Rattle.ncq_bind.proofs.BindLaws.{statement_formed}
 use Rattle.ncq_bind.proofs.JoiningLaws.{forests_are}
 use Rattle.ncq_bind.proofs.NameLaws.{template_named}
 
-pub plan_answers : PlanLaw
-plan_answers statement roots normal whole gives world =
+-- the plan of a query that is bound gives its answer, whatever sources there are
+pub bound_answers : (statement : Statement) (normal : NormalQuery) → IsWellFormed statement → query_is_bound statement.query ≡ true → normal ≡ normal_query statement.query
+    → (world : World) → map (constructed normal.template) (filter (passes normal.residual) (rows_in (plan_of normal) world)) ≡ answer statement.query world
+bound_answers statement normal whole bound is world =
     let query = statement.query in
-    let bound = both_true (list_all (item_is_bound (places_of (arms_of query.items))) query.items) (template_is_bound (places_of (arms_of query.items)) query.template) gives.bound in
-    subst (λ (n : NormalQuery). map (constructed n.template) (filter (passes n.residual) (rows_in (plan_of n) world)) ≡ answer query world) (sym gives.answer)
+    let both = both_true (list_all (item_is_bound (places_of (arms_of query.items))) query.items) (template_is_bound (places_of (arms_of query.items)) query.template) bound in
+    subst (λ (n : NormalQuery). map (constructed n.template) (filter (passes n.residual) (rows_in (plan_of n) world)) ≡ answer query world) (sym is)
     (ap (map (constructed (normal_query query).template))
-    (plan_gives_the_rows (normal_query query) world (statement_formed statement (normal_query query) whole gives.bound refl))
-    ∙ forests_are query whole.items bound.0 arm_law world)
+    (plan_gives_the_rows (normal_query query) world (statement_formed statement (normal_query query) whole bound refl))
+    ∙ forests_are query whole.items both.0 arm_law world)
+
+pub plan_answers : PlanLaw
+plan_answers statement roots normal whole gives world = bound_answers statement normal whole gives.bound gives.answer world
 
 pub statement_named : (statement : Statement) (n : NormalQuery) → IsWellFormed statement → n ≡ normal_query statement.query → template_is_named n.template ≡ true
 statement_named statement n whole is =

@@ -1,4 +1,4 @@
--- What a book keeps, with one member more, with one less, and with one changed.
+-- What a book keeps, with one subscription more, with one less, and with one changed.
 use Rattle.std.proofs.Common.{◌≡◌, ℕ, ◌<◌, ◌&&◌, ◌||◌, not, false, List, [], ◌∷◌, ◌++◌, map, refl, sym, ◌∙◌, ap, cond, subst}
 use Rattle.std.specs.Prelude.{Some, None, nat_eq}
 use Rattle.std.specs.List.{filter, find, list_any, AllByRecursion}
@@ -9,21 +9,21 @@ use Rattle.std.specs.Ordering.{nat_cmp}
 use Rattle.std.specs.Str.{bytes_eq}
 use Rattle.std.proofs.lemmas.Bool.{eqb-true}
 use Rattle.ncq_book.specs.declared.finders.Finders.{Finders}
-use Rattle.ncq_book.specs.declared.member.Member.{Member}
+use Rattle.ncq_book.specs.declared.subscription.Subscription.{Subscription}
 use Rattle.ncq_book.specs.Books.{is_named, is_of, timing_of, watches, watchers_of}
 use Rattle.ncq_book.specs.Watches.{is_watch, is_watched}
-use Rattle.ncq_book.specs.Kept.{Placed, members_in, placed_of, is_watch_of, IsEnrolled, IsStruck, FindsAlike, IsKept}
+use Rattle.ncq_book.specs.Kept.{Placed, subscriptions_in, placed_of, is_watch_of, IsEnrolled, IsStruck, FindsAlike, IsKept}
 use Rattle.ncq_book.proofs.Lists.{found_passes, same_rising, any_agree}
-use Rattle.ncq_book.proofs.MemberLaws.{members_back, pairs_pushed, remove_pair, insert_pair, get_is, others_pushed, found_pushed, rise_more, differ_more, named_more, watched_more, rise_less, differ_less, named_less, watched_less, nobody_found, keys_below, members_rise, member_at}
+use Rattle.ncq_book.proofs.SubscriptionLaws.{subscriptions_back, pairs_pushed, remove_pair, insert_pair, get_is, others_pushed, found_pushed, rise_more, differ_more, named_more, watched_more, rise_less, differ_less, named_less, watched_less, nobody_found, keys_below, subscriptions_rise, subscription_at}
 
--- members that stand under their numbers are those of the list
-pub shown : (placed : List Placed) (ms : List Member) → placed ≡ map placed_of ms → members_in placed ≡ ms
-shown placed ms e = ap members_in e ∙ members_back ms
+-- subscriptions that stand under their numbers are those of the list
+pub shown : (placed : List Placed) (ms : List Subscription) → placed ≡ map placed_of ms → subscriptions_in placed ≡ ms
+shown placed ms e = ap subscriptions_in e ∙ subscriptions_back ms
 
-pub kept_at : (placed : List Placed) (finders : Finders) (ms : List Member) → IsKept ms placed finders → IsKept (members_in placed) placed finders
+pub kept_at : (placed : List Placed) (finders : Finders) (ms : List Subscription) → IsKept ms placed finders → IsKept (subscriptions_in placed) placed finders
 kept_at placed finders ms kept = subst (λ xs. IsKept xs placed finders) (sym (shown placed ms kept.numbered)) kept
 
-pub kept_alike : (placed : List Placed) (ms : List Member) (old new : Finders) → IsKept ms placed old → FindsAlike old new → IsKept ms placed new
+pub kept_alike : (placed : List Placed) (ms : List Subscription) (old new : Finders) → IsKept ms placed old → FindsAlike old new → IsKept ms placed new
 kept_alike placed ms old new kept alike = record {
   numbered = kept.numbered;
   rise = kept.rise;
@@ -33,7 +33,7 @@ kept_alike placed ms old new kept alike = record {
   watched = λ w. ap (list_any (is_watch w)) alike.watchers ∙ kept.watched w;
 }
 
-module _ (placed : List Placed) (ms : List Member) (old new : Finders) (kept : IsKept ms placed old) (m : Member) where
+module _ (placed : List Placed) (ms : List Subscription) (old new : Finders) (kept : IsKept ms placed old) (m : Subscription) where
   pub kept_more : (after : List Placed) → AllByRecursion (λ n. n.install < m.install) ms → list_any (is_named m.name) ms ≡ false → IsEnrolled m old new → after ≡ map placed_of (ms ++ m ∷ [])
       → IsKept (ms ++ m ∷ []) after new
   kept_more after above free more numbered = record {
@@ -58,46 +58,46 @@ module _ (placed : List Placed) (ms : List Member) (old new : Finders) (kept : I
         watched = λ w. less.watchers w ∙ ap (λ b. b && not (is_watch_of w m)) (kept.watched w) ∙ watched_less i ms m w kept.rise found;
       }
 
--- the member of a number is taken
-module _ (placed after : List Placed) (old : Finders) (kept : IsKept (members_in placed) placed old) (i : ℕ) (less : after ≡ remove_entry (is_at (nat_cmp i)) placed) where
-  abbrev rest : List Member
-  rest = filter (λ n. not (is_of i n)) (members_in placed)
+-- the subscription of a number is taken
+module _ (placed after : List Placed) (old : Finders) (kept : IsKept (subscriptions_in placed) placed old) (i : ℕ) (less : after ≡ remove_entry (is_at (nat_cmp i)) placed) where
+  abbrev rest : List Subscription
+  rest = filter (λ n. not (is_of i n)) (subscriptions_in placed)
 
   taken_numbered : after ≡ map placed_of rest
-  taken_numbered = less ∙ ap (remove_entry (is_at (nat_cmp i))) kept.numbered ∙ remove_pair (λ n. n) i (members_in placed) kept.rise
+  taken_numbered = less ∙ ap (remove_entry (is_at (nat_cmp i))) kept.numbered ∙ remove_pair (λ n. n) i (subscriptions_in placed) kept.rise
 
-  pub taken_shown : members_in after ≡ filter (λ n. not (is_of i n)) (members_in placed)
+  pub taken_shown : subscriptions_in after ≡ filter (λ n. not (is_of i n)) (subscriptions_in placed)
   taken_shown = shown after rest taken_numbered
 
-  pub taken : (new : Finders) (m : Member) → lookup (is_at (nat_cmp i)) placed ≡ Some m → IsStruck m old new → IsKept (members_in after) after new
+  pub taken : (new : Finders) (m : Subscription) → lookup (is_at (nat_cmp i)) placed ≡ Some m → IsStruck m old new → IsKept (subscriptions_in after) after new
   taken new m found struck =
-      kept_at after new rest (kept_less placed (members_in placed) old new kept m i after (sym (get_is placed (members_in placed) i kept.numbered) ∙ found) struck taken_numbered)
+      kept_at after new rest (kept_less placed (subscriptions_in placed) old new kept m i after (sym (get_is placed (subscriptions_in placed) i kept.numbered) ∙ found) struck taken_numbered)
 
 -- one more is put in, and taken out again
-module _ (placed : List Placed) (old mid : Finders) (kept : IsKept (members_in placed) placed old) (m : Member) (above : AllByRecursion (λ n. n.install < m.install) (members_in placed)) (free : list_any (is_named m.name) (members_in placed) ≡ false) (enrolled : IsEnrolled m old mid) where
-  abbrev joined : List Member
-  joined = members_in placed ++ m ∷ []
+module _ (placed : List Placed) (old mid : Finders) (kept : IsKept (subscriptions_in placed) placed old) (m : Subscription) (above : AllByRecursion (λ n. n.install < m.install) (subscriptions_in placed)) (free : list_any (is_named m.name) (subscriptions_in placed) ≡ false) (enrolled : IsEnrolled m old mid) where
+  abbrev joined : List Subscription
+  joined = subscriptions_in placed ++ m ∷ []
 
   module _ (after : List Placed) (more : after ≡ insert_entry nat_cmp placed m.install m) where
     put_numbered : after ≡ map placed_of joined
-    put_numbered = more ∙ ap (λ es. insert_entry nat_cmp es m.install m) kept.numbered ∙ insert_pair (λ n. n) (members_in placed) m above
+    put_numbered = more ∙ ap (λ es. insert_entry nat_cmp es m.install m) kept.numbered ∙ insert_pair (λ n. n) (subscriptions_in placed) m above
 
-    pub put_shown : members_in after ≡ members_in placed ++ m ∷ []
+    pub put_shown : subscriptions_in after ≡ subscriptions_in placed ++ m ∷ []
     put_shown = shown after joined put_numbered
 
-    pub put : IsKept (members_in after) after mid
-    put = kept_at after mid joined (kept_more placed (members_in placed) old mid kept m after above free enrolled put_numbered)
+    pub put : IsKept (subscriptions_in after) after mid
+    put = kept_at after mid joined (kept_more placed (subscriptions_in placed) old mid kept m after above free enrolled put_numbered)
 
-  pub put_back : (after : List Placed) (new : Finders) → IsStruck m mid new → after ≡ placed → IsKept (members_in after) after new
+  pub put_back : (after : List Placed) (new : Finders) → IsStruck m mid new → after ≡ placed → IsKept (subscriptions_in after) after new
   put_back after new struck same =
-      let one = kept_more placed (members_in placed) old mid kept m (map placed_of joined) above free enrolled refl in
-      let gone = others_pushed (members_in placed) m above in
+      let one = kept_more placed (subscriptions_in placed) old mid kept m (map placed_of joined) above free enrolled refl in
+      let gone = others_pushed (subscriptions_in placed) m above in
       let here = same ∙ kept.numbered in
-      kept_at after new (members_in placed)
-      (subst (λ ms. IsKept ms after new) gone (kept_less (map placed_of joined) joined mid new one m m.install after (found_pushed (members_in placed) m above) struck (here ∙ ap (map placed_of) (sym gone))))
+      kept_at after new (subscriptions_in placed)
+      (subst (λ ms. IsKept ms after new) gone (kept_less (map placed_of joined) joined mid new one m m.install after (found_pushed (subscriptions_in placed) m above) struck (here ∙ ap (map placed_of) (sym gone))))
 
 -- before one more is found: it is above all, and its name is free
-module _ (placed : List Placed) (ms : List Member) (finders : Finders) (kept : IsKept ms placed finders) where
+module _ (placed : List Placed) (ms : List Subscription) (finders : Finders) (kept : IsKept ms placed finders) where
   pub above_all : (i : ℕ) → AllByRecursion (λ n. n.install < i) ms → AllByRecursion (λ e. e.0 < i) finders.calendar.entries
   above_all i above = subst (AllByRecursion (λ e. e.0 < i)) (sym kept.timed) (keys_below (λ n. n.timing) i ms above)
 
@@ -107,8 +107,8 @@ module _ (placed : List Placed) (ms : List Member) (finders : Finders) (kept : I
   -- those that watch some files
   pub watchers_are : (files installs : List ℕ) → IsStrictlySortedBy nat_cmp installs → ((n : ℕ) → list_any (nat_eq n) installs ≡ is_watched finders.watchers files n) → installs ≡ watchers_of files ms
   watchers_are files installs rising are =
-      same_rising installs (watchers_of files ms) rising (members_rise (watches files) ms kept.rise)
+      same_rising installs (watchers_of files ms) rising (subscriptions_rise (watches files) ms kept.rise)
       (λ n. are n
       ∙ any_agree (λ f. list_any (is_watch (record { file = f; install = n })) finders.watchers) (λ f. list_any (is_watch_of (record { file = f; install = n })) ms)
       (λ f. kept.watched (record { file = f; install = n })) files
-      ∙ sym (member_at files n ms))
+      ∙ sym (subscription_at files n ms))

@@ -1,6 +1,6 @@
 pub mod FinderLaws
 pub mod KeptLaws
 pub mod Lists
-pub mod MemberLaws
+pub mod SubscriptionLaws
 pub mod NoteLaws
 pub mod WatchLaws

@@ -1,4 +1,4 @@
--- Members of whom one is noted to have fired: they are found as before.
+-- Subscriptions of whom one is noted to have fired: they are found as before.
 use Rattle.std.proofs.Common.{◌≡◌, ℕ, ◌<◌, ◌==◌, ◌&&◌, ◌||◌, true, false, List, [], ◌∷◌, map, refl, sym, ◌∙◌, ap, cond, subst}
 use Rattle.std.specs.Prelude.{Some, None}
 use Rattle.std.specs.List.{find, list_any, AllByRecursion}
@@ -8,34 +8,34 @@ use Rattle.std.specs.BTreeMap.{is_at}
 use Rattle.std.specs.Ordering.{nat_cmp}
 use Rattle.std.specs.Str.{bytes_eq}
 use Rattle.ncq_book.specs.declared.finders.Finders.{Finders}
-use Rattle.ncq_book.specs.declared.member.Member.{Member}
+use Rattle.ncq_book.specs.declared.subscription.Subscription.{Subscription}
 use Rattle.ncq_book.specs.declared.watchers.Watch.{Watch}
 use Rattle.ncq_book.specs.Books.{is_named, is_of, timing_of, with_note, InstallsRise, NamesDiffer}
-use Rattle.ncq_book.specs.Kept.{Placed, members_in, placed_of, install_of, is_watch_of, IsKept}
+use Rattle.ncq_book.specs.Kept.{Placed, subscriptions_in, placed_of, install_of, is_watch_of, IsKept}
 use Rattle.ncq_book.proofs.Lists.{number_at}
-use Rattle.ncq_book.proofs.MemberLaws.{NoneOf, none_above, get_is}
+use Rattle.ncq_book.proofs.SubscriptionLaws.{NoneOf, none_above, get_is}
 use Rattle.ncq_book.proofs.KeptLaws.{shown, kept_at}
 use Rattle.std.proofs.Common.{arith}
 
--- members that a map gives another note at most
-module _ (g : Member → Member) (names : (m : Member) → (g m).name ≡ m.name) (installs : (m : Member) → (g m).install ≡ m.install) (timings : (m : Member) → (g m).timing ≡ m.timing) (files : (m : Member) → (g m).file ≡ m.file) where
-  above_mapped : (m : Member) (ms : List Member) → AllByRecursion (λ n. m.install < n.install) ms → AllByRecursion (λ n. (g m).install < n.install) (map g ms)
+-- subscriptions that a map gives another note at most
+module _ (g : Subscription → Subscription) (names : (m : Subscription) → (g m).name ≡ m.name) (installs : (m : Subscription) → (g m).install ≡ m.install) (timings : (m : Subscription) → (g m).timing ≡ m.timing) (files : (m : Subscription) → (g m).file ≡ m.file) where
+  above_mapped : (m : Subscription) (ms : List Subscription) → AllByRecursion (λ n. m.install < n.install) ms → AllByRecursion (λ n. (g m).install < n.install) (map g ms)
   above_mapped m [] above = tt
   above_mapped m (n ∷ ms) above = (subst (λ k. k < (g n).install) (sym (installs m)) (subst (λ k. m.install < k) (sym (installs n)) above.0), above_mapped m ms above.1)
 
-  rise_mapped : (ms : List Member) → InstallsRise ms → InstallsRise (map g ms)
+  rise_mapped : (ms : List Subscription) → InstallsRise ms → InstallsRise (map g ms)
   rise_mapped [] rise = tt
   rise_mapped (m ∷ ms) rise = (above_mapped m ms rise.0, rise_mapped ms rise.1)
 
-  others_mapped : (m : Member) (ms : List Member) → AllByRecursion (λ n. is_named m.name n ≡ false) ms → AllByRecursion (λ n. is_named (g m).name n ≡ false) (map g ms)
+  others_mapped : (m : Subscription) (ms : List Subscription) → AllByRecursion (λ n. is_named m.name n ≡ false) ms → AllByRecursion (λ n. is_named (g m).name n ≡ false) (map g ms)
   others_mapped m [] others = tt
   others_mapped m (n ∷ ms) others = ((λ i. bytes_eq (names m i) (names n i)) ∙ others.0, others_mapped m ms others.1)
 
-  differ_mapped : (ms : List Member) → NamesDiffer ms → NamesDiffer (map g ms)
+  differ_mapped : (ms : List Subscription) → NamesDiffer ms → NamesDiffer (map g ms)
   differ_mapped [] differ = tt
   differ_mapped (m ∷ ms) differ = (others_mapped m ms differ.0, differ_mapped ms differ.1)
 
-  named_mapped : (name : List ℕ) (ms : List Member) → install_of name ms ≡ install_of name (map g ms)
+  named_mapped : (name : List ℕ) (ms : List Subscription) → install_of name ms ≡ install_of name (map g ms)
   named_mapped name [] = refl
   named_mapped name (m ∷ ms) =
       elim (is_named name m) as (λ t. option_map (λ n. n.install) (cond t (Some m) (find (is_named name) ms)) ≡ option_map (λ n. n.install) (cond t (Some (g m)) (find (is_named name) (map g ms)))) [
@@ -44,15 +44,15 @@ module _ (g : Member → Member) (names : (m : Member) → (g m).name ≡ m.name
       ]
       ∙ (λ i. option_map (λ n. n.install) (cond (bytes_eq name (sym (names m) i)) (Some (g m)) (find (is_named name) (map g ms))))
 
-  timed_mapped : (ms : List Member) → map timing_of ms ≡ map timing_of (map g ms)
+  timed_mapped : (ms : List Subscription) → map timing_of ms ≡ map timing_of (map g ms)
   timed_mapped [] = refl
   timed_mapped (m ∷ ms) = λ i. (sym (installs m) i, sym (timings m) i) ∷ timed_mapped ms i
 
-  watched_mapped : (w : Watch) (ms : List Member) → list_any (is_watch_of w) ms ≡ list_any (is_watch_of w) (map g ms)
+  watched_mapped : (w : Watch) (ms : List Subscription) → list_any (is_watch_of w) ms ≡ list_any (is_watch_of w) (map g ms)
   watched_mapped w [] = refl
   watched_mapped w (m ∷ ms) = λ i. ((sym (timings m) i).every == 0 && (w.file == (sym (files m) i).0 && w.install == sym (installs m) i)) || watched_mapped w ms i
 
-  pub kept_mapped : (placed after : List Placed) (ms : List Member) (finders : Finders) → IsKept ms placed finders → after ≡ map placed_of (map g ms) → IsKept (map g ms) after finders
+  pub kept_mapped : (placed after : List Placed) (ms : List Subscription) (finders : Finders) → IsKept ms placed finders → after ≡ map placed_of (map g ms) → IsKept (map g ms) after finders
   kept_mapped placed after ms finders kept numbered = record {
     numbered = numbered;
     rise = rise_mapped ms kept.rise;
@@ -62,25 +62,25 @@ module _ (g : Member → Member) (names : (m : Member) → (g m).name ≡ m.name
     watched = λ w. kept.watched w ∙ watched_mapped w ms;
   }
 
--- a number is noted for the member of an install number
+-- a number is noted for the subscription of an install number
 module _ (i number : ℕ) where
-  -- the member with the number noted
-  abbrev fired : Member → Member
+  -- the subscription with the number noted
+  abbrev fired : Subscription → Subscription
   fired m = record m { noted = Some number }
 
-  -- and that only where it is the member of the install number
-  abbrev changed : Member → Member
+  -- and that only where it is the subscription of the install number
+  abbrev changed : Subscription → Subscription
   changed = with_note i number
 
   -- a field that noting leaves
-  left : {X : Type 0} (field : Member → X) → ((m : Member) → field (fired m) ≡ field m) → (m : Member) → field (changed m) ≡ field m
+  left : {X : Type 0} (field : Subscription → X) → ((m : Subscription) → field (fired m) ≡ field m) → (m : Subscription) → field (changed m) ≡ field m
   left field same m = elim (is_of i m) as (λ t. field (cond t (fired m) m) ≡ field m) [ true ↦ same m | false ↦ refl ]
 
-  noted_none : (ms : List Member) → NoneOf i ms → map changed ms ≡ ms
+  noted_none : (ms : List Subscription) → NoneOf i ms → map changed ms ≡ ms
   noted_none [] none = refl
   noted_none (m ∷ ms) none = λ j. cond (none.0 j) (fired m) m ∷ noted_none ms none.1 j
 
-  nobody_of : (ms : List Member) → find (is_of i) ms ≡ None → NoneOf i ms
+  nobody_of : (ms : List Subscription) → find (is_of i) ms ≡ None → NoneOf i ms
   nobody_of [] none = tt
   nobody_of (m ∷ ms) none =
       elim (is_of i m) as (λ t. is_of i m ≡ t → cond t (Some m) (find (is_of i) ms) ≡ None → NoneOf i (m ∷ ms)) [
@@ -88,7 +88,7 @@ module _ (i number : ℕ) where
         | false ↦ λ h q. (h, nobody_of ms q)
       ] refl none
 
-  noted_pairs : (ms : List Member) (m : Member) → InstallsRise ms → find (is_of i) ms ≡ Some m → set_value (is_at (nat_cmp i)) (map placed_of ms) (fired m) ≡ map placed_of (map changed ms)
+  noted_pairs : (ms : List Subscription) (m : Subscription) → InstallsRise ms → find (is_of i) ms ≡ Some m → set_value (is_at (nat_cmp i)) (map placed_of ms) (fired m) ≡ map placed_of (map changed ms)
   noted_pairs [] m rise found = cc
   noted_pairs (n ∷ ms) m rise found =
       (λ j. cond (number_at i n.install j) ((n.install, fired m) ∷ map placed_of ms) (placed_of n ∷ set_value (is_at (nat_cmp i)) (map placed_of ms) (fired m)))
@@ -100,21 +100,21 @@ module _ (i number : ℕ) where
         | false ↦ λ h q. ap (λ r. placed_of n ∷ r) (noted_pairs ms m rise.1 q)
       ] refl found
 
-  module _ (placed : List Placed) (finders : Finders) (kept : IsKept (members_in placed) placed finders) where
-    module _ (after : List Placed) (m : Member) (found : lookup (is_at (nat_cmp i)) placed ≡ Some m) (written : after ≡ set_value (is_at (nat_cmp i)) placed (fired m)) where
-      noted_numbered : after ≡ map placed_of (map changed (members_in placed))
+  module _ (placed : List Placed) (finders : Finders) (kept : IsKept (subscriptions_in placed) placed finders) where
+    module _ (after : List Placed) (m : Subscription) (found : lookup (is_at (nat_cmp i)) placed ≡ Some m) (written : after ≡ set_value (is_at (nat_cmp i)) placed (fired m)) where
+      noted_numbered : after ≡ map placed_of (map changed (subscriptions_in placed))
       noted_numbered =
           written ∙ ap (λ es. set_value (is_at (nat_cmp i)) es (fired m)) kept.numbered
-          ∙ noted_pairs (members_in placed) m kept.rise (sym (get_is placed (members_in placed) i kept.numbered) ∙ found)
+          ∙ noted_pairs (subscriptions_in placed) m kept.rise (sym (get_is placed (subscriptions_in placed) i kept.numbered) ∙ found)
 
-      pub noted_shown : members_in after ≡ map changed (members_in placed)
-      noted_shown = shown after (map changed (members_in placed)) noted_numbered
+      pub noted_shown : subscriptions_in after ≡ map changed (subscriptions_in placed)
+      noted_shown = shown after (map changed (subscriptions_in placed)) noted_numbered
 
-      pub noted_kept : IsKept (members_in after) after finders
+      pub noted_kept : IsKept (subscriptions_in after) after finders
       noted_kept =
-          kept_at after finders (map changed (members_in placed))
+          kept_at after finders (map changed (subscriptions_in placed))
           (kept_mapped changed (left (λ m. m.name) (λ m. refl)) (left (λ m. m.install) (λ m. refl)) (left (λ m. m.timing) (λ m. refl)) (left (λ m. m.file) (λ m. refl))
-          placed after (members_in placed) finders kept noted_numbered)
+          placed after (subscriptions_in placed) finders kept noted_numbered)
 
-    pub noted_nobody : lookup (is_at (nat_cmp i)) placed ≡ None → members_in placed ≡ map changed (members_in placed)
-    noted_nobody none = sym (noted_none (members_in placed) (nobody_of (members_in placed) (sym (get_is placed (members_in placed) i kept.numbered) ∙ none)))
+    pub noted_nobody : lookup (is_at (nat_cmp i)) placed ≡ None → subscriptions_in placed ≡ map changed (subscriptions_in placed)
+    noted_nobody none = sym (noted_none (subscriptions_in placed) (nobody_of (subscriptions_in placed) (sym (get_is placed (subscriptions_in placed) i kept.numbered) ∙ none)))

@@ -1,59 +1,61 @@
 -- A book of live subscriptions, as callers see it.
-use Rattle.std.specs.Prelude.{ℕ, ◌<◌, ◌==◌, ◌&&◌, Bool, false, nat_eq, List, [], ◌∷◌, map, filter, refl}
+use Rattle.std.specs.Prelude.{ℕ, ◌<◌, ◌==◌, ◌&&◌, Bool, false, nat_eq, List, [], ◌∷◌, map, filter}
+use Rattle.std.specs.Prelude.{refl}
 use Rattle.std.specs.Prelude.{◌≡◌}
 use Rattle.std.specs.Prelude.{Option, Some, if◌then◌else◌}
 use Rattle.std.specs.List.{find, list_any, AllByRecursion}
 use Rattle.std.specs.Str.{bytes_eq}
 use Rattle.std.specs.Coded.{Coded, code_by, coded×, coded_ℕ, coded_list}
 use Rattle.ncq_event.specs.Calendars.{Entry}
-use Rattle.ncq_book.specs.declared.member.Member.{Member}
-use Rattle.ncq_book.specs.contracts.member.Member.{the_row as member_row}
+use Rattle.ncq_book.specs.declared.subscription.Subscription.{Subscription}
+use Rattle.ncq_book.specs.contracts.subscription.Subscription.{the_row as subscription_row}
 
--- the members in the order of their creates, and the instant of the clock
+-- the subscriptions in the order of their creates, and the instant of the clock
 pub record BookState : Type 0 where
-  pub members : List Member
+  pub subscriptions : List Subscription
   pub instant : ℕ
 
 -- how a book is written as a value
 abbrev pub book_code : Coded BookState
-book_code = code_by (List Member × ℕ) (coded× (coded_list member_row.coded) coded_ℕ)
-    (λ b. (b.members, b.instant)) (λ p. record { members = p.0; instant = p.1 }) (λ _. refl)
+book_code = code_by (List Subscription × ℕ) (coded× (coded_list subscription_row.coded) coded_ℕ)
+    (λ b. (b.subscriptions, b.instant)) (λ p. record { subscriptions = p.0; instant = p.1 }) (λ _.
+    refl)
 
--- whether the member has this name
-abbrev pub is_named : List ℕ → Member → Bool
+-- whether the subscription has this name
+abbrev pub is_named : List ℕ → Subscription → Bool
 is_named name m = bytes_eq name m.name
 
--- whether the member has this install number
-abbrev pub is_of : ℕ → Member → Bool
+-- whether the subscription has this install number
+abbrev pub is_of : ℕ → Subscription → Bool
 is_of install m = m.install == install
 
--- the member of this install number, where there is one
-abbrev pub member_of : ℕ → List Member → Option Member
-member_of install members = find (is_of install) members
+-- the subscription of this install number, where there is one
+abbrev pub subscription_of : ℕ → List Subscription → Option Subscription
+subscription_of install subscriptions = find (is_of install) subscriptions
 
--- the timing of a member, with its install number
-abbrev pub timing_of : Member → Entry
+-- the timing of a subscription, with its install number
+abbrev pub timing_of : Subscription → Entry
 timing_of m = (m.install, m.timing)
 
--- whether the member fires at changes, and the file of its plan is one of these
-abbrev pub watches : List ℕ → Member → Bool
+-- whether the subscription fires at changes, and the file of its plan is one of these
+abbrev pub watches : List ℕ → Subscription → Bool
 watches files m = m.timing.every == 0 && list_any (nat_eq m.file.0) files
 
 -- the install numbers of those that fire at changes and have one of these files
-abbrev pub watchers_of : List ℕ → List Member → List ℕ
-watchers_of files members = map (λ m. m.install) (filter (watches files) members)
+abbrev pub watchers_of : List ℕ → List Subscription → List ℕ
+watchers_of files subscriptions = map (λ m. m.install) (filter (watches files) subscriptions)
 
--- the member with this number noted, if it is that of the install number
-abbrev pub with_note : ℕ → ℕ → Member → Member
+-- the subscription with this number noted, if it is that of the install number
+abbrev pub with_note : ℕ → ℕ → Subscription → Subscription
 with_note install number m = if is_of install m then record m { noted = Some number } else m
 
 -- no two have one name
-abbrev pub NamesDiffer : List Member → Type 0
+abbrev pub NamesDiffer : List Subscription → Type 0
 NamesDiffer [] = Unit {0}
 NamesDiffer (m ∷ more) =
     AllByRecursion (λ n. is_named m.name n ≡ false) more × NamesDiffer more
 
 -- each has a greater install number than those before it
-abbrev pub InstallsRise : List Member → Type 0
+abbrev pub InstallsRise : List Subscription → Type 0
 InstallsRise [] = Unit {0}
 InstallsRise (m ∷ more) = AllByRecursion (λ n. m.install < n.install) more × InstallsRise more

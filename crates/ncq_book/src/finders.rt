@@ -1,18 +1,19 @@
-//! What finds members.
+//! What finds subscriptions.
 ghost use Rattle.std.specs.Prelude.{◌≡◌, ◌<◌, [], None, OnOk, OnErr};
 ghost use Rattle.std.specs.List.{AllByRecursion};
 ghost use Rattle.std.specs.Map.{lookup};
 ghost use Rattle.std.specs.Str.{bytes_eq};
 ghost use Rattle.ncq_book.specs.Kept.{IsEnrolled, IsStruck, FindsAlike};
 
-use crate::member::Member;
 use crate::names::Names;
+use crate::subscription::Subscription;
 use crate::watchers::Watchers;
 use ncq_event::Calendar;
 use std::alloc::{AllocError, Global};
 use std::hash::RandomState;
 
-/// What finds members: their names, their instants, and the files of those that fire at changes.
+/// What finds subscriptions: their names, their instants, and the files of those that fire at
+/// changes.
 #[derive(Drop)]
 pub(crate) struct Finders {
     pub names: Names,
@@ -34,36 +35,48 @@ impl Finders {
         }
     }
 
-    /// The member is found from now on. Where memory runs out, nothing is found that was not.
-    pub(crate) fn enroll(&mut self, alloc: Global, member: &Member) -> Result<(), AllocError>
-        requires above { AllByRecursion (λ e. e.0 < member.now.install)
+    /// The subscription is found from now on. Where memory runs out, nothing is found that was not.
+    pub(crate) fn enroll(
+        &mut self,
+        alloc: Global,
+        subscription: &Subscription,
+    ) -> Result<(), AllocError>
+        requires above { AllByRecursion (λ e. e.0 < subscription.now.install)
             self.old.calendar.entries }
-        requires free { lookup (bytes_eq member.now.name) self.old.names ≡ None }
-        ensures ok { OnOk result (IsEnrolled member.now self.old self.new) }
+        requires free { lookup (bytes_eq subscription.now.name) self.old.names ≡ None }
+        ensures ok { OnOk result (IsEnrolled subscription.now self.old self.new) }
         ensures err { OnErr result (FindsAlike self.old self.new) }
     {
-        self.names.put(alloc, &member.name, member.install)?;
-        if self.calendar.add(member.install, member.timing).is_err() {
-            self.names.free(&member.name);
+        self.names
+            .put(alloc, &subscription.name, subscription.install)?;
+        if self
+            .calendar
+            .add(subscription.install, subscription.timing)
+            .is_err()
+        {
+            self.names.free(&subscription.name);
             return Err(AllocError);
         }
-        let file = member.file.0;
-        if member.timing.every == 0 && self.watchers.add(file, member.install).is_err() {
-            self.names.free(&member.name);
-            self.calendar.remove(member.install);
+        let file = subscription.file.0;
+        if subscription.timing.every == 0
+            && self.watchers.add(file, subscription.install).is_err()
+        {
+            self.names.free(&subscription.name);
+            self.calendar.remove(subscription.install);
             return Err(AllocError);
         }
         Ok(())
     }
 
-    /// The member is not found any more. It takes no memory.
-    pub(crate) fn strike(&mut self, member: &Member)
-        ensures { IsStruck member.now self.old self.new }
+    /// The subscription is not found any more. It takes no memory.
+    pub(crate) fn strike(&mut self, subscription: &Subscription)
+        ensures { IsStruck subscription.now self.old self.new }
     {
-        self.names.free(&member.name);
-        self.calendar.remove(member.install);
-        if member.timing.every == 0 {
-            self.watchers.remove(member.file.0, member.install);
+        self.names.free(&subscription.name);
+        self.calendar.remove(subscription.install);
+        if subscription.timing.every == 0 {
+            self.watchers
+                .remove(subscription.file.0, subscription.install);
         }
     }
 }

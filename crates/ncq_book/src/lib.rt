@@ -1,15 +1,15 @@
 //! The book of live subscriptions: who they are, whom a change concerns, and who is due.
-//! Members come in one by one, in the order of their creates, and go out by name or by expiry. A
-//! name is found by its hash, and an install number, the watchers of a file, the next firings and
-//! the expiries by their order: nobody is looked at whom a question does not concern.
+//! Subscriptions come in one by one, in the order of their creates, and go out by name or by
+//! expiry. A name is found by its hash, and an install number, the watchers of a file, the next
+//! firings and the expiries by their order: nobody is looked at whom a question does not concern.
 #![tactic(auto)]
 
 mod book;
 mod finders;
 mod held;
-mod member;
 mod names;
+mod subscription;
 mod watchers;
 
 pub use book::Book;
-pub use member::Member;
+pub use subscription::Subscription;

@@ -11,12 +11,13 @@ use std::alloc::{AllocError, Global};
 use std::collections::BTreeSet;
 use std::marker::Model;
 
-/// That a member fires at changes of a file. The derived order is by file, then by install number.
+/// That a subscription fires at changes of a file. The derived order is by file, then by install
+/// number.
 #[derive(Clone, Copy, PartialEq, Eq, PartialOrd, Ord)]
 pub(crate) struct Watch {
     /// The number of the file.
     pub file: u64,
-    /// The install number of the member.
+    /// The install number of the subscription.
     pub install: u64,
 }
 
@@ -84,7 +85,7 @@ impl Watchers {
         Ok(installs)
     }
 
-    /// The member watches the file from now on. Where memory runs out, all is as before.
+    /// The subscription watches the file from now on. Where memory runs out, all is as before.
     pub(crate) fn add(&mut self, file: u64, install: u64) -> Result<(), AllocError>
         ensures ok { OnOk result ((w : a_watch) → list_any (is_watch w) self.new
             ≡ (list_any (is_watch w) self.old
@@ -95,7 +96,7 @@ impl Watchers {
         Ok(())
     }
 
-    /// The member does not watch the file any more. It takes no memory.
+    /// The subscription does not watch the file any more. It takes no memory.
     pub(crate) fn remove(&mut self, file: u64, install: u64)
         ensures { (w : a_watch) → list_any (is_watch w) self.new
             ≡ (list_any (is_watch w) self.old

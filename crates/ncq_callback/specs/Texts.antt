@@ -26,11 +26,6 @@ notice_text name instant entries =
     begin_text (codes "notice ") name instant (codes "\n") ++ entries_text entries
     ++ codes "end\n"
 
--- that, and nothing where there is no entry
-abbrev pub print_text : List ℕ → ℕ → List Difference → List ℕ
-print_text name instant [] = []
-print_text name instant (entry ∷ more) = notice_text name instant (entry ∷ more)
-
 -- the sum of the counts that are gained
 abbrev pub gained : List Difference → ℕ
 gained [] = 0

@@ -1,5 +1,6 @@
 //! The notice that tells sums.
 ghost use Rattle.std.specs.Prelude.{◌≡◌, ◌++◌, length, take, decimal, OnOk, OnErr};
+ghost use Rattle.std.specs.Io.{StartsWith};
 ghost use Rattle.ncq_callback.specs.Texts.{count_text, gained, lost, render};
 
 use crate::notice::{Kind, Notice};
@@ -28,7 +29,7 @@ pub fn count_notice(_argument: &[u8], notice: &Notice, out: &mut Vec<u8>) -> Res
 fn write_count(notice: &Notice, out: &mut Vec<u8>) -> Result<(), AllocError>
     ensures ok { OnOk result (out.new.items ≡ out.old.items
         ++ count_text notice.now.name notice.now.instant notice.now.entries) }
-    ensures front { take (length out.old.items) out.new.items ≡ out.old.items }
+    ensures front { StartsWith out.new.items out.old.items }
 {
     write_begin(
         b"count ",

@@ -1,6 +1,7 @@
 //! A named closure that writes the notices of its kind.
 ghost use Rattle.std.specs.Prelude.{◌≡◌, ◌++◌, OnOk, OnErr, length, take};
 ghost use Rattle.std.specs.Str.{bytes_eq};
+ghost use Rattle.std.specs.Io.{StartsWith};
 ghost use Rattle.ncq_callback.specs.Facts.{Writes};
 ghost use Rattle.ncq_callback.specs.Texts.{render};
 
@@ -70,7 +71,7 @@ impl Handler {
         ensures ok { OnOk result (out.new.items ≡ out.old.items
             ++ render self.now.kind argument.now
             notice.now.name notice.now.instant notice.now.entries) }
-        ensures err { OnErr result (take (length out.old.items) out.new.items ≡ out.old.items) }
+        ensures err { OnErr result (StartsWith out.new.items out.old.items) }
     {
         (self.call)(argument, notice, out)
     }

@@ -9,12 +9,15 @@ use crate::handler::Handler;
 use crate::notice::{Kind, Notice};
 use ncq_base::Bytes;
 use std::alloc::{AllocError, Global};
+use thiserror::Error;
 
 /// Why a handler was not added.
-#[derive(Clone, Copy, Debug, PartialEq, Eq)]
+#[derive(Clone, Copy, Debug, PartialEq, Eq, Error)]
 pub enum AddError {
     /// A handler has the name.
+    #[error("a handler has the name")]
     NameTaken,
+    #[error("out of memory")]
     OutOfMemory,
 }
 

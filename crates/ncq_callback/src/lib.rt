@@ -29,4 +29,4 @@ pub use handlers::{AddError, Handlers};
 pub use laws::counts_tell_the_difference;
 pub use mail::mail_notice;
 pub use notice::{Entries, Kind, Notice};
-pub use print::{print_notice, write_print};
+pub use print::print_notice;

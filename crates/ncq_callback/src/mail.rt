@@ -1,5 +1,6 @@
 //! The notice that is mailed.
 ghost use Rattle.std.specs.Prelude.{◌≡◌, ◌++◌, length, take, OnOk, OnErr};
+ghost use Rattle.std.specs.Io.{StartsWith};
 ghost use Rattle.ncq_callback.specs.Texts.{mail_text, render};
 
 use crate::notice::{Kind, Notice};
@@ -27,7 +28,7 @@ pub fn mail_notice(argument: &[u8], notice: &Notice, out: &mut Vec<u8>) -> Resul
 fn write_mail(argument: &[u8], notice: &Notice, out: &mut Vec<u8>) -> Result<(), AllocError>
     ensures ok { OnOk result (out.new.items ≡ out.old.items
         ++ mail_text argument.now notice.now.name notice.now.instant notice.now.entries) }
-    ensures front { take (length out.old.items) out.new.items ≡ out.old.items }
+    ensures front { StartsWith out.new.items out.old.items }
 {
     write_begin(b"mail ", notice.name.as_slice(), notice.instant, b" ", out)?;
     write_escaped(argument, out)?;

@@ -91,7 +91,7 @@ fn shape(alloc: Global) -> Result<Shape, AllocError> {
 }
 
 fn rows<L: Ledger>(
-    alloc: Global,
+    rt: &HostRuntime,
     blank: Blank,
     shape: &Shape,
     element: &Element,
@@ -100,17 +100,19 @@ fn rows<L: Ledger>(
     requires parts { blank.parts ≡ L.parts }
     requires some { 0 < L.parts }
 {
-    let mut steps = Steps::<L>::new(blank);
+    let alloc = rt.alloc();
+    let mut steps = Steps::<L>::new(rt, blank);
     let mut rows = Rows::new(alloc);
     match_shape(alloc, shape, element, &mut rows, &mut steps)?;
     Ok(rows)
 }
 
 /// The rows of the element, one for each of the values.
-fn the_rows(alloc: Global) -> Result<Rows, AllocError> {
+fn the_rows(rt: &HostRuntime) -> Result<Rows, AllocError> {
+    let alloc = rt.alloc();
     let shape = shape(alloc)?;
     let element = element(alloc)?;
-    rows::<Brand>(alloc, Blank::new(1), &shape, &element)
+    rows::<Brand>(rt, Blank::new(1), &shape, &element)
 }
 
 fn lone_test(alloc: Global, test: Test) -> Result<Tests, AllocError>
@@ -284,7 +286,7 @@ fn expect_gathered(
 
 #[test]
 fn rows_that_pass_make_entries(rt: HostRuntime) -> Result<(), Fail> {
-    let rows = the_rows(rt.alloc())?;
+    let rows = the_rows(&rt)?;
     assert!(rt; rows.len() == 4);
     for row in GATHERED {
         expect_gathered(&rt, rt.alloc(), &rows, row)?;

@@ -1,5 +1,6 @@
 //! What the texts of notices have in common.
 ghost use Rattle.std.specs.Prelude.{◌≡◌, ◌++◌, length, take, OnOk};
+ghost use Rattle.std.specs.Io.{StartsWith};
 ghost use Rattle.ncq_callback.specs.Texts.{begin_text, entries_text, entry_text};
 
 use ncq_bag::Difference;
@@ -16,7 +17,7 @@ pub(crate) fn write_begin(
 ) -> Result<(), AllocError>
     ensures ok { OnOk result
         (out.new.items ≡ out.old.items ++ begin_text word.now name.now instant behind.now) }
-    ensures front { take (length out.old.items) out.new.items ≡ out.old.items }
+    ensures front { StartsWith out.new.items out.old.items }
 {
     out.extend_from_slice(word)?;
     out.extend_from_slice(name)?;
@@ -28,7 +29,7 @@ pub(crate) fn write_begin(
 /// Appends the entries; what was there stays in front.
 pub(crate) fn write_entries(entries: &[Difference], out: &mut Vec<u8>) -> Result<(), AllocError>
     ensures ok { OnOk result (out.new.items ≡ out.old.items ++ entries_text entries.now) }
-    ensures front { take (length out.old.items) out.new.items ≡ out.old.items }
+    ensures front { StartsWith out.new.items out.old.items }
 {
     for entry in entries {
         write_entry(entry, out)?;
@@ -39,7 +40,7 @@ pub(crate) fn write_entries(entries: &[Difference], out: &mut Vec<u8>) -> Result
 /// Appends an entry; what was there stays in front.
 fn write_entry(entry: &Difference, out: &mut Vec<u8>) -> Result<(), AllocError>
     ensures ok { OnOk result (out.new.items ≡ out.old.items ++ entry_text entry.now) }
-    ensures front { take (length out.old.items) out.new.items ≡ out.old.items }
+    ensures front { StartsWith out.new.items out.old.items }
 {
     let word: &[u8] = if entry.gain { b"gain " } else { b"lose " };
     out.extend_from_slice(word)?;

@@ -3,7 +3,8 @@ use Rattle.std.specs.Prelude.{◌≡◌, ◌&&◌, Bool, true, ℕ, List, [], ma
 use Rattle.std.specs.List.{list_all}
 use Rattle.ncq_base.specs.Names.{is_pyx_name}
 use Rattle.ncq_pyx.specs.declared.item.Item.TheVariants.{Put}
-use Rattle.ncq_pyx.specs.Canonical.{are_good, is_proper, item_is_proper}
+use Rattle.ncq_pyx.specs.Canonical.{are_good, is_proper}
+use Rattle.ncq_pyx.specs.Items.{item_is_proper}
 use Rattle.ncq_tree.specs.declared.model.Element.{Element}
 use Rattle.ncq_row.specs.Embeddings.{Row, Rows}
 use Rattle.ncq_row.specs.declared.value.Value.{Value}

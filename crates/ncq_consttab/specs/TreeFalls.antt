@@ -9,4 +9,8 @@ use Rattle.ncq_consttab.specs.Trees.{node_entries}
 -- no side is deeper than the node has entries
 pub depth_of_node : (n : Node) → max (deep-Node n) 0 ≤ length (node_entries n)
 depth_of_node Leaf = omega arith
-depth_of_node (Inner fork) = omega (arith, length-append fork.value.left (fork.value.entry ∷ fork.value.right))
+depth_of_node (Inner fork) = omega (
+  arith,
+  length-append fork.value.left (fork.value.entry ∷
+      fork.value.right),
+)

@@ -16,8 +16,8 @@ use std::marker::Model;
 /// Numbers of files in order.
 pub type Files = Sequence<FileId>;
 
-/// The files of intervals. An interval is found by its hash, and by a value in it in a tree that has
-/// the same intervals and files.
+/// The files of intervals. An interval is found by its hash, and by a value in it in a tree that
+/// has the same intervals and files.
 #[derive(Drop)]
 pub struct RangeTable {
     files: IndexMap<Interval, FileId>,

@@ -12,15 +12,13 @@ use Rattle.ncq_signature.specs.Groups.{is_signature, count_of}
 use Rattle.ncq_shelf.specs.Parts.{IsInput}
 use Rattle.ncq_shelf.specs.KeptFiles.{KeptFile, Files}
 use Rattle.ncq_shelf.specs.Stands.{Stands, IsGrounded, IsIdle}
-use Rattle.ncq_shelf.specs.Inputs.{AreInputs}
-use Rattle.ncq_shelf.specs.declared.inputs.Inputs.{Inputs}
-use Rattle.ncq_shelf.proofs.CallerLemmas.{put_same, put_other, gone_other, there, one_value, rest_stays, are_inputs_more}
+use Rattle.ncq_shelf.proofs.CallerLemmas.{put_same, put_other, gone_same, gone_other, there, one_value, rest_stays}
 use Rattle.ncq_count.specs.declared.key.GroupKey.{GroupKey}
 use Rattle.ncq_count.specs.FileExprs.{exprs_of}
 use Rattle.ncq_count.specs.Keys.{Tells, file_of}
 use Rattle.ncq_count.specs.Counted.{is_key, count_at, kept_count, GainsFile, LosesFile, AreCounted}
 use Rattle.ncq_count.proofs.KeyLaws.{key_is, key_itself, signature_is, signature_itself, alike}
-use Rattle.ncq_count.proofs.Tallies.{one, expr_at, HasSignature, has_signature, count_added, count_removed, same_exprs}
+use Rattle.ncq_count.proofs.Tallies.{one, HasSignature, has_signature, count_added, count_removed, put_back}
 use Rattle.ncq_count.proofs.TellLaws.{OneEach, tells_one, told_once, has_key, tells_more}
 
 abbrev pub Counts : Type 0
@@ -62,13 +60,6 @@ kept_at n = elim (cases_lt 0 n) [
   | inr none ↦ let z : n ≡ 0 = omega arith in subst (λ m. unwrap_or (kept_count m) 0 ≡ m) (sym z) refl
 ]
 
--- where no count is 0, a count that is kept is the one that is there
-kept_there : (counts : Counts) (key : GroupKey) → ((count : ℕ) → lookup (is_key key) counts ≡ Some count → 0 < count) → kept_count (count_at counts key) ≡ lookup (is_key key) counts
-kept_there counts key some = elim (lookup (is_key key) counts) as (λ o. ((count : ℕ) → o ≡ Some count → 0 < count) → kept_count (unwrap_or o 0) ≡ o) [
-  | Some count ↦ λ h. kept count (h count refl)
-  | None ↦ λ h. refl
-] some
-
 module _ (key : GroupKey) (old new : Counts) where
   at_same : (other : GroupKey) → is_key key other ≡ true → count_at old key ≡ count_at old other
   at_same other is = ap (count_at old) (key_is key other is)
@@ -86,27 +77,6 @@ module _ (key : GroupKey) (old new : Counts) where
         | true ↦ λ is now. let e = at_same other is in let k = kept_at (count_at old key - 1) in omega arith
         | false ↦ λ is now. omega arith
       ] refl is_now
-
--- counted in and out again
-pub regained : (key : GroupKey) (old mid new : Counts) → ((other : GroupKey) (count : ℕ) → lookup (is_key other) old ≡ Some count → 0 < count) → GainsFile old key mid → LosesFile mid key new → (other : GroupKey) → lookup (is_key other) new ≡ lookup (is_key other) old
-regained key old mid new some gains loses other =
-    loses other ∙ elim (is_key key other) as (λ b. is_key key other ≡ b → lookup (is_key other) mid ≡ cond b (Some (count_at old key + 1)) (lookup (is_key other) old) → cond b (kept_count (count_at mid key - 1)) (lookup (is_key other) mid) ≡ lookup (is_key other) old) [
-      | true ↦ λ is at.
-          let more = gained key old mid gains key in
-          let itself : one (is_key key key) ≡ 1 = ap one (key_itself key) in
-          let e = at_same key old mid other is in
-          let back : count_at mid key - 1 ≡ count_at old other = omega arith in
-          ap kept_count back ∙ kept_there old other (some other)
-      | false ↦ λ is at. at
-    ] refl (gains other)
-
--- the same counts
-pub counted_same : (files : Files) (old new : Counts) → ((key : GroupKey) → lookup (is_key key) new ≡ lookup (is_key key) old) → AreCounted files old → AreCounted files new
-counted_same files old new same counted = record {
-  some = λ key count at. counted.some key count (sym (same key) ∙ at);
-  tells = λ key count at. counted.tells key count (sym (same key) ∙ at);
-  right = λ key s told. ap (λ o. unwrap_or o 0) (same key) ∙ counted.right key s told;
-}
 
 -- the tests of a key and of the signature that it tells answer alike
 pub tests_agree : (files : Files) → OneEach files → (key other : GroupKey) (s t : Signature) → Tells files key s → Tells files other t → is_key key other ≡ is_signature t s
@@ -135,12 +105,6 @@ module _ (old : Files) (grounded : IsGrounded old) (number : ℕ) (file : KeptFi
     at = put_other old number file other (λ same. there (subst (λ n. get old n ≡ Some s.file) same s.at) none) ∙ s.at;
     of = s.of;
   }
-
-  pub stands_added : Stands new file.expr number
-  stands_added = record { file = file; at = put_same old number file; of = refl }
-
-  pub inputs_added : (inputs : Inputs) → AreInputs old file.expr inputs → AreInputs new file.expr inputs
-  inputs_added = are_inputs_more old new (λ expr other. stays other expr) file.expr
 
   -- what stands under another number stood before
   before : (other : ℕ) (expr : Expr) → other ≢ number → Stands new expr other → Stands old expr other
@@ -222,6 +186,19 @@ module _ (old : Files) (number : ℕ) (idle : IsIdle old number) where
         (below.0, below.1, record { file = below.2.file; at = gone_other old number below.0 apart ∙ below.2.at; of = below.2.of });
   }
 
+  module _ (grounded : IsGrounded old) (key : GroupKey) (told : Tells old key (signature_of idle.file.expr)) (counts : Counts) where
+    no_other : (other : ℕ) → Stands (remove old number) idle.file.expr other → ⊥
+    no_other other s =
+        let same = grounded.distinct other number idle.file.expr (stayed other idle.file.expr s) (record { file = idle.file; at = idle.at; of = refl }) in
+        there (subst (λ n. get (remove old number) n ≡ Some s.file) same s.at) (gone_same old number)
+
+    -- an idle file that has come is counted in
+    pub counted_come : AreCounted (remove old number) counts → (more : Counts) → GainsFile counts key more → AreCounted old more
+    counted_come counted more gains =
+        let again = put_back old number idle.file idle.at in
+        subst (λ files. AreCounted files more) again
+        (counted_added (remove old number) (grounded_rest grounded) number idle.file (gone_same old number) no_other key (subst (λ files. Tells files key (signature_of idle.file.expr)) (sym again) told) counts more counted gains)
+
   module _ (grounded : IsGrounded old) (key : GroupKey) (told : Tells old key (signature_of idle.file.expr)) (counts : Counts) (counted : AreCounted old counts) where
     -- the file that goes is counted
     pub some_counted : 0 < count_at counts key
@@ -262,26 +239,10 @@ module _ (old : Files) (number : ℕ) (idle : IsIdle old number) where
         right = λ other s t. still_right other s (tells_more (remove old number) old stayed other s t);
       }
 
--- files of the same expressions
-stands_by : (a b : Files) → ((number : ℕ) → expr_at (get b number) ≡ expr_at (get a number)) → (number : ℕ) (expr : Expr) → Stands a expr number → Stands b expr number
-stands_by a b same number expr s = elim (get b number) as (λ o. get b number ≡ o → Stands b expr number) [
-  | Some file ↦ λ at. record { file = file; at = at; of = one_value refl (sym (ap expr_at at) ∙ same number ∙ ap expr_at s.at) ∙ s.of }
-  | None ↦ λ none. absurd (there (same number ∙ ap expr_at s.at) (ap expr_at none))
-] refl
-
-pub counted_again : (old new : Files) → ((number : ℕ) → expr_at (get new number) ≡ expr_at (get old number)) → (counts : Counts) → AreCounted old counts → AreCounted new counts
-counted_again old new same counts counted = record {
-  some = counted.some;
-  tells = λ key count at. let t = counted.tells key count at in (t.0, tells_more old new (stands_by old new same) key t.0 t.1);
-  right = λ key s told.
-      counted.right key s (tells_more new old (stands_by new old (λ number. sym (same number))) key s told)
-      ∙ ap (λ xs. count_of xs s) (sym (same_exprs new old same));
-}
-
 -- no files
-pub nothing_counted : (files : Files) → files ≡ empty → AreCounted files []
-nothing_counted files none = record {
+pub nothing_counted : AreCounted empty []
+nothing_counted = record {
   some = λ key count at. absurd (there at refl);
   tells = λ key count at. absurd (there at refl);
-  right = λ key s told. absurd (there told.stands.at (subst (λ (f : Files). get f (file_of key) ≡ None) (sym none) (get-empty nat_cmp (file_of key))));
+  right = λ key s told. absurd (there told.stands.at (get-empty nat_cmp (file_of key)));
 }

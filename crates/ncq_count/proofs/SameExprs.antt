@@ -1,23 +1,38 @@
--- Files that change without their expressions.
+-- Files that change and keep their expressions: their groups are counted as before.
 use Rattle.std.proofs.Common.{◌≡◌, ℕ, Some, None, Option, inl, inr, refl, sym, ap, ◌∙◌, subst}
 use Rattle.std.specs.Option.{option_map}
 use Rattle.std.specs.FinMap.{get, insert}
-use Rattle.std.specs.Result.{OnOk, OnErr}
-use Rattle.std.specs.Prelude.{Result, Ok, Err}
 use Rattle.std.proofs.lemmas.Bool.{cases_eq}
-use Rattle.ncq_source.specs.ChangeStates.{ChangeState}
-use Rattle.ncq_source.specs.StoreStates.{StoreState}
+use Rattle.ncq_plan.specs.declared.expr.Expr.{Expr}
+use Rattle.ncq_signature.specs.Groups.{count_of}
 use Rattle.ncq_shelf.specs.KeptFiles.{KeptFile, Files}
+use Rattle.ncq_shelf.specs.Stands.{Stands}
 use Rattle.ncq_shelf.specs.Contents.{cut_to}
-use Rattle.ncq_shelf.proofs.CallerLemmas.{put_same, put_other}
-use Rattle.ncq_feed.specs.Feeds.{AreFed}
-use Rattle.ncq_count.proofs.Tallies.{expr_at}
+use Rattle.ncq_shelf.proofs.CallerLemmas.{put_same, put_other, there, one_value}
+use Rattle.ncq_count.specs.Counted.{AreCounted}
+use Rattle.ncq_count.proofs.Tallies.{expr_at, same_exprs}
+use Rattle.ncq_count.proofs.TellLaws.{tells_more}
+use Rattle.ncq_count.proofs.CountLaws.{Counts}
 
+-- the files have the same numbers, and at each the same expression
 abbrev pub HaveSameExprs : Files → Files → Type 0
 HaveSameExprs old new = (number : ℕ) → expr_at (get new number) ≡ expr_at (get old number)
 
-pub nothing_changed : (old new : Files) → new ≡ old → HaveSameExprs old new
-nothing_changed old new same number = ap (λ (f : Files). expr_at (get f number)) same
+stands_by : (old new : Files) → HaveSameExprs old new → (number : ℕ) (expr : Expr) → Stands old expr number → Stands new expr number
+stands_by old new same number expr s = elim (get new number) as (λ o. get new number ≡ o → Stands new expr number) [
+  | Some file ↦ λ at. record { file = file; at = at; of = one_value refl (sym (ap expr_at at) ∙ same number ∙ ap expr_at s.at) ∙ s.of }
+  | None ↦ λ none. absurd (there (same number ∙ ap expr_at s.at) (ap expr_at none))
+] refl
+
+-- the counts that were right are right
+pub counted_again : (old new : Files) → HaveSameExprs old new → (counts : Counts) → AreCounted old counts → AreCounted new counts
+counted_again old new same counts counted = record {
+  some = counted.some;
+  tells = λ key count at. let t = counted.tells key count at in (t.0, tells_more old new (stands_by old new same) key t.0 t.1);
+  right = λ key s told.
+      counted.right key s (tells_more new old (stands_by new old (λ number. sym (same number))) key s told)
+      ∙ ap (λ xs. count_of xs s) (sym (same_exprs new old same));
+}
 
 -- one file is another of the same expression
 pub one_changed : (old new : Files) (number : ℕ) (file next : KeptFile) → get old number ≡ Some file → next.expr ≡ file.expr → new ≡ insert old number next → HaveSameExprs old new
@@ -33,17 +48,3 @@ all_cut old new change cut number = ap expr_at (cut number) ∙ by (get old numb
     by : (o : Option KeptFile) → expr_at (option_map (cut_to change) o) ≡ expr_at o
     by (Some file) = refl
     by None = refl
-
--- each file got rows
-pub all_fed : (store : StoreState) (change : ChangeState) (old new : Files) → AreFed store change old new → HaveSameExprs old new
-all_fed store change old new fed number = elim (get old number) as (λ o. get old number ≡ o → expr_at (get new number) ≡ expr_at o) [
-  | Some file ↦ λ at.
-      let f = fed.each number file at in
-      ap expr_at f.1 ∙ ap (λ (k : KeptFile). Some k.expr) f.2.behind
-  | None ↦ λ none. ap expr_at (fed.no_other number none)
-] refl
-
--- what follows from either answer
-pub either_way : {A E : Type 0} (P Q G : Type 0) (r : Result A E) → OnOk r P → OnErr r Q → (P → G) → (Q → G) → G
-either_way P Q G (Ok x) ok err good bad = good ok
-either_way P Q G (Err e) ok err good bad = bad err

@@ -63,8 +63,8 @@ count_added files number file s none =
     ∙ count-put s number file (entries files) (sym (get-entries files number) ∙ none)
 
 -- a file that goes and comes again leaves all as it was
-back : (files : Files) (number : ℕ) (file : KeptFile) → get files number ≡ Some file → insert (remove files number) number file ≡ files
-back files number file at = same_map nat_cmp_total nat_cmp-IsAntisymmetric _ files (λ q. elim (cases_eq q number) [
+pub put_back : (files : Files) (number : ℕ) (file : KeptFile) → get files number ≡ Some file → insert (remove files number) number file ≡ files
+put_back files number file at = same_map nat_cmp_total nat_cmp-IsAntisymmetric _ files (λ q. elim (cases_eq q number) [
   | inl same ↦ subst (λ n. get (insert (remove files number) number file) n ≡ get files n) (sym same) (put_same (remove files number) number file ∙ sym at)
   | inr differs ↦ put_other (remove files number) number file q differs ∙ gone_other files number q differs
 ])
@@ -72,7 +72,7 @@ back files number file at = same_map nat_cmp_total nat_cmp-IsAntisymmetric _ fil
 -- a file goes
 pub count_removed : (files : Files) (number : ℕ) (file : KeptFile) (s : Signature) → get files number ≡ Some file → count_of (exprs_of files) s ≡ one (is_signature s (signature_of file.expr)) + count_of (exprs_of (remove files number)) s
 count_removed files number file s at =
-    ap (λ f. count_of (exprs_of f) s) (sym (back files number file at))
+    ap (λ f. count_of (exprs_of f) s) (sym (put_back files number file at))
     ∙ count_added (remove files number) number file s (gone_same files number)
 
 -- each entry is what its number finds

@@ -1,5 +1,6 @@
 -- The signatures that keys tell: one each, and each file's by one key.
-use Rattle.std.proofs.Common.{◌≡◌, ℕ, List, false, inl, inr, refl, sym, ap, ◌∙◌, subst, true≢false}
+use Rattle.std.proofs.Common.{◌≡◌, ℕ, List, false, Some, inl, inr, refl, sym, ap, ◌∙◌, subst, true≢false}
+use Rattle.std.specs.FinMap.{get}
 use Rattle.ncq_base.specs.declared.atom.Atom.{Atom}
 use Rattle.ncq_base.specs.declared.interval.Interval.{Interval}
 use Rattle.ncq_row.specs.declared.pair.Pair.{Pair}
@@ -97,6 +98,13 @@ module _ (files : Files) where
 -- what is told by less files is told by more
 pub tells_more : (less more : Files) → ((number : ℕ) (expr : Expr) → Stands less expr number → Stands more expr number) → (key : GroupKey) (s : Signature) → Tells less key s → Tells more key s
 tells_more less more up key s t = record { expr = t.expr; stands = up (file_of key) t.expr t.stands; told = t.told; kind = t.kind }
+
+-- a key that tells the signature of an expression wherever its file stands, tells that of the file
+pub told_here : (files : Files) (number : ℕ) (file : KeptFile) → get files number ≡ Some file → (expr : Expr) (inputs : Inputs) (key : GroupKey) → expr ≡ file.expr → AreInputs files file.expr inputs
+    → ((fs : Files) → Stands fs expr number → AreInputs fs expr inputs → Tells fs key (signature_of expr)) → Tells files key (signature_of file.expr)
+told_here files number file at expr inputs key is are tells =
+    subst (λ e. Tells files key (signature_of e)) is
+    (tells files (record { file = file; at = at; of = sym is }) (subst (λ e. AreInputs files e inputs) (sym is) are))
 
 -- the key of a file, by its expression and the numbers of its inputs
 module _ (files : Files) (expr : Expr) (inputs : Inputs) (are : AreInputs files expr inputs) where

@@ -1,4 +1,4 @@
--- The counts of groups. Only the crate's private clauses cite it.
+-- The counts of groups. Callers cite `AreCounted` alone; the rest is for private clauses.
 use Rattle.std.specs.Prelude.{◌≡◌, ℕ, ◌+◌, ◌-◌, ◌<◌, ◌==◌, Bool, if◌then◌else◌}
 use Rattle.std.specs.Prelude.{List, Option, Some, None}
 use Rattle.std.specs.Map.{lookup}

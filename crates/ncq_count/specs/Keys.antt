@@ -1,4 +1,4 @@
--- What the keys of groups tell. Only the crate's private clauses cite it.
+-- What the keys of groups tell. Callers need none of it but through `AreCounted`.
 use Rattle.std.specs.Prelude.{◌≡◌, ℕ, Bool, true, false}
 use Rattle.ncq_plan.specs.declared.expr.Expr.{Expr}
 use Rattle.ncq_signature.specs.declared.signature.Signature.{Signature}

@@ -1,17 +1,16 @@
 //! The lines of groups.
-ghost use Rattle.std.specs.Prelude.{◌≡◌, ℕ, List, map, Some, IfOk, if◌then◌else◌};
-ghost use Rattle.std.specs.FinMap.{get};
+ghost use Rattle.std.specs.Prelude.{◌≡◌, List, map, IfOk, if◌then◌else◌};
 ghost use Rattle.ncq_signature.specs.declared.signature.Signature.{Signature as a_signature};
 ghost use Rattle.ncq_signature.specs.SignatureTexts.{signature_text};
 ghost use Rattle.ncq_signature.specs.Groups.{AreSignaturesOf, line_of};
-ghost use Rattle.ncq_shelf.specs.KeptFiles.{KeptFile};
+ghost use Rattle.ncq_shelf.specs.KeptFiles.{AtFile};
 ghost use Rattle.ncq_shelf.specs.Stands.{IsGrounded, IsThere};
 ghost use Rattle.ncq_count.specs.Counted.{AreCounted};
 ghost use Rattle.ncq_count.specs.FileExprs.{exprs_of};
 ghost use Rattle.ncq_count.specs.Keys.{file_of, selects, told_by};
 
-use crate::groups::Groups;
 use crate::key::GroupKey;
+use indexmap::IndexMap;
 use ncq_base::{Bytes, Copied};
 use ncq_shelf::Shelf;
 use ncq_signature::{GroupLine, Signature, signature_of, write_signature};
@@ -21,16 +20,16 @@ use std::alloc::{AllocError, Global};
 pub(crate) fn lines_of(
     alloc: Global,
     shelf: &Shelf,
-    groups: &Groups,
+    counts: &IndexMap<GroupKey, u64>,
 ) -> Result<Vec<GroupLine>, AllocError>
     requires grounded { IsGrounded shelf.now }
-    requires counted { AreCounted shelf.now groups.now.counts.entries }
+    requires counted { AreCounted shelf.now counts.now.entries }
     ensures { IfOk result (λ lines. (signatures : List a_signature)
         × AreSignaturesOf (exprs_of shelf.now) signatures
         × (lines.items ≡ map (line_of (exprs_of shelf.now)) signatures)) }
 {
     let mut lines = Vec::new(alloc);
-    for (key, count) in &groups.counts {
+    for (key, count) in counts {
         lines.push(line(alloc, shelf, *key, *count)?)?;
     }
     Ok(lines)
@@ -39,12 +38,10 @@ pub(crate) fn lines_of(
 /// The line of a group.
 fn line(alloc: Global, shelf: &Shelf, key: GroupKey, count: u64) -> Result<GroupLine, AllocError>
     requires { IsThere shelf.now (file_of key) }
-    ensures { IfOk result (λ line. (file : KeptFile)
-        → get shelf.now (file_of key) ≡ Some file
-        → line ≡ record {
-          text = signature_text (told_by key file.expr);
-          constants = if selects key then count else 0;
-        }) }
+    ensures { IfOk result (λ line. AtFile shelf.now (file_of key) (λ file. line ≡ record {
+      text = signature_text (told_by key file.expr);
+      constants = if selects key then count else 0;
+    })) }
 {
     let signature = signature(alloc, shelf, key)?;
     let mut text = Vec::new(alloc);
@@ -58,9 +55,8 @@ fn line(alloc: Global, shelf: &Shelf, key: GroupKey, count: u64) -> Result<Group
 /// The signature of a group.
 fn signature(alloc: Global, shelf: &Shelf, key: GroupKey) -> Result<Signature, AllocError>
     requires { IsThere shelf.now (file_of key) }
-    ensures { IfOk result (λ signature. (file : KeptFile)
-        → get shelf.now (file_of key) ≡ Some file
-        → signature ≡ told_by key file.expr) }
+    ensures { IfOk result (λ signature. AtFile shelf.now (file_of key) (λ file.
+        signature ≡ told_by key file.expr)) }
 {
     match key {
         GroupKey::Alone { file } => signature_of(alloc, shelf.expr(file)),

@@ -20,7 +20,7 @@ use std::sync::ledger::Ledger;
 /// then the left now with the right's changed rows. Where no row of either is above `number`, they
 /// lead from the join's content at the change before to that at `number` (law `changes_lead`). A
 /// changed row gives its number and its sign to the rows that it is joined to. Both sides may be
-/// one file. Each signed row is one step. The only error is that memory ran out.
+/// one file. It takes at most one step for each signed row. The only error is that memory ran out.
 pub fn join_delta<L: Ledger>(
     alloc: Global,
     left: &MidFile,

@@ -118,7 +118,7 @@ fn join_places<L: Ledger>(
     Ok(rows)
 }
 
-/// The two rows joined, that of the left in front. It is one step.
+/// The two rows joined, that of the left in front. It is at most one step.
 fn join_beside<L: Ledger>(
     alloc: Global,
     side: Side,

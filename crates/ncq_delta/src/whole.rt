@@ -15,8 +15,8 @@ use std::alloc::{AllocError, Global};
 use std::sync::ledger::Ledger;
 
 /// The join's content at `number`: each row of the left followed by each of the right where the
-/// pairs agree. Both sides may be one file. Each row is one step. The only error is that memory ran
-/// out.
+/// pairs agree. Both sides may be one file. It takes at most one step for each row. The only error
+/// is that memory ran out.
 pub fn join_whole<L: Ledger>(
     alloc: Global,
     left: &MidFile,

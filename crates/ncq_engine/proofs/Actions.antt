@@ -1,5 +1,5 @@
 -- The names and kinds of handlers, one more of them, and the handler of an action.
-use Rattle.std.proofs.Common.{◌≡◌, ℕ, zero, suc, ◌+◌, ◌<◌, Bool, true, false, not, cond, List, [], ◌∷◌, ◌++◌, length, take, slice_get, refl, sym, ◌∙◌, ap, arith, true≢false, ◌⊎◌, inl, inr}
+use Rattle.std.proofs.Common.{◌≡◌, ℕ, zero, suc, ◌+◌, ◌<◌, Bool, true, false, not, cond, List, [], ◌∷◌, ◌++◌, length, take, slice_get, get_or, refl, sym, ◌∙◌, ap, arith, true≢false, ◌⊎◌, inl, inr}
 use mathlib.Core.Bool.{beq}
 use Rattle.std.specs.Prelude.{Option, Some, None, nat_lt, position, IfSome, if◌then◌else◌}
 use Rattle.std.specs.Option.{option_and_then, is_some, is_none}
@@ -10,8 +10,9 @@ use Rattle.ncq_callback.specs.Labels.{Label}
 use Rattle.ncq_callback.specs.declared.notice.Kind.{Kind}
 use Rattle.ncq_callback.specs.declared.notice.Kind.TheVariants.{Print, Count, MailTo}
 use Rattle.ncq_engine.specs.Applies.{kind_at}
-use Rattle.ncq_engine.specs.Notices.{kind_in}
+use Rattle.ncq_engine.specs.Notices.{kind_in, name_at}
 use Rattle.ncq_engine.specs.Output.{is_at_odds}
+use Rattle.ncq_engine.proofs.HistoryLaws.{key_is}
 
 -- one more name and kind
 next_label : (xs : List Label) (at : ℕ) (name : List ℕ) (kind : Kind) → at < length xs
@@ -60,6 +61,12 @@ kind_place name (d ∷ all) =
 
 pub found_kind : (name : List ℕ) (xs : List Label) (at : ℕ) → position (λ label. bytes_eq name label.0) xs ≡ Some at → kind_at xs at ≡ kind_in name xs
 found_kind name xs at e = ap (option_and_then (kind_at xs)) (sym e) ∙ kind_place name xs
+
+-- and its own name
+pub found_name : (name : List ℕ) (xs : List Label) (at : ℕ) (d : Label) → at < length xs → bytes_eq name (get_or xs at d).0 ≡ true → name_at xs at ≡ Some name
+found_name name [] at d less e = absurd (omega (arith, less))
+found_name name (x ∷ xs) zero d less e = ap (λ (n : List ℕ). Some n) (sym (key_is name x.0 e))
+found_name name (x ∷ xs) (suc at) d less e = found_name name xs at d (let l : at < length xs = omega (arith, less) in l) e
 
 pub no_kind : (name : List ℕ) (xs : List Label) → position (λ label. bytes_eq name label.0) xs ≡ None → kind_in name xs ≡ None
 no_kind name xs e = sym (kind_place name xs) ∙ ap (option_and_then (kind_at xs)) e

@@ -20,8 +20,9 @@ use Rattle.ncq_event.specs.Instants.{is_past, is_expired, due}
 use Rattle.ncq_engine.specs.History.{History, moved, now, is_delta, is_delta_of, changes, creates, last_change, Source, sources_after, sources, source_in, up_to, Subscription, start_of, created, timing_of, is_named, live}
 use Rattle.ncq_engine.specs.Firing.{sources_of, is_installed, is_new, has_news, is_told_of, marked, mark, fires}
 use Rattle.ncq_engine.specs.Notices.{Language, kind_in, rendered, answer_over, answer_at, notice_at, with_new, fired_at, firings}
-use Rattle.ncq_engine.specs.Output.{or_else, refused_if, delta_refusal, is_at_odds, ends_early, is_taken, first_refusal, with_accepted, after}
-use Rattle.ncq_engine.specs.Alone.{is_of_another, only, notices_of, unless_refused, notes}
+use Rattle.ncq_engine.specs.Output.{refused_if, delta_refusal, is_at_odds, ends_early, is_taken, first_refusal, with_accepted, after, unless_refused}
+use Rattle.std.specs.Option.{option_or}
+use Rattle.ncq_engine.specs.Alone.{is_of_another, only, notices_of, notes}
 use Rattle.ncq_engine.proofs.Lists.{times_push, times_append, times_filter, none_any, flat_map_append, filter_append, ordered_part}
 use Rattle.ncq_engine.proofs.HistoryLaws.{key_is, key_itself, Installed, installed, never, up_to_whole}
 
@@ -233,7 +234,7 @@ module _ (name : List ℕ) where
   module _ (language : Language) where
     not_taken : (statement : Statement) (h : History) → first_refusal language h (Create statement) ≡ None → is_taken statement.name h ≡ false
     not_taken statement h ok =
-        elim (is_taken statement.name h) as (λ t. or_else (refused_if t refusal.NameTaken) (or_else (language.binding statement.query (sources h)) (or_else (refused_if (is_at_odds (kind_in statement.action language.handlers) statement.argument) refusal.Action) (refused_if (ends_early statement (now h)) refusal.Times))) ≡ None → t ≡ false) [
+        elim (is_taken statement.name h) as (λ t. option_or (refused_if t refusal.NameTaken) (option_or (language.binding statement.query (sources h)) (option_or (refused_if (is_at_odds (kind_in statement.action language.handlers) statement.argument) refusal.Action) (refused_if (ends_early statement (now h)) refusal.Times))) ≡ None → t ≡ false) [
           | true ↦ λ e. cc
           | false ↦ λ e. refl
         ] ok
@@ -389,9 +390,9 @@ module _ (name : List ℕ) where
       refusal_agrees (Declare other root key) mine = ap (λ s. refused_if (is_some (source_in other s)) refusal.SourceExists) alike.sources_are
       refusal_agrees (Delta other items) mine = ap (λ s. delta_refusal items (source_in other s)) alike.sources_are
       refusal_agrees (Create statement) mine = λ i.
-          or_else (refused_if (taken_at statement.name mine i) refusal.NameTaken)
-          (or_else (language.binding statement.query (alike.sources_are i))
-          (or_else (refused_if (is_at_odds (kind_in statement.action language.handlers) statement.argument) refusal.Action)
+          option_or (refused_if (taken_at statement.name mine i) refusal.NameTaken)
+          (option_or (language.binding statement.query (alike.sources_are i))
+          (option_or (refused_if (is_at_odds (kind_in statement.action language.handlers) statement.argument) refusal.Action)
           (refused_if (ends_early statement (alike.now_is i)) refusal.Times)))
       refusal_agrees (Delete other) mine = ap (λ t. refused_if (not t) refusal.NoName) (taken_at other mine)
       refusal_agrees (Clock instant) mine = ap (λ n. refused_if (nat_lt instant n) refusal.Clock) alike.now_is
@@ -493,7 +494,7 @@ module _ (name : List ℕ) where
       quiet (Malformed why) e ok = cc
 
     abbrev rest_of : History → Command → List Command → Option Refusal → List ℕ
-    rest_of h command more r = unless_refused r (notices_of language name h command) ++ notes language name (with_accepted h command r) more
+    rest_of h command more r = unless_refused [] r (notices_of language name h command) ++ notes language name (with_accepted h command r) more
 
     pub alone : (commands : List Command) (h h' : History) → Alike h h' → notes language name h commands ≡ notes language name h' (only name commands)
     unfolding after

@@ -15,6 +15,8 @@ use Rattle.ncq_script.specs.declared.command.Command.TheVariants.{Delta}
 use Rattle.ncq_script.specs.declared.refusal.Refusal.{Refusal}
 use Rattle.ncq_script.specs.declared.refusal.Refusal.TheVariants as refusal
 use Rattle.ncq_source.specs.Changes.{prepared}
+use Rattle.ncq_source.specs.Faults.{fault_in}
+use Rattle.ncq_source.proofs.FaultLaws.{fault_in-prepared}
 use Rattle.ncq_source.specs.Changes.Trial.{Good}
 use Rattle.ncq_source.specs.ChangeStates.{ChangeState}
 use Rattle.ncq_source.specs.declared.change.ChangeError.{ChangeError}
@@ -22,24 +24,24 @@ use Rattle.ncq_source.specs.declared.change.ChangeError.TheVariants.{NoSource, B
 use Rattle.ncq_source.specs.Stores.{Source as Declared, without_room}
 use Rattle.ncq_source.specs.StoreStates.{StoreState, IsCommitted, TellsChange, found, names}
 use Rattle.ncq_source.proofs.Folds.{fold_of_entries}
-use Rattle.ncq_book.specs.declared.member.Member.{Member}
+use Rattle.ncq_book.specs.declared.subscription.Subscription.{Subscription as Kept}
 use Rattle.ncq_feed.specs.Feeds.{AreFed}
 use Rattle.ncq_group.specs.Tables.{TableState}
 use Rattle.ncq_shelf.specs.Contents.{AreUpTo, Fits}
-use Rattle.ncq_engine.specs.Engines.{CanTell, Pairwise, Told, is_told_change, last_in}
+use Rattle.ncq_engine.specs.Engines.{CanTell, Pairwise, NoticeText, is_told_change, last_in}
 use Rattle.ncq_engine.specs.Firing.{fires, is_installed, is_told_of, sources_of}
 use Rattle.ncq_engine.specs.History.{History, Subscription, changes, creates, creates as creates_of, last_change, live, now, source_in, sources, with_items, world}
 use Rattle.ncq_engine.specs.Languages.{language_of}
-use Rattle.ncq_engine.specs.Notices.{firings, notice_at, told}
-use Rattle.ncq_engine.specs.Output.{delta_refusal, notices, trial_refusal}
-use Rattle.ncq_engine.specs.Stands.{AreContents, EngineCore, Follows, Keeps, content_of}
+use Rattle.ncq_engine.specs.Notices.{firings, notice_at, firings_in_order}
+use Rattle.ncq_engine.specs.Output.{delta_refusal, notices}
+use Rattle.ncq_engine.specs.Stands.{AreContents, EngineState, Follows, Keeps, content_of}
 use Rattle.ncq_source.specs.Changes.{Trial}
 use Rattle.ncq_source.specs.declared.change.Entry.{Entry}
 use Rattle.ncq_engine.specs.declared.telling.Answered.{Answered}
 use Rattle.ncq_engine.specs.declared.engine.ApplyError.{ApplyError}
 use Rattle.ncq_engine.specs.declared.engine.ApplyError.TheVariants.{Refused}
 use Rattle.ncq_engine.specs.Applies.{Applies, change_refusal, ok_text, refused_change}
-use Rattle.ncq_engine.proofs.CommandLaws.{engine, place}
+use Rattle.ncq_engine.proofs.CommandLaws.{place}
 use Rattle.ncq_engine.proofs.ContentLaws.{contents_fed}
 use Rattle.ncq_engine.proofs.EngineLaws.{accepts, gives_up, refuses, rises_quietly}
 use Rattle.std.proofs.Common.{append_assoc}
@@ -62,19 +64,19 @@ and_swap true false true = refl
 and_swap true false false = refl
 and_swap false b c = refl
 
--- the instant at which a change fires a member
-abbrev pub changed_instant : List ℕ → ℕ → Member → Option ℕ
+-- the instant at which a change fires a subscription
+abbrev pub changed_instant : List ℕ → ℕ → Kept → Option ℕ
 changed_instant name clock m = if is_told_change name clock m then Some clock else None
 
 module _ (labels : List Label) (h : History) (name : List ℕ) (items : List Item) (clock : ℕ) (at_now : clock ≡ now h) where
-  fires_one : (s : Subscription) (m : Member) → Keeps labels h s m → s.install ≤ creates h → changed_instant name clock m ≡ fires s h (Delta name items)
+  fires_one : (s : Subscription) (m : Kept) → Keeps labels h s m → s.install ≤ creates h → changed_instant name clock m ≡ fires s h (Delta name items)
   fires_one s m k before =
       let here : is_installed s h ≡ true = grind (arith, nat_tests, before) in
       (λ i. if (k.timing i).every == 0 && nat_le (k.timing i).start (at_now i) && list_any (bytes_eq name) (k.sources i) then Some (at_now i) else None)
       ∙ (λ i. if and_swap (s.statement.every == 0) (nat_le s.start (now h)) (list_any (bytes_eq name) (sources_of s.statement)) i then Some (now h) else None)
       ∙ (λ i. if sym here i && is_told_of name s h then Some (now h) else None)
 
-  pub fires_each : (subs : List Subscription) (ms : List Member) → Pairwise (Keeps labels h) subs ms → Installed h subs
+  pub fires_each : (subs : List Subscription) (ms : List Kept) → Pairwise (Keeps labels h) subs ms → Installed h subs
       → Pairwise (λ s m. Keeps labels h s m × (changed_instant name clock m ≡ fires s h (Delta name items))) subs ms
   fires_each [] [] p i = tt
   fires_each [] (m ∷ ms) p i = absurd p
@@ -87,7 +89,7 @@ some_if true n = refl
 some_if false n = refl
 
 -- a change writes nothing down
-keep_noted : (labels : List Label) (h : History) (name : List ℕ) (items : List Item) (subs : List Subscription) (ms : List Member) → Pairwise (Keeps labels h) subs ms → AllByRecursion (FiresFirst h) subs
+keep_noted : (labels : List Label) (h : History) (name : List ℕ) (items : List Item) (subs : List Subscription) (ms : List Kept) → Pairwise (Keeps labels h) subs ms → AllByRecursion (FiresFirst h) subs
     → Pairwise (Keeps labels (Delta name items ∷ h)) subs ms
 keep_noted labels h name items [] [] p f = tt
 keep_noted labels h name items [] (m ∷ ms) p f = absurd p
@@ -102,8 +104,15 @@ fires_now h name items s d e = by (is_installed s h && is_told_of name s h) e
     by false q = absurd cc
 
 -- all are told in the order of their install numbers
-pub told_in_order : (h : History) (name : List ℕ) (items : List Item) → told h (Delta name items) ≡ firings h (Delta name items)
+pub told_in_order : (h : History) (name : List ℕ) (items : List Item) → firings_in_order h (Delta name items) ≡ firings h (Delta name items)
 told_in_order h name items = order_stays (λ (f : Firing × Subscription). f.0) (firings h (Delta name items)) (one_instant (now h) (λ s. fires s h (Delta name items)) (fires_now h name items) (live h) (live_rises h))
+
+-- the items are refused for what their trial says, and not where it is good
+trial_decides : (d : Declared) (items : List Item) → delta_refusal items (Some (content_of d)) ≡ option_and_then change_refusal (fault_in (prepared d.key 1 d.elements items))
+trial_decides d items = ap (option_and_then change_refusal) (sym (fault_in-prepared d.key 1 d.elements items))
+
+pub good_allowed : (d : Declared) (items : List Item) (entries : List Entry) → prepared d.key 1 d.elements items ≡ Good entries → delta_refusal items (Some (content_of d)) ≡ None
+good_allowed d items entries good = trial_decides d items ∙ ap (λ t. option_and_then change_refusal (fault_in t)) good
 
 -- a name that is found, and what stands there
 record Found (store : StoreState) (name : List ℕ) (at : ℕ) : Type 0 where
@@ -130,22 +139,19 @@ found_at store name at here =
       is = sym (source_named_is store name) ∙ ap (option_and_then (slice_get store.sources)) here ∙ f.1;
     }
 
-module _ (store ready after_store : StoreState) (clock count creates : ℕ) (labels : List Label) (members : List Member) (table fed : TableState) (name : List ℕ) (items : List Item) (change : ChangeState)
-    (here : found store name ≡ Some change.source.0) (alike : map without_room ready.sources ≡ map without_room store.sources) (as_many : ready.changes ≡ store.changes)
-    (good : (d : Declared) → slice_get store.sources change.source.0 ≡ Some d → prepared d.key 1 d.elements items ≡ Good change.entries)
+module _ (engine : EngineState) (ready after_store : StoreState) (fed : TableState) (name : List ℕ) (items : List Item) (change : ChangeState)
+    (here : found engine.store name ≡ Some change.source.0) (alike : map without_room ready.sources ≡ map without_room engine.store.sources) (as_many : ready.changes ≡ engine.store.changes)
+    (good : (d : Declared) → slice_get engine.store.sources change.source.0 ≡ Some d → prepared d.key 1 d.elements items ≡ Good change.entries)
     (committed : IsCommitted ready change after_store) where
-  abbrev old_engine : EngineCore
-  old_engine = engine store clock count creates labels members table
-
   at : ℕ
   at = change.source.0
 
   -- the source before the room was taken, and after
-  before : Found store name change.source.0
-  before = found_at store name change.source.0 here
+  before : Found engine.store name change.source.0
+  before = found_at engine.store name change.source.0 here
 
   here_ready : found ready name ≡ Some change.source.0
-  here_ready = ap (position (bytes_eq name)) (same_names store.sources ready.sources alike) ∙ here
+  here_ready = ap (position (bytes_eq name)) (same_names engine.store.sources ready.sources alike) ∙ here
 
   roomy : Found ready name change.source.0
   roomy = found_at ready name change.source.0 here_ready
@@ -155,19 +161,19 @@ module _ (store ready after_store : StoreState) (clock count creates : ℕ) (lab
   last_either asked =
       let c = committed.sources roomy.source roomy.there in
       elim (bytes_eq asked name) as (λ t. bytes_eq asked name ≡ t → (last_in after_store asked ≡ after_store.changes) ⊎ (last_in after_store asked ≡ last_in ready asked)) [
-        | true ↦ λ e. inl (last_changed store ready after_store name change.source.0 roomy.source c.0 here_ready roomy.there c.1 c.2.name roomy.own roomy.first roomy.is asked e ∙ c.2.last)
-        | false ↦ λ e. inr (last_unchanged store ready after_store name change.source.0 roomy.source c.0 here_ready roomy.there c.1 c.2.name roomy.own roomy.first roomy.is asked e)
+        | true ↦ λ e. inl (last_changed engine.store ready after_store name change.source.0 roomy.source c.0 here_ready roomy.there c.1 c.2.name roomy.own roomy.first roomy.is asked e ∙ c.2.last)
+        | false ↦ λ e. inr (last_unchanged engine.store ready after_store name change.source.0 roomy.source c.0 here_ready roomy.there c.1 c.2.name roomy.own roomy.first roomy.is asked e)
       ] refl
 
-  module _ (h : History) (s : Follows old_engine h) where
+  module _ (h : History) (s : Follows engine h) where
     pub delta_allowed : delta_refusal items (source_in name (sources h)) ≡ None
     delta_allowed =
-        ap (delta_refusal items) (ap (source_in name) (sym s.sources) ∙ is_found name store.sources change.source.0 before.source here before.there)
-        ∙ ap trial_refusal (good before.source before.there)
+        ap (delta_refusal items) (ap (source_in name) (sym s.sources) ∙ is_found name engine.store.sources change.source.0 before.source here before.there)
+        ∙ good_allowed before.source items change.entries (good before.source before.there)
 
     sources_are : map content_of after_store.sources ≡ sources (Delta name items ∷ h)
     sources_are =
-        moved_by name items store.sources ready.sources after_store.sources change.source.0 before.source change.entries after_store.changes here before.there alike committed.sources
+        moved_by name items engine.store.sources ready.sources after_store.sources change.source.0 before.source change.entries after_store.changes here before.there alike committed.sources
         (fold_of_entries before.source.key 1 before.source.elements items change.entries (good before.source before.there)).0
         ∙ ap (with_items name items) s.sources
 
@@ -179,128 +185,127 @@ module _ (store ready after_store : StoreState) (clock count creates : ℕ) (lab
         let c = committed.sources roomy.source roomy.there in
         elim (bytes_eq asked name) as (λ t. bytes_eq asked name ≡ t → last_in after_store asked ≡ (if t then changes (Delta name items ∷ h) else last_change asked h)) [
           | true ↦ λ e.
-              last_changed store ready after_store name change.source.0 roomy.source c.0 here_ready roomy.there c.1 c.2.name roomy.own roomy.first roomy.is asked e ∙ c.2.last ∙ changes_are
+              last_changed engine.store ready after_store name change.source.0 roomy.source c.0 here_ready roomy.there c.1 c.2.name roomy.own roomy.first roomy.is asked e ∙ c.2.last ∙ changes_are
           | false ↦ λ e.
-              last_unchanged store ready after_store name change.source.0 roomy.source c.0 here_ready roomy.there c.1 c.2.name roomy.own roomy.first roomy.is asked e
-              ∙ last_alike store ready asked alike ∙ s.last asked
+              last_unchanged engine.store ready after_store name change.source.0 roomy.source c.0 here_ready roomy.there c.1 c.2.name roomy.own roomy.first roomy.is asked e
+              ∙ last_alike engine.store ready asked alike ∙ s.last asked
         ] refl
 
     same_world : world (sources (Delta name items ∷ h)) ≡ world_in after_store
     same_world = world_is after_store (sources (Delta name items ∷ h)) sources_are
 
-    firing : Pairwise (λ s m. Keeps labels h s m × (changed_instant name clock m ≡ fires s h (Delta name items))) (live h) members
-    firing = fires_each labels h name items clock s.clock (live h) members s.members (installed h)
+    firing : Pairwise (λ s m. Keeps engine.labels h s m × (changed_instant name engine.clock m ≡ fires s h (Delta name items))) (live h) engine.subscriptions
+    firing = fires_each engine.labels h name items engine.clock s.clock (live h) engine.subscriptions s.subscriptions (installed h)
 
     -- the last changes as the store with room tells them
     last_ready : (asked : List ℕ) → last_in ready asked ≡ last_change asked h
-    last_ready asked = last_alike store ready asked alike ∙ s.last asked
+    last_ready asked = last_alike engine.store ready asked alike ∙ s.last asked
 
-    contents_are : AreFed ready change table.files fed.files → Fits (store.changes + 1) (world_in after_store) fed.files → AreContents fed.files (Delta name items ∷ h)
+    contents_are : AreFed ready change engine.table.files fed.files → Fits (engine.store.changes + 1) (world_in after_store) fed.files → AreContents fed.files (Delta name items ∷ h)
     contents_are done fits =
-        contents_fed ready change table.files fed.files h (Delta name items) done (as_many ∙ s.changes) (let e : changes (Delta name items ∷ h) ≡ changes h + 1 = omega arith in e)
-        (subst (λ n. Fits n (world (sources (Delta name items ∷ h))) fed.files) (ap (λ n. n + 1) s.changes) (subst (λ w. Fits (store.changes + 1) w fed.files) (sym same_world) fits))
+        contents_fed ready change engine.table.files fed.files h (Delta name items) done (as_many ∙ s.changes) (let e : changes (Delta name items ∷ h) ≡ changes h + 1 = omega arith in e)
+        (subst (λ n. Fits n (world (sources (Delta name items ∷ h))) fed.files) (ap (λ n. n + 1) s.changes) (subst (λ w. Fits (engine.store.changes + 1) w fed.files) (sym same_world) fits))
         s.contents
 
     -- the engine with its files after the change
-    pub delta_follows : AreContents fed.files (Delta name items ∷ h) → Follows (engine after_store clock (count + 1) creates labels members fed) (Delta name items ∷ h)
+    pub delta_follows : AreContents fed.files (Delta name items ∷ h) → Follows (record engine { store = after_store; count = engine.count + 1; table = fed }) (Delta name items ∷ h)
     delta_follows contents = record {
       sources = sources_are;
       last = last_is;
       changes = changes_are;
       clock = s.clock;
       creates = s.creates ∙ sym (zero-add (creates_of h));
-      members = keep_noted labels h name items (live h) members s.members (all_fired h);
+      subscriptions = keep_noted engine.labels h name items (live h) engine.subscriptions s.subscriptions (all_fired h);
       contents = contents;
       rising = rises_quietly h (Delta name items) refl s.rising;
     }
 
-    list_is : AreContents fed.files (Delta name items ∷ h) → AreUpTo (changes (Delta name items ∷ h)) fed.files → AllByRecursion (CanTell labels ready fed) members
-        → told_of labels ready fed.files (changed_instant name clock) members ≡ map (noticed labels h (Delta name items) ready fed.files) (firings h (Delta name items))
-    list_is contents upto can = told_list labels h (Delta name items) ready fed.files (changed_instant name clock) (live h) members
-        (tells_each labels h (Delta name items) ready fed last_ready s.rising contents upto (changed_instant name clock) (live h) members firing can)
+    list_is : AreContents fed.files (Delta name items ∷ h) → AreUpTo (changes (Delta name items ∷ h)) fed.files → AllByRecursion (CanTell engine.labels ready fed) engine.subscriptions
+        → told_of engine.labels ready fed.files (changed_instant name engine.clock) engine.subscriptions ≡ map (noticed engine.labels h (Delta name items) ready fed.files) (firings h (Delta name items))
+    list_is contents upto can = told_list engine.labels h (Delta name items) ready fed.files (changed_instant name engine.clock) (live h) engine.subscriptions
+        (tells_each engine.labels h (Delta name items) ready fed last_ready s.rising contents upto (changed_instant name engine.clock) (live h) engine.subscriptions firing can)
 
     -- what is told, and where it stands
-    pub delta_texts : AreContents fed.files (Delta name items ∷ h) → AreUpTo (changes (Delta name items ∷ h)) fed.files → AllByRecursion (CanTell labels ready fed) members
-        → flat_map (λ (t : Told). t.text) (told_of labels ready fed.files (changed_instant name clock) members) ≡ notices (language_of labels) h (Delta name items)
+    pub delta_texts : AreContents fed.files (Delta name items ∷ h) → AreUpTo (changes (Delta name items ∷ h)) fed.files → AllByRecursion (CanTell engine.labels ready fed) engine.subscriptions
+        → flat_map (λ (t : NoticeText). t.text) (told_of engine.labels ready fed.files (changed_instant name engine.clock) engine.subscriptions) ≡ notices (language_of engine.labels) h (Delta name items)
     delta_texts contents upto can =
-        ap (flat_map (λ (t : Told). t.text)) (list_is contents upto can)
-        ∙ texts_of labels h (Delta name items) ready fed.files (firings h (Delta name items))
-        ∙ ap (flat_map (notice_at (language_of labels) h (Delta name items))) (sym (told_in_order h name items))
+        ap (flat_map (λ (t : NoticeText). t.text)) (list_is contents upto can)
+        ∙ texts_of engine.labels h (Delta name items) ready fed.files (firings h (Delta name items))
+        ∙ ap (flat_map (notice_at (language_of engine.labels) h (Delta name items))) (sym (told_in_order h name items))
 
-    pub delta_spans : AreContents fed.files (Delta name items ∷ h) → AreUpTo (changes (Delta name items ∷ h)) fed.files → AllByRecursion (CanTell labels ready fed) members
-        → (from : ℕ) → told_spans from (told_of labels ready fed.files (changed_instant name clock) members) ≡ spans (language_of labels) h (Delta name items) from
+    pub delta_spans : AreContents fed.files (Delta name items ∷ h) → AreUpTo (changes (Delta name items ∷ h)) fed.files → AllByRecursion (CanTell engine.labels ready fed) engine.subscriptions
+        → (from : ℕ) → told_spans from (told_of engine.labels ready fed.files (changed_instant name engine.clock) engine.subscriptions) ≡ spans (language_of engine.labels) h (Delta name items) from
     delta_spans contents upto can from =
         ap (told_spans from) (list_is contents upto can)
-        ∙ spans_are labels h (Delta name items) ready fed.files from (firings h (Delta name items))
-        ∙ ap (fired_spans labels h (Delta name items) ready fed.files from) (sym (told_in_order h name items))
+        ∙ spans_are engine.labels h (Delta name items) ready fed.files from (firings h (Delta name items))
+        ∙ ap (fired_spans engine.labels h (Delta name items) ready fed.files from) (sym (told_in_order h name items))
 
-  -- the texts, and where they stand, are those of the members that the change concerns
+  -- the texts, and where they stand, are those of the subscriptions that the change concerns
   abbrev pub AreOfConcerned : List ℕ → ℕ → List Span → Type 0
-  AreOfConcerned texts from places = (h : History) → Follows old_engine h → AreContents fed.files (Delta name items ∷ h) → AreUpTo (changes (Delta name items ∷ h)) fed.files
-      → (texts ≡ flat_map (λ (t : Told). t.text) (told_of labels ready fed.files (changed_instant name clock) members))
-      × (places ≡ told_spans from (told_of labels ready fed.files (changed_instant name clock) members))
+  AreOfConcerned texts from places = (h : History) → Follows engine h → AreContents fed.files (Delta name items ∷ h) → AreUpTo (changes (Delta name items ∷ h)) fed.files
+      → (texts ≡ flat_map (λ (t : NoticeText). t.text) (told_of engine.labels ready fed.files (changed_instant name engine.clock) engine.subscriptions))
+      × (places ≡ told_spans from (told_of engine.labels ready fed.files (changed_instant name engine.clock) engine.subscriptions))
 
   -- an accepted change, from what the calls give
-  pub change_accepted : AreFed ready change table.files fed.files → Fits (store.changes + 1) (world_in after_store) fed.files → AreUpTo (store.changes + 1) fed.files → AllByRecursion (CanTell labels ready fed) members
+  pub change_accepted : AreFed ready change engine.table.files fed.files → Fits (engine.store.changes + 1) (world_in after_store) fed.files → AreUpTo (engine.store.changes + 1) fed.files → AllByRecursion (CanTell engine.labels ready fed) engine.subscriptions
       → (texts : List ℕ) (places : List Span) (out out1 out' : List ℕ) → AreOfConcerned texts (length out1) places → (applied first : Answered)
-      → out1 ≡ out ++ ok_text (count + 1) → out' ≡ out1 ++ texts
+      → out1 ≡ out ++ ok_text (engine.count + 1) → out' ≡ out1 ++ texts
       → first ≡ record { from = length out1; to = length out1; spans = [] } → applied ≡ record { from = first.from; to = length out'; spans = places }
-      → Applies old_engine (Delta name items) out (Ok applied) (engine after_store clock (count + 1) creates labels members fed) out'
+      → Applies engine (Delta name items) out (Ok applied) (record engine { store = after_store; count = engine.count + 1; table = fed }) out'
   change_accepted done fits upto can texts places out out1 out' concerned applied first line text first_is applied_is =
-      accepts old_engine (Delta name items) out applied (engine after_store clock (count + 1) creates labels members fed) out' texts []
+      accepts engine (Delta name items) out applied (record engine { store = after_store; count = engine.count + 1; table = fed }) out' texts []
       (record {
-        accepted = λ h s. (delta_allowed h s, delta_follows h s (contents_are h s done fits));
+        accepted = λ h s. delta_allowed h s;
+        follows = λ h s. delta_follows h s (contents_are h s done fits);
         tells = λ h s. (concerned h s (contents_are h s done fits) (upto_now h s)).0 ∙ delta_texts h s (contents_are h s done fits) (upto_now h s) can;
         stand = λ h s. ap (λ (a : Answered). a.spans) applied_is ∙ (concerned h s (contents_are h s done fits) (upto_now h s)).1 ∙ delta_spans h s (contents_are h s done fits) (upto_now h s) can (length out1)
-            ∙ ap (spans (language_of labels) h (Delta name items)) (sym begins);
+            ∙ ap (spans (language_of engine.labels) h (Delta name items)) (sym begins);
         ends = λ h s. refl;
         counted = refl;
         named = refl;
       })
-      (whole ∙ sym (append-nil ((out ++ ok_text (count + 1)) ++ texts)) ∙ append_assoc (out ++ ok_text (count + 1)) texts [])
+      (whole ∙ sym (append-nil ((out ++ ok_text (engine.count + 1)) ++ texts)) ∙ append_assoc (out ++ ok_text (engine.count + 1)) texts [])
       (begins ∙ ap length line)
       (ap (λ (a : Answered). a.to) applied_is ∙ ap length whole)
     where
       begins : applied.from ≡ length out1
       begins = ap (λ (a : Answered). a.from) applied_is ∙ ap (λ (a : Answered). a.from) first_is
 
-      upto_now : (h : History) → Follows old_engine h → AreUpTo (changes (Delta name items ∷ h)) fed.files
-      upto_now h s = subst (λ n. AreUpTo n fed.files) (let e = s.changes in (let q : store.changes + 1 ≡ changes (Delta name items ∷ h) = omega (arith, e) in q)) upto
+      upto_now : (h : History) → Follows engine h → AreUpTo (changes (Delta name items ∷ h)) fed.files
+      upto_now h s = subst (λ n. AreUpTo n fed.files) (let e = s.changes in (let q : engine.store.changes + 1 ≡ changes (Delta name items ∷ h) = omega (arith, e) in q)) upto
 
-      whole : out' ≡ (out ++ ok_text (count + 1)) ++ texts
+      whole : out' ≡ (out ++ ok_text (engine.count + 1)) ++ texts
       whole = text ∙ (λ i. line i ++ texts)
 
 -- a delta that is refused
-module _ (store : StoreState) (clock count creates : ℕ) (labels : List Label) (members : List Member) (table : TableState) (name asked : List ℕ) (items : List Item) (called : asked ≡ name) (result : Result ChangeState ChangeError)
-    (none : result ≡ Err NoSource → found store asked ≡ None) (only : found store asked ≡ None → result ≡ Err NoSource)
-    (some : (at : ℕ) (d : Declared) → found store asked ≡ Some at → slice_get store.sources at ≡ Some d → TellsChange result at (prepared d.key 1 d.elements items))
-    (out : List ℕ) (answer : Result Answered ApplyError) (new : EngineCore) (out' : List ℕ) (untouched : out' ≡ out) where
-  abbrev was : EngineCore
-  was = engine store clock count creates labels members table
+module _ (engine : EngineState) (name asked : List ℕ) (items : List Item) (called : asked ≡ name) (result : Result ChangeState ChangeError)
+    (none : result ≡ Err NoSource → found engine.store asked ≡ None) (only : found engine.store asked ≡ None → result ≡ Err NoSource)
+    (some : (at : ℕ) (d : Declared) → found engine.store asked ≡ Some at → slice_get engine.store.sources at ≡ Some d → TellsChange result at (prepared d.key 1 d.elements items))
+    (out : List ℕ) (answer : Result Answered ApplyError) (new : EngineState) (out' : List ℕ) (untouched : out' ≡ out) where
+  refused_for : (why : Refusal) → answer ≡ Err (Refused why) → new ≡ record engine { count = engine.count + 1 }
+      → ((h : History) → Follows engine h → delta_refusal items (source_in name (sources h)) ≡ Some why) → Applies engine (Delta name items) out answer new out'
+  refused_for why is same because = refuses engine (Delta name items) why out answer new out' is same untouched because
 
-  refused_for : (why : Refusal) → answer ≡ Err (Refused why) → new ≡ engine store clock (count + 1) creates labels members table
-      → ((h : History) → Follows was h → delta_refusal items (source_in name (sources h)) ≡ Some why) → Applies was (Delta name items) out answer new out'
-  refused_for why is same because = refuses was (Delta name items) why out answer new out' is same untouched because
-
-  missing : (h : History) → Follows was h → result ≡ Err NoSource → delta_refusal items (source_in name (sources h)) ≡ Some refusal.NoSource
-  missing h s is = ap (delta_refusal items) (ap (source_in name) (sym s.sources) ∙ not_found name store.sources (ap (found store) (sym called) ∙ none is))
+  missing : (h : History) → Follows engine h → result ≡ Err NoSource → delta_refusal items (source_in name (sources h)) ≡ Some refusal.NoSource
+  missing h s is = ap (delta_refusal items) (ap (source_in name) (sym s.sources) ∙ not_found name engine.store.sources (ap (found engine.store) (sym called) ∙ none is))
 
   item_fails : (error : ChangeError) (why : Refusal) → result ≡ Err error → (error ≡ NoSource → ⊥)
-      → ((at : ℕ) (t : Trial (List Entry)) → TellsChange (Err error) at t → trial_refusal t ≡ Some why)
-      → (h : History) → Follows was h → delta_refusal items (source_in name (sources h)) ≡ Some why
-  item_fails error why is other tells h s = elim (place store name) [
-    | inl gone ↦ absurd (other (let e : ◌≡◌ {A = Result ChangeState ChangeError} (Err error) (Err NoSource) = sym is ∙ only (ap (found store) called ∙ gone) in cc))
+      → ((at : ℕ) (t : Trial (List Entry)) → TellsChange (Err error) at t → option_and_then change_refusal (fault_in t) ≡ Some why)
+      → (h : History) → Follows engine h → delta_refusal items (source_in name (sources h)) ≡ Some why
+  item_fails error why is other tells h s = elim (place engine.store name) [
+    | inl gone ↦ absurd (other (let e : ◌≡◌ {A = Result ChangeState ChangeError} (Err error) (Err NoSource) = sym is ∙ only (ap (found engine.store) called ∙ gone) in cc))
     | inr p ↦
-        ap (delta_refusal items) (ap (source_in name) (sym s.sources) ∙ is_found name store.sources p.0 p.1 p.2 p.3)
-        ∙ tells p.0 (prepared p.1.key 1 p.1.elements items) (subst (λ (r : Result ChangeState ChangeError). TellsChange r p.0 (prepared p.1.key 1 p.1.elements items)) is (some p.0 p.1 (ap (found store) called ∙ p.2) p.3))
+        ap (delta_refusal items) (ap (source_in name) (sym s.sources) ∙ is_found name engine.store.sources p.0 p.1 p.2 p.3)
+        ∙ trial_decides p.1 items
+        ∙ tells p.0 (prepared p.1.key 1 p.1.elements items) (subst (λ (r : Result ChangeState ChangeError). TellsChange r p.0 (prepared p.1.key 1 p.1.elements items)) is (some p.0 p.1 (ap (found engine.store) called ∙ p.2) p.3))
   ]
 
   pub change_refused : (error : ChangeError) → result ≡ Err error → answer ≡ Err (refused_change error)
-      → IfSome (change_refusal error) (λ _. new ≡ engine store clock (count + 1) creates labels members table) → Applies was (Delta name items) out answer new out'
+      → IfSome (change_refusal error) (λ _. new ≡ record engine { count = engine.count + 1 }) → Applies engine (Delta name items) out answer new out'
   change_refused NoSource is a e = refused_for refusal.NoSource a e (λ h s. missing h s is)
-  change_refused (BadKey position) is a e = refused_for (refusal.Key position) a e (item_fails (BadKey position) (refusal.Key position) is (λ q. cc) (λ at t g. ap trial_refusal g))
-  change_refused (NoSuchKey position) is a e = refused_for (refusal.NoKey position) a e (item_fails (NoSuchKey position) (refusal.NoKey position) is (λ q. cc) (λ at t g. ap trial_refusal g))
-  change_refused NoMemory is a e = gives_up was (Delta name items) out answer new out' a
+  change_refused (BadKey position) is a e = refused_for (refusal.Key position) a e (item_fails (BadKey position) (refusal.Key position) is (λ q. cc) (λ at t g. ap (λ t. option_and_then change_refusal (fault_in t)) g))
+  change_refused (NoSuchKey position) is a e = refused_for (refusal.NoKey position) a e (item_fails (NoSuchKey position) (refusal.NoKey position) is (λ q. cc) (λ at t g. ap (λ t. option_and_then change_refusal (fault_in t)) g))
+  change_refused NoMemory is a e = gives_up engine (Delta name items) out answer new out' a
 
 -- what a prepared change has, for the source that it was prepared for
 pub good_entries : (store : StoreState) (name : List ℕ) (items : List Item) (result : Result ChangeState ChangeError) (change : ChangeState) → result ≡ Ok change

@@ -11,20 +11,19 @@ use Rattle.ncq_script.specs.declared.refusal.Refusal.TheVariants as refusal
 use Rattle.ncq_source.specs.StoreStates.{StoreState}
 use Rattle.ncq_xmlql.specs.declared.model.Statement.{Statement}
 use Rattle.ncq_engine.specs.declared.telling.Answered.{Answered}
-use Rattle.ncq_book.specs.declared.member.Member.{Member}
+use Rattle.ncq_book.specs.declared.subscription.Subscription.{Subscription as Kept}
 use Rattle.ncq_group.specs.Tables.{TableState}
 use Rattle.ncq_shelf.specs.Contents.{AreUpTo}
 use Rattle.ncq_engine.specs.Marks.{IsRising, first_mark}
 use Rattle.ncq_engine.specs.Tellings.{AreOf}
-use Rattle.ncq_engine.specs.Applies.{Applies, expired_name, ok_text}
-use Rattle.ncq_engine.specs.Engines.{CanTell, Pairwise, Told, fired_if, has_news_in, last_in, moved_instant}
+use Rattle.ncq_engine.specs.Applies.{Applies, ok_text}
+use Rattle.ncq_engine.specs.Engines.{CanTell, Pairwise, NoticeText, fired_if, has_news_in, last_in, moved_instant}
 use Rattle.ncq_engine.specs.Firing.{fires, has_news, is_installed, mark, sources_of}
 use Rattle.ncq_engine.specs.History.{History, Subscription, changes, creates as creates_of, last_change, live, now, timing_of}
 use Rattle.ncq_engine.specs.Languages.{language_of}
 use Rattle.ncq_engine.specs.Notices.{firings}
 use Rattle.ncq_engine.specs.Output.{expired_line, expired_text, notices, refused_if}
-use Rattle.ncq_engine.specs.Stands.{AreContents, EngineCore, Follows, Keeps}
-use Rattle.ncq_engine.proofs.CommandLaws.{engine}
+use Rattle.ncq_engine.specs.Stands.{AreContents, EngineState, Follows, Keeps}
 use Rattle.ncq_engine.proofs.EngineLaws.{accepts, pairwise_filter, pairwise_texts}
 use Rattle.ncq_engine.proofs.HistoryLaws.{Installed, installed}
 use Rattle.ncq_engine.proofs.ContentLaws.{contents_left, contents_stay}
@@ -42,15 +41,15 @@ module _ (labels : List Label) (h : History) (store : StoreState) (last : (name 
   news_is None statement = refl
   news_is (Some number) statement = news_any number (sources_of statement)
 
-  -- a move of the clock fires a member where it fires its subscription
-  moved_one : (s : Subscription) (m : Member) → Keeps labels h s m → s.install ≤ creates_of h → moved_instant store clock instant m ≡ fires s h (Clock instant)
+  -- a move of the clock fires a subscription where it fires its subscription
+  moved_one : (s : Subscription) (m : Kept) → Keeps labels h s m → s.install ≤ creates_of h → moved_instant store clock instant m ≡ fires s h (Clock instant)
   moved_one s m k before =
       let here : is_installed s h ≡ true = grind (arith, nat_tests, before) in
       (λ i. if has_news_in store (mark_is labels h s m k rising store last i) (k.sources i) then due (k.timing i) (at_now i) instant else None)
       ∙ (λ i. if news_is (mark s h) s.statement i then due (timing_of s) (now h) instant else None)
       ∙ (λ i. if sym here i && has_news (mark s h) s.statement h then due (timing_of s) (now h) instant else None)
 
-  pub moved_each : (subs : List Subscription) (ms : List Member) → Pairwise (Keeps labels h) subs ms → Installed h subs
+  pub moved_each : (subs : List Subscription) (ms : List Kept) → Pairwise (Keeps labels h) subs ms → Installed h subs
       → Pairwise (λ s m. Keeps labels h s m × (moved_instant store clock instant m ≡ fires s h (Clock instant))) subs ms
   moved_each [] [] p i = tt
   moved_each [] (m ∷ ms) p i = absurd p
@@ -66,97 +65,95 @@ module _ (labels : List Label) (h : History) (store : StoreState) (last : (name 
       by (Some number) e = absurd (let bad : Some at ≡ None = sym fired ∙ clock_quiet s h instant based rising number e in cc)
 
   -- so the test that the code makes agrees
-  pub moved_agree : (subs : List Subscription) (ms : List Member) → Pairwise (λ s m. Keeps labels h s m × (moved_instant store clock instant m ≡ fires s h (Clock instant))) subs ms
+  pub moved_agree : (subs : List Subscription) (ms : List Kept) → Pairwise (λ s m. Keeps labels h s m × (moved_instant store clock instant m ≡ fires s h (Clock instant))) subs ms
       → Pairwise (λ s m. Keeps labels h s m × (Agrees (is_some (moved_instant store clock instant m)) (fires s h (Clock instant)) × IsFirst s h (Clock instant))) subs ms
   moved_agree [] [] p = tt
   moved_agree [] (m ∷ ms) p = absurd p
   moved_agree (s ∷ subs) [] p = absurd p
   moved_agree (s ∷ subs) (m ∷ ms) p = ((p.0.0, (ap is_some p.0.1, first_moved s)), moved_agree subs ms p.1)
 
--- those that a move of the clock leaves on the roll
-abbrev pub unexpired : ℕ → List Member → List Member
+-- those that a move of the clock leaves on the live table
+abbrev pub unexpired : ℕ → List Kept → List Kept
 unexpired instant ms = filter (λ m. not (is_expired m.timing instant)) ms
 
 -- the lines of those that it takes off
-abbrev pub expired_names : ℕ → List Member → List ℕ
-expired_names instant ms = flat_map (λ m. expired_name m.name) (filter (λ m. is_expired m.timing instant) ms)
+abbrev pub expired_names : ℕ → List Kept → List ℕ
+expired_names instant ms = flat_map (λ m. expired_line m.name) (filter (λ m. is_expired m.timing instant) ms)
 
-module _ (store : StoreState) (clock count creates : ℕ) (labels : List Label) (members : List Member) (table : TableState) (instant : ℕ) where
-  abbrev old_engine : EngineCore
-  old_engine = engine store clock count creates labels members table
-
-  -- what the code tells the members
-  abbrev pub moved_list : List Told
-  moved_list = told_of labels store table.files (moved_instant store clock instant) members
+module _ (engine : EngineState) (instant : ℕ) where
+  -- what the code tells the subscriptions
+  abbrev pub moved_list : List NoticeText
+  moved_list = told_of engine.labels engine.store engine.table.files (moved_instant engine.store engine.clock instant) engine.subscriptions
 
   abbrev pub moved_text : List ℕ
-  moved_text = flat_map (λ (t : Told). t.text) (ordered_by (λ (t : Told). t.firing) moved_list)
+  moved_text = flat_map (λ (t : NoticeText). t.text) (ordered_by (λ (t : NoticeText). t.firing) moved_list)
 
-  -- the members behind the move, before those that expire are taken off
-  abbrev pub moved_members : List Member
-  moved_members = map (λ m. fired_if (is_some (moved_instant store clock instant m)) store m) members
+  -- the subscriptions behind the move, before those that expire are taken off
+  abbrev pub moved_subscriptions : List Kept
+  moved_subscriptions = map (λ m. fired_if (is_some (moved_instant engine.store engine.clock instant m)) engine.store m) engine.subscriptions
 
-  module _ (upto : AreUpTo store.changes table.files) (can : AllByRecursion (CanTell labels store table) members) (h : History) (s : Follows old_engine h) where
-    changes_are : store.changes ≡ changes (Clock instant ∷ h)
+  module _ (upto : AreUpTo engine.store.changes engine.table.files) (can : AllByRecursion (CanTell engine.labels engine.store engine.table) engine.subscriptions) (h : History) (s : Follows engine h) where
+    changes_are : engine.store.changes ≡ changes (Clock instant ∷ h)
     changes_are = s.changes ∙ sym (zero-add (changes h))
 
-    firing : Pairwise (λ s m. Keeps labels h s m × (moved_instant store clock instant m ≡ fires s h (Clock instant))) (live h) members
-    firing = moved_each labels h store s.last s.rising clock instant s.clock (live h) members s.members (installed h)
+    firing : Pairwise (λ s m. Keeps engine.labels h s m × (moved_instant engine.store engine.clock instant m ≡ fires s h (Clock instant))) (live h) engine.subscriptions
+    firing = moved_each engine.labels h engine.store s.last s.rising engine.clock instant s.clock (live h) engine.subscriptions s.subscriptions (installed h)
 
-    kept : Pairwise (Keeps labels (Clock instant ∷ h)) (live h) moved_members
+    kept : Pairwise (Keeps engine.labels (Clock instant ∷ h)) (live h) moved_subscriptions
     kept =
-        keep_all labels h (Clock instant) store changes_are (λ m. is_some (moved_instant store clock instant m)) (live h) members
-        (moved_agree labels h store s.last s.rising clock instant s.clock (live h) members firing)
+        keep_all engine.labels h (Clock instant) engine.store changes_are (λ m. is_some (moved_instant engine.store engine.clock instant m)) (live h) engine.subscriptions
+        (moved_agree engine.labels h engine.store s.last s.rising engine.clock instant s.clock (live h) engine.subscriptions firing)
 
-    contents_are : AreContents table.files (Clock instant ∷ h)
-    contents_are = contents_stay table.files h (Clock instant) (zero-add (changes h)) s.contents
+    contents_are : AreContents engine.table.files (Clock instant ∷ h)
+    contents_are = contents_stay engine.table.files h (Clock instant) (zero-add (changes h)) s.contents
 
-    -- the engine with its members after the move
-    clock_follows : nat_lt instant clock ≡ false → (left : TableState) → AreOf table.files left.files → Follows (engine store instant (count + 1) creates labels (unexpired instant moved_members) left) (Clock instant ∷ h)
+    -- the engine with its subscriptions after the move
+    clock_follows : nat_lt instant engine.clock ≡ false → (left : TableState) → AreOf engine.table.files left.files → Follows (record engine { clock = instant; count = engine.count + 1; subscriptions = unexpired instant moved_subscriptions; table = left }) (Clock instant ∷ h)
     clock_follows later left fewer = record {
       sources = s.sources;
       last = s.last;
       changes = changes_are;
       clock = refl;
       creates = s.creates ∙ sym (zero-add (creates_of h));
-      members = pairwise_filter (Keeps labels (Clock instant ∷ h)) (λ s. not (is_expired (timing_of s) instant)) (λ m. not (is_expired m.timing instant))
-          (λ s m k. ap (λ t. not (is_expired t instant)) (sym k.timing)) (live h) moved_members kept;
-      contents = contents_left table.files left.files (Clock instant ∷ h) fewer contents_are;
+      subscriptions = pairwise_filter (Keeps engine.labels (Clock instant ∷ h)) (λ s. not (is_expired (timing_of s) instant)) (λ m. not (is_expired m.timing instant))
+          (λ s m k. ap (λ t. not (is_expired t instant)) (sym k.timing)) (live h) moved_subscriptions kept;
+      contents = contents_left engine.table.files left.files (Clock instant ∷ h) fewer contents_are;
       rising = ((let c = s.clock in let l : now h ≤ instant = grind (arith, nat_tests, later, c) in l), s.rising);
     }
 
-    list_is : moved_list ≡ map (noticed labels h (Clock instant) store table.files) (firings h (Clock instant))
-    list_is = told_list labels h (Clock instant) store table.files (moved_instant store clock instant) (live h) members
-        (tells_each labels h (Clock instant) store table s.last s.rising contents_are (subst (λ n. AreUpTo n table.files) changes_are upto) (moved_instant store clock instant) (live h) members firing can)
+    list_is : moved_list ≡ map (noticed engine.labels h (Clock instant) engine.store engine.table.files) (firings h (Clock instant))
+    list_is = told_list engine.labels h (Clock instant) engine.store engine.table.files (moved_instant engine.store engine.clock instant) (live h) engine.subscriptions
+        (tells_each engine.labels h (Clock instant) engine.store engine.table s.last s.rising contents_are (subst (λ n. AreUpTo n engine.table.files) changes_are upto) (moved_instant engine.store engine.clock instant) (live h) engine.subscriptions firing can)
 
     -- what is told, and where it stands
-    clock_texts : moved_text ≡ notices (language_of labels) h (Clock instant)
-    clock_texts = told_text_is labels h (Clock instant) store table.files moved_list list_is
+    clock_texts : moved_text ≡ notices (language_of engine.labels) h (Clock instant)
+    clock_texts = told_text_is engine.labels h (Clock instant) engine.store engine.table.files moved_list list_is
 
-    clock_spans : (from : ℕ) → told_spans from (ordered_by (λ (t : Told). t.firing) moved_list) ≡ spans (language_of labels) h (Clock instant) from
-    clock_spans from = told_spans_are labels h (Clock instant) store table.files moved_list list_is from
+    clock_spans : (from : ℕ) → told_spans from (ordered_by (λ (t : NoticeText). t.firing) moved_list) ≡ spans (language_of engine.labels) h (Clock instant) from
+    clock_spans from = told_spans_are engine.labels h (Clock instant) engine.store engine.table.files moved_list list_is from
 
     -- the lines of those that expire
-    clock_ends : expired_names instant moved_members ≡ expired_text (Clock instant) h
+    clock_ends : expired_names instant moved_subscriptions ≡ expired_text (Clock instant) h
     clock_ends =
-        sym (pairwise_texts (Keeps labels (Clock instant ∷ h)) (λ s. is_expired (timing_of s) instant) (λ m. is_expired m.timing instant) (λ s m k. ap (λ t. is_expired t instant) (sym k.timing))
-        expired_line (λ m. expired_name m.name) (λ s m k. ap expired_name (sym k.name)) (live h) moved_members kept)
+        sym (pairwise_texts (Keeps engine.labels (Clock instant ∷ h)) (λ s. is_expired (timing_of s) instant) (λ m. is_expired m.timing instant) (λ s m k. ap (λ t. is_expired t instant) (sym k.timing))
+        (λ s. expired_line s.statement.name) (λ m. expired_line m.name) (λ s m k. ap expired_line (sym k.name)) (live h) moved_subscriptions kept)
 
-  pub clock_accepted : AreUpTo store.changes table.files → AllByRecursion (CanTell labels store table) members
-      → (out first second third : List ℕ) (left : List Member) (after : TableState) (applied : Answered) → nat_lt instant clock ≡ false → left ≡ unexpired instant moved_members → AreOf table.files after.files
-      → first ≡ out ++ ok_text (count + 1) → second ≡ first ++ moved_text → third ≡ second ++ expired_names instant moved_members
-      → applied.from ≡ length first → applied.to ≡ length second → applied.spans ≡ told_spans (length first) (ordered_by (λ (t : Told). t.firing) moved_list)
-      → Applies old_engine (Clock instant) out (Ok applied) (engine store instant (count + 1) creates labels left after) third
+  pub clock_accepted : AreUpTo engine.store.changes engine.table.files → AllByRecursion (CanTell engine.labels engine.store engine.table) engine.subscriptions
+      → (out first second third : List ℕ) (left : List Kept) (after : TableState) (applied : Answered) → nat_lt instant engine.clock ≡ false → left ≡ unexpired instant moved_subscriptions → AreOf engine.table.files after.files
+      → first ≡ out ++ ok_text (engine.count + 1) → second ≡ first ++ moved_text → third ≡ second ++ expired_names instant moved_subscriptions
+      → applied.from ≡ length first → applied.to ≡ length second → applied.spans ≡ told_spans (length first) (ordered_by (λ (t : NoticeText). t.firing) moved_list)
+      → Applies engine (Clock instant) out (Ok applied) (record engine { clock = instant; count = engine.count + 1; subscriptions = left; table = after }) third
   clock_accepted upto can out first second third left after applied later off fewer one two three from to places =
-      subst (λ (ms : List Member). Applies old_engine (Clock instant) out (Ok applied) (engine store instant (count + 1) creates labels ms after) third) (sym off)
-      (accepts old_engine (Clock instant) out applied (engine store instant (count + 1) creates labels (unexpired instant moved_members) after) third moved_text (expired_names instant moved_members)
+      subst (λ (ms : List Kept). Applies engine (Clock instant) out (Ok applied) (record engine { clock = instant; count = engine.count + 1; subscriptions = ms; table = after }) third) (sym off)
+      (accepts engine (Clock instant) out applied (record engine { clock = instant; count = engine.count + 1; subscriptions = unexpired instant moved_subscriptions; table = after }) third moved_text (expired_names instant moved_subscriptions)
       (record {
-        accepted = λ h s. ((λ i. refused_if (nat_lt instant (sym s.clock i)) refusal.Clock) ∙ ap (λ t. refused_if t refusal.Clock) later, clock_follows upto can h s later after fewer);
+        accepted = λ h s. (λ i. refused_if (nat_lt instant (sym s.clock i)) refusal.Clock) ∙ ap (λ t. refused_if t refusal.Clock) later;
+        follows = λ h s. clock_follows upto can h s later after fewer;
         tells = λ h s. clock_texts upto can h s;
-        stand = λ h s. places ∙ clock_spans upto can h s (length first) ∙ ap (spans (language_of labels) h (Clock instant)) (sym from);
+        stand = λ h s. places ∙ clock_spans upto can h s (length first) ∙ ap (spans (language_of engine.labels) h (Clock instant)) (sym from);
         ends = λ h s. clock_ends upto can h s;
         counted = refl;
         named = refl;
       })
-      (three ∙ (λ i. two i ++ expired_names instant moved_members) ∙ (λ i. (one i ++ moved_text) ++ expired_names instant moved_members) ∙ append_assoc (out ++ ok_text (count + 1)) moved_text (expired_names instant moved_members))
+      (three ∙ (λ i. two i ++ expired_names instant moved_subscriptions) ∙ (λ i. (one i ++ moved_text) ++ expired_names instant moved_subscriptions) ∙ append_assoc (out ++ ok_text (engine.count + 1)) moved_text (expired_names instant moved_subscriptions))
       (from ∙ ap length one) (to ∙ ap length (two ∙ (λ i. one i ++ moved_text))))

@@ -5,8 +5,6 @@ use Rattle.std.specs.List.{filter, find, flat_map, list_any}
 use Rattle.std.specs.FinMap.{empty}
 use Rattle.std.specs.Str.{bytes_eq}
 use Rattle.std.proofs.lemmas.Option.{slice_get_cases}
-use Rattle.ncq_callback.specs.Labels.{Label}
-use Rattle.ncq_script.specs.declared.command.Command.{Command}
 use Rattle.ncq_script.specs.declared.command.Command.TheVariants.{Declare, Delete, Malformed}
 use Rattle.ncq_script.specs.declared.refusal.Refusal.{Refusal}
 use Rattle.ncq_script.specs.declared.refusal.Refusal.TheVariants as refusal
@@ -19,7 +17,7 @@ use Rattle.ncq_source.specs.declared.store.DeclareError.TheVariants.{Exists}
 use Rattle.ncq_engine.specs.declared.telling.Answered.{Answered}
 use Rattle.ncq_engine.specs.declared.engine.ApplyError.{ApplyError}
 use Rattle.ncq_engine.specs.declared.engine.ApplyError.TheVariants.{Refused, OutOfMemory}
-use Rattle.ncq_book.specs.declared.member.Member.{Member}
+use Rattle.ncq_book.specs.declared.subscription.Subscription.{Subscription as Kept}
 use Rattle.ncq_engine.specs.Applies.{Applies, ok_text}
 use Rattle.ncq_group.specs.Tables.{TableState}
 use Rattle.ncq_engine.specs.Engines.{Pairwise}
@@ -27,12 +25,12 @@ use Rattle.ncq_engine.specs.Tellings.{AreOf, IsLeftBy, without}
 use Rattle.ncq_book.specs.Books.{is_of, InstallsRise, NamesDiffer}
 use Rattle.ncq_book.specs.Kept.{install_of}
 use Rattle.ncq_engine.proofs.NamedLaws.{named_is}
-use Rattle.ncq_roll.specs.Rolls.{RollState}
+use Rattle.ncq_live.specs.LiveTables.{LiveState}
 use Rattle.std.specs.Option.{option_map}
 use Rattle.ncq_engine.specs.History.{History, Source, Subscription, changes, creates as creates_of, is_named, live, source_in}
 use Rattle.ncq_engine.specs.Output.{is_taken, refused_if}
 use Rattle.ncq_engine.specs.Spans.{spans_of}
-use Rattle.ncq_engine.specs.Stands.{EngineCore, Keeps}
+use Rattle.ncq_engine.specs.Stands.{EngineState, Keeps}
 use Rattle.ncq_engine.proofs.ContentLaws.{contents_left, contents_stay}
 use Rattle.ncq_engine.proofs.EngineLaws.{accepts_quietly, keep_quiet, pairwise_any, pairwise_filter, refuses, rises_quietly, told_nobody}
 use Rattle.ncq_engine.proofs.Places.{found_within, is_found, not_found, one_declared}
@@ -53,40 +51,28 @@ place_of store name (Some at) e =
 pub place : (store : StoreState) (name : List ℕ) → IsPlace store name
 place store name = place_of store name (found store name) refl
 
--- an answer, where the two engines have other names
-pub told_as : (old old' : EngineCore) (command : Command) (out : List ℕ) (result : Result Answered ApplyError) (new new' : EngineCore) (out' : List ℕ)
-    → old' ≡ old → new ≡ new' → Applies old' command out result new' out' → Applies old command out result new out'
-told_as old old' command out result new new' out' o n a =
-    subst (λ (e : EngineCore). Applies e command out result new out') o (subst (λ (e : EngineCore). Applies old' command out result e out') (sym n) a)
-
--- an engine of these parts
-abbrev pub engine : StoreState → ℕ → ℕ → ℕ → List Label → List Member → TableState → EngineCore
-engine store clock count creates labels members table = record { store = store; clock = clock; count = count; creates = creates; labels = labels; members = members; table = table }
-
-module _ (store : StoreState) (clock count creates : ℕ) (labels : List Label) (members : List Member) (table : TableState) (out : List ℕ) (result : Result Answered ApplyError) (out' : List ℕ)
-    (text : OnOk result (out' ≡ out ++ ok_text (count + 1))) (places : IfOk result (λ a. a ≡ record { from = length out'; to = length out'; spans = [] })) (only : OnErr result (result ≡ Err OutOfMemory)) where
-  pub declare_accepted : (name root : List ℕ) (key : Key) (store' : StoreState) → (IsSome (found store name) → ⊥) → Declares store store' name root key
-      → Applies (engine store clock count creates labels members table) (Declare name root key) out result (engine store' clock (count + 1) creates labels members table) out'
+module _ (engine : EngineState) (out : List ℕ) (result : Result Answered ApplyError) (out' : List ℕ)
+    (text : OnOk result (out' ≡ out ++ ok_text (engine.count + 1))) (places : IfOk result (λ a. a ≡ record { from = length out'; to = length out'; spans = [] })) (only : OnErr result (result ≡ Err OutOfMemory)) where
+  pub declare_accepted : (name root : List ℕ) (key : Key) (store' : StoreState) → (IsSome (found engine.store name) → ⊥) → Declares engine.store store' name root key
+      → Applies engine (Declare name root key) out result (record engine { store = store'; count = engine.count + 1 }) out'
   declare_accepted name root key store' new declares =
-      accepts_quietly (engine store clock count creates labels members table) (Declare name root key) out result (engine store' clock (count + 1) creates labels members table) out'
+      accepts_quietly engine (Declare name root key) out result (record engine { store = store'; count = engine.count + 1 }) out'
       (record {
-        accepted = λ h s. (
-          elim (place store name) [
-            | inr p ↦ absurd (new (subst IsSome (sym p.2) refl))
-            | inl none ↦ ap (λ o. refused_if (is_some o) refusal.SourceExists) (ap (source_in name) (sym s.sources) ∙ not_found name store.sources none)
-          ],
-          record {
-            sources = one_declared store.sources store'.sources name root key declares.sources
-                ∙ ap (λ (ss : List Source). ss ++ record { name = name; root = root; key = key; elements = empty } ∷ []) s.sources;
-            last = λ asked. last_declared store store' asked name root key declares.sources ∙ s.last asked;
-            changes = declares.changes ∙ s.changes ∙ sym (zero-add (changes h));
-            clock = s.clock;
-            creates = s.creates ∙ sym (zero-add (creates_of h));
-            members = keep_quiet labels h (Declare name root key) (λ _. refl) (live h) members s.members;
-            contents = contents_stay table.files h (Declare name root key) (zero-add (changes h)) s.contents;
-            rising = rises_quietly h (Declare name root key) refl s.rising;
-          },
-        );
+        accepted = λ h s. elim (place engine.store name) [
+          | inr p ↦ absurd (new (subst IsSome (sym p.2) refl))
+          | inl none ↦ ap (λ o. refused_if (is_some o) refusal.SourceExists) (ap (source_in name) (sym s.sources) ∙ not_found name engine.store.sources none)
+        ];
+        follows = λ h s. record {
+          sources = one_declared engine.store.sources store'.sources name root key declares.sources
+              ∙ ap (λ (ss : List Source). ss ++ record { name = name; root = root; key = key; elements = empty } ∷ []) s.sources;
+          last = λ asked. last_declared engine.store store' asked name root key declares.sources ∙ s.last asked;
+          changes = declares.changes ∙ s.changes ∙ sym (zero-add (changes h));
+          clock = s.clock;
+          creates = s.creates ∙ sym (zero-add (creates_of h));
+          subscriptions = keep_quiet engine.labels h (Declare name root key) (λ _. refl) (live h) engine.subscriptions s.subscriptions;
+          contents = contents_stay engine.table.files h (Declare name root key) (zero-add (changes h)) s.contents;
+          rising = rises_quietly h (Declare name root key) refl s.rising;
+        };
         tells = λ h s. ap (flat_map _) (sym (told_nobody h (Declare name root key) (λ _. refl)));
         stand = λ h s. ap (spans_of _ _ (length out')) (sym (told_nobody h (Declare name root key) (λ _. refl)));
         ends = λ h s. refl;
@@ -94,33 +80,31 @@ module _ (store : StoreState) (clock count creates : ℕ) (labels : List Label) 
         named = refl;
       }) text places only
 
-  named_alike : (name : List ℕ) (h : History) (s : Subscription) (m : Member) → Keeps labels h s m → is_named name s ≡ bytes_eq name m.name
+  named_alike : (name : List ℕ) (h : History) (s : Subscription) (m : Kept) → Keeps engine.labels h s m → is_named name s ≡ bytes_eq name m.name
   named_alike name h s m k = ap (bytes_eq name) (sym k.name)
 
-  pub taken_is : (name : List ℕ) (h : History) → Pairwise (Keeps labels h) (live h) members → is_taken name h ≡ list_any (λ m. bytes_eq name m.name) members
-  taken_is name h p = pairwise_any (Keeps labels h) (is_named name) (λ m. bytes_eq name m.name) (named_alike name h) (live h) members p
+  pub taken_is : (name : List ℕ) (h : History) → Pairwise (Keeps engine.labels h) (live h) engine.subscriptions → is_taken name h ≡ list_any (λ m. bytes_eq name m.name) engine.subscriptions
+  taken_is name h p = pairwise_any (Keeps engine.labels h) (is_named name) (λ m. bytes_eq name m.name) (named_alike name h) (live h) engine.subscriptions p
 
-  -- the member of the name is gone, and its files with it
-  pub delete_accepted : (name : List ℕ) (left : List Member) (table' : TableState) → list_any (λ m. bytes_eq name m.name) members ≡ true → left ≡ filter (λ m. not (bytes_eq name m.name)) members → AreOf table.files table'.files
-      → Applies (engine store clock count creates labels members table) (Delete name) out result (engine store clock (count + 1) creates labels left table') out'
+  -- the subscription of the name is gone, and its files with it
+  pub delete_accepted : (name : List ℕ) (left : List Kept) (table' : TableState) → list_any (λ m. bytes_eq name m.name) engine.subscriptions ≡ true → left ≡ filter (λ m. not (bytes_eq name m.name)) engine.subscriptions → AreOf engine.table.files table'.files
+      → Applies engine (Delete name) out result (record engine { count = engine.count + 1; subscriptions = left; table = table' }) out'
   delete_accepted name left table' has gone fewer =
-      accepts_quietly (engine store clock count creates labels members table) (Delete name) out result (engine store clock (count + 1) creates labels left table') out'
+      accepts_quietly engine (Delete name) out result (record engine { count = engine.count + 1; subscriptions = left; table = table' }) out'
       (record {
-        accepted = λ h s. (
-          ap (λ t. refused_if (not t) refusal.NoName) (taken_is name h s.members ∙ has),
-          record {
-            sources = s.sources;
-            last = s.last;
-            changes = s.changes ∙ sym (zero-add (changes h));
-            clock = s.clock;
-            creates = s.creates ∙ sym (zero-add (creates_of h));
-            members = subst (λ (ms : List Member). Pairwise (Keeps labels (Delete name ∷ h)) (live (Delete name ∷ h)) ms) (sym gone)
-                (pairwise_filter (Keeps labels (Delete name ∷ h)) (λ s. not (is_named name s)) (λ m. not (bytes_eq name m.name)) (λ s m k. ap (λ t. not (bytes_eq name t)) (sym k.name)) (live h) members
-                (keep_quiet labels h (Delete name) (λ _. refl) (live h) members s.members));
-            contents = contents_left table.files table'.files (Delete name ∷ h) fewer (contents_stay table.files h (Delete name) (zero-add (changes h)) s.contents);
-            rising = rises_quietly h (Delete name) refl s.rising;
-          },
-        );
+        accepted = λ h s. ap (λ t. refused_if (not t) refusal.NoName) (taken_is name h s.subscriptions ∙ has);
+        follows = λ h s. record {
+          sources = s.sources;
+          last = s.last;
+          changes = s.changes ∙ sym (zero-add (changes h));
+          clock = s.clock;
+          creates = s.creates ∙ sym (zero-add (creates_of h));
+          subscriptions = subst (λ (ms : List Kept). Pairwise (Keeps engine.labels (Delete name ∷ h)) (live (Delete name ∷ h)) ms) (sym gone)
+              (pairwise_filter (Keeps engine.labels (Delete name ∷ h)) (λ s. not (is_named name s)) (λ m. not (bytes_eq name m.name)) (λ s m k. ap (λ t. not (bytes_eq name t)) (sym k.name)) (live h) engine.subscriptions
+              (keep_quiet engine.labels h (Delete name) (λ _. refl) (live h) engine.subscriptions s.subscriptions));
+          contents = contents_left engine.table.files table'.files (Delete name ∷ h) fewer (contents_stay engine.table.files h (Delete name) (zero-add (changes h)) s.contents);
+          rising = rises_quietly h (Delete name) refl s.rising;
+        };
         tells = λ h s. ap (flat_map _) (sym (told_nobody h (Delete name) (λ _. refl)));
         stand = λ h s. ap (spans_of _ _ (length out')) (sym (told_nobody h (Delete name) (λ _. refl)));
         ends = λ h s. refl;
@@ -128,33 +112,30 @@ module _ (store : StoreState) (clock count creates : ℕ) (labels : List Label) 
         named = refl;
       }) text places only
 
-module _ (store : StoreState) (clock count creates : ℕ) (labels : List Label) (members : List Member) (table : TableState) (out : List ℕ) (result : Result Answered ApplyError) (new : EngineCore) (out' : List ℕ)
-    (same : new ≡ engine store clock (count + 1) creates labels members table) (untouched : out' ≡ out) where
-  abbrev old : EngineCore
-  old = engine store clock count creates labels members table
-
+module _ (engine : EngineState) (out : List ℕ) (result : Result Answered ApplyError) (new : EngineState) (out' : List ℕ)
+    (same : new ≡ record engine { count = engine.count + 1 }) (untouched : out' ≡ out) where
   -- a source of the name is declared already
-  pub declare_refused : (name root : List ℕ) (key : Key) → result ≡ Err (Refused refusal.SourceExists) → IsSome (found store name) → Applies old (Declare name root key) out result new out'
-  declare_refused name root key is some = refuses old (Declare name root key) refusal.SourceExists out result new out' is same untouched (λ h s.
-      elim (place store name) [
+  pub declare_refused : (name root : List ℕ) (key : Key) → result ≡ Err (Refused refusal.SourceExists) → IsSome (found engine.store name) → Applies engine (Declare name root key) out result new out'
+  declare_refused name root key is some = refuses engine (Declare name root key) refusal.SourceExists out result new out' is same untouched (λ h s.
+      elim (place engine.store name) [
         | inl none ↦ absurd (let bad = subst IsSome none some in (let w : ⊥ = cc in w))
-        | inr p ↦ ap (λ o. refused_if (is_some o) refusal.SourceExists) (ap (source_in name) (sym s.sources) ∙ is_found name store.sources p.0 p.1 p.2 p.3)
+        | inr p ↦ ap (λ o. refused_if (is_some o) refusal.SourceExists) (ap (source_in name) (sym s.sources) ∙ is_found name engine.store.sources p.0 p.1 p.2 p.3)
       ])
 
-  pub delete_refused : (name : List ℕ) → result ≡ Err (Refused refusal.NoName) → list_any (λ m. bytes_eq name m.name) members ≡ false → Applies old (Delete name) out result new out'
-  delete_refused name is none = refuses old (Delete name) refusal.NoName out result new out' is same untouched (λ h s.
+  pub delete_refused : (name : List ℕ) → result ≡ Err (Refused refusal.NoName) → list_any (λ m. bytes_eq name m.name) engine.subscriptions ≡ false → Applies engine (Delete name) out result new out'
+  delete_refused name is none = refuses engine (Delete name) refusal.NoName out result new out' is same untouched (λ h s.
       ap (λ t. refused_if (not t) refusal.NoName)
-      (pairwise_any (Keeps labels h) (is_named name) (λ m. bytes_eq name m.name) (λ s m k. ap (bytes_eq name) (sym k.name)) (live h) members s.members ∙ none))
+      (pairwise_any (Keeps engine.labels h) (is_named name) (λ m. bytes_eq name m.name) (λ s m k. ap (bytes_eq name) (sym k.name)) (live h) engine.subscriptions s.subscriptions ∙ none))
 
   -- commands that are refused whatever the history
-  pub malformed_refused : (why : Refusal) → result ≡ Err (Refused why) → Applies old (Malformed why) out result new out'
-  malformed_refused why is = refuses old (Malformed why) why out result new out' is same untouched (λ h s. refl)
+  pub malformed_refused : (why : Refusal) → result ≡ Err (Refused why) → Applies engine (Malformed why) out result new out'
+  malformed_refused why is = refuses engine (Malformed why) why out result new out' is same untouched (λ h s. refl)
 
 pub not_exists : (result : Result SourceId DeclareError) (id : SourceId) → result ≡ Ok id → result ≡ Err Exists → ⊥
 not_exists result id is e = let bad : ◌≡◌ {A = Result SourceId DeclareError} (Ok id) (Err Exists) = sym is ∙ e in cc
 
 -- those without one number
-pub without_one : (install : ℕ) (ms : List Member) → without (install ∷ []) ms ≡ filter (λ m. not (is_of install m)) ms
+pub without_one : (install : ℕ) (ms : List Kept) → without (install ∷ []) ms ≡ filter (λ m. not (is_of install m)) ms
 without_one install [] = refl
 without_one install (m ∷ ms) =
     λ i. cond (not (or_false (is_of install m) i)) (m ∷ without_one install ms i) (without_one install ms i)
@@ -163,12 +144,8 @@ without_one install (m ∷ ms) =
     or_false true = refl
     or_false false = refl
 
--- an engine with other members
-pub other_members : (a b : EngineCore) (f : List Member → List Member) (members : List Member) → a ≡ b → members ≡ f a.members → record a { members = members } ≡ record b { members = f b.members }
-other_members a b f members e m = (λ i. record a { members = m i }) ∙ ap (λ (x : EngineCore). record x { members = f x.members }) e
-
--- a name that is found is that of a member, and one that is not found is that of none
-pub some_named : (name : List ℕ) (ms : List Member) (install : ℕ) → option_map (λ m. m.install) (find (λ m. bytes_eq name m.name) ms) ≡ Some install → list_any (λ m. bytes_eq name m.name) ms ≡ true
+-- a name that is found is that of a subscription, and one that is not found is that of none
+pub some_named : (name : List ℕ) (ms : List Kept) (install : ℕ) → option_map (λ m. m.install) (find (λ m. bytes_eq name m.name) ms) ≡ Some install → list_any (λ m. bytes_eq name m.name) ms ≡ true
 some_named name [] install e = absurd cc
 some_named name (m ∷ ms) install e =
     elim (bytes_eq name m.name) as (λ t. option_map (λ m. m.install) (cond t (Some m) (find (λ m. bytes_eq name m.name) ms)) ≡ Some install → (t || list_any (λ m. bytes_eq name m.name) ms) ≡ true) [
@@ -176,7 +153,7 @@ some_named name (m ∷ ms) install e =
       | false ↦ λ q. some_named name ms install q
     ] e
 
-pub none_named : (name : List ℕ) (ms : List Member) → option_map (λ m. m.install) (find (λ m. bytes_eq name m.name) ms) ≡ None → list_any (λ m. bytes_eq name m.name) ms ≡ false
+pub none_named : (name : List ℕ) (ms : List Kept) → option_map (λ m. m.install) (find (λ m. bytes_eq name m.name) ms) ≡ None → list_any (λ m. bytes_eq name m.name) ms ≡ false
 none_named name [] e = refl
 none_named name (m ∷ ms) e =
     elim (bytes_eq name m.name) as (λ t. option_map (λ m. m.install) (cond t (Some m) (find (λ m. bytes_eq name m.name) ms)) ≡ None → (t || list_any (λ m. bytes_eq name m.name) ms) ≡ false) [
@@ -185,13 +162,11 @@ none_named name (m ∷ ms) e =
     ] e
 
 -- a delete that is accepted, from what the calls give
-pub delete_answers : (e inside : EngineCore) → inside ≡ record e { count = e.count + 1 } → (name : List ℕ) (install : ℕ) → install_of name e.members ≡ Some install → InstallsRise inside.members → NamesDiffer inside.members
-    → (roll : RollState) → IsLeftBy (install ∷ []) (record { table = inside.table; members = inside.members; instant = inside.clock }) roll
+pub delete_answers : (e : EngineState) (name : List ℕ) (install : ℕ) → install_of name e.subscriptions ≡ Some install → InstallsRise e.subscriptions → NamesDiffer e.subscriptions
+    → (live_table : LiveState) → IsLeftBy (install ∷ []) (record { table = e.table; subscriptions = e.subscriptions; instant = e.clock }) live_table
     → (out : List ℕ) (result : Result Answered ApplyError) (out' : List ℕ) → OnOk result (out' ≡ out ++ ok_text (e.count + 1)) → IfOk result (λ a. a ≡ record { from = length out'; to = length out'; spans = [] }) → OnErr result (result ≡ Err OutOfMemory)
-    → Applies e (Delete name) out result (engine inside.store roll.instant inside.count inside.creates inside.labels roll.members roll.table) out'
-delete_answers e inside is name install found rise differ roll left out result out' text places only =
-    subst (λ (x : EngineCore). InstallsRise x.members → NamesDiffer x.members → IsLeftBy (install ∷ []) (record { table = x.table; members = x.members; instant = x.clock }) roll
-    → Applies e (Delete name) out result (engine x.store roll.instant x.count x.creates x.labels roll.members roll.table) out') (sym is)
-    (λ r d l. subst (λ (n : ℕ). Applies e (Delete name) out result (engine e.store n (e.count + 1) e.creates e.labels roll.members roll.table) out') (sym l.instant)
-    (delete_accepted e.store e.clock e.count e.creates e.labels e.members e.table out result out' text places only name roll.members roll.table (some_named name e.members install found)
-    (l.members ∙ without_one install e.members ∙ named_is name install e.members r d found) l.files)) rise differ left
+    → Applies e (Delete name) out result (record e { clock = live_table.instant; count = e.count + 1; subscriptions = live_table.subscriptions; table = live_table.table }) out'
+delete_answers e name install found rise differ live_table left out result out' text places only =
+    subst (λ (n : ℕ). Applies e (Delete name) out result (record e { clock = n; count = e.count + 1; subscriptions = live_table.subscriptions; table = live_table.table }) out') (sym left.instant)
+    (delete_accepted e out result out' text places only name live_table.subscriptions live_table.table (some_named name e.subscriptions install found)
+    (left.subscriptions ∙ without_one install e.subscriptions ∙ named_is name install e.subscriptions rise differ found) left.files)

@@ -10,7 +10,6 @@ use Rattle.ncq_bind.specs.Bindings.{Binds, Roots, have_roots, roots_in}
 use Rattle.ncq_bind.specs.Bound.{query_is_bound}
 use Rattle.ncq_bind.specs.declared.binding.BindError.{BindError}
 use Rattle.ncq_bind.specs.declared.binding.BindError.TheVariants as binding
-use Rattle.ncq_callback.specs.Labels.{Label}
 use Rattle.ncq_change.specs.Stores.{world_in}
 use Rattle.ncq_event.specs.Calendars.{firing_at}
 use Rattle.ncq_event.specs.Instants.{is_expired}
@@ -24,28 +23,27 @@ use Rattle.ncq_script.specs.declared.command.Command.{Command}
 use Rattle.ncq_script.specs.declared.command.Command.TheVariants.{Create}
 use Rattle.ncq_script.specs.declared.refusal.Refusal.{Refusal}
 use Rattle.ncq_script.specs.declared.refusal.Refusal.TheVariants as refusal
-use Rattle.ncq_source.specs.StoreStates.{StoreState}
 use Rattle.ncq_xmlql.specs.declared.model.Query.{Query}
 use Rattle.ncq_xmlql.specs.declared.model.Statement.{Statement}
 use Rattle.ncq_xmlql.specs.WellFormed.{IsWellFormed as IsWhole}
 use Rattle.ncq_engine.specs.declared.telling.Answered.{Answered}
 use Rattle.ncq_engine.specs.declared.engine.ApplyError.{ApplyError}
 use Rattle.ncq_engine.specs.declared.engine.ApplyError.TheVariants.{Refused}
-use Rattle.ncq_book.specs.declared.member.Member.{Member}
-use Rattle.ncq_book.specs.Books.{member_of}
+use Rattle.ncq_book.specs.declared.subscription.Subscription.{Subscription as Kept}
+use Rattle.ncq_book.specs.Books.{subscription_of}
 use Rattle.ncq_engine.specs.Applies.{Applies, error_of, kind_at, ok_text, query_refusal, refused_query}
-use Rattle.ncq_engine.specs.Engines.{CanTell, InstallsAreUpTo, Pairwise, Told, fired_if, new_member, told_at}
+use Rattle.ncq_engine.specs.Engines.{CanTell, InstallsAreUpTo, Pairwise, NoticeText, fired_if, new_subscription, notice_texts}
 use Rattle.ncq_engine.specs.Firing.{fires, is_new}
 use Rattle.ncq_engine.specs.History.{History, Subscription, changes, created, creates as creates_of, is_named, live, now, sources, start_of, world}
 use Rattle.ncq_engine.specs.Languages.{binding_refusal, language_of}
 use Rattle.ncq_engine.specs.Marks.{noted}
-use Rattle.ncq_engine.specs.Notices.{firings, kind_in}
-use Rattle.ncq_engine.specs.Output.{first_refusal, is_at_odds, notices, or_else, refused_if}
+use Rattle.ncq_engine.specs.Notices.{firings, kind_in, name_at}
+use Rattle.ncq_engine.specs.Output.{first_refusal, is_at_odds, notices, refused_if}
+use Rattle.std.specs.Option.{option_or}
 use Rattle.ncq_engine.specs.Joins.{timed}
-use Rattle.ncq_engine.specs.Stands.{AreContents, EngineCore, Follows, Keeps}
+use Rattle.ncq_engine.specs.Stands.{AreContents, EngineState, Follows, Keeps}
 use Rattle.ncq_engine.specs.Tellings.{has_started, started_at}
 use Rattle.ncq_engine.proofs.ByInstall.{firings_of, found_first, found_behind}
-use Rattle.ncq_engine.proofs.CommandLaws.{engine}
 use Rattle.ncq_engine.proofs.ContentLaws.{contents_installed}
 use Rattle.ncq_engine.proofs.EngineLaws.{accepts, gives_up, pairwise_any, refuses, rises_quietly}
 use Rattle.ncq_engine.proofs.HistoryLaws.{Installed, installed, never}
@@ -71,46 +69,43 @@ binds_not query roots binding.Unbound why e b =
     (λ i. if b.declared i then (if b.root i then (if b.bound i then None else Some refusal.Unbound) else Some refusal.Root) else Some refusal.NoSource) ∙ e
 binds_not query roots binding.OutOfMemory why e b = absurd cc
 
--- the member that a create makes
-module _ (store : StoreState) (clock count creates : ℕ) (labels : List Label) (members : List Member) (table : TableState) (statement : Statement) where
-  abbrev old_engine : EngineCore
-  old_engine = engine store clock count creates labels members table
-
+-- the subscription that a create makes
+module _ (engine : EngineState) (statement : Statement) where
   abbrev this : Command
   this = Create statement
 
   -- the first refusal, by the tests of the code
-  pub create_refusal : (taken odd late : Bool) (unbound : Option Refusal) → list_any (λ m. bytes_eq statement.name m.name) members ≡ taken → binding_refusal statement.query (roots_in store) ≡ unbound
-      → is_at_odds (kind_in statement.action labels) statement.argument ≡ odd → is_expired (timed statement clock) (start_of statement.start clock) ≡ late
-      → (h : History) → Follows old_engine h
-      → first_refusal (language_of labels) h this
-      ≡ or_else (refused_if taken refusal.NameTaken) (or_else unbound (or_else (refused_if odd refusal.Action) (refused_if late refusal.Times)))
+  pub create_refusal : (taken odd late : Bool) (unbound : Option Refusal) → list_any (λ m. bytes_eq statement.name m.name) engine.subscriptions ≡ taken → binding_refusal statement.query (roots_in engine.store) ≡ unbound
+      → is_at_odds (kind_in statement.action engine.labels) statement.argument ≡ odd → is_expired (timed statement engine.clock) (start_of statement.start engine.clock) ≡ late
+      → (h : History) → Follows engine h
+      → first_refusal (language_of engine.labels) h this
+      ≡ option_or (refused_if taken refusal.NameTaken) (option_or unbound (option_or (refused_if odd refusal.Action) (refused_if late refusal.Times)))
   create_refusal taken odd late unbound t u o l h s =
-      λ i. or_else (refused_if ((pairwise_any (Keeps labels h) (is_named statement.name) (λ m. bytes_eq statement.name m.name) (λ s m k. ap (bytes_eq statement.name) (sym k.name)) (live h) members s.members ∙ t) i) refusal.NameTaken)
-      (or_else ((ap (binding_refusal statement.query) (roots_are store (sources h) s.sources) ∙ u) i)
-      (or_else (refused_if (o i) refusal.Action)
+      λ i. option_or (refused_if ((pairwise_any (Keeps engine.labels h) (is_named statement.name) (λ m. bytes_eq statement.name m.name) (λ s m k. ap (bytes_eq statement.name) (sym k.name)) (live h) engine.subscriptions s.subscriptions ∙ t) i) refusal.NameTaken)
+      (option_or ((ap (binding_refusal statement.query) (roots_are engine.store (sources h) s.sources) ∙ u) i)
+      (option_or (refused_if (o i) refusal.Action)
       (refused_if ((ap (λ n. is_expired (timed statement n) (start_of statement.start n)) (sym s.clock) ∙ l) i) refusal.Times)))
 
-  module _ (out : List ℕ) (result : Result Answered ApplyError) (new : EngineCore) (same : new ≡ engine store clock (count + 1) creates labels members table) where
-    pub create_taken : result ≡ Err (Refused refusal.NameTaken) → list_any (λ m. bytes_eq statement.name m.name) members ≡ true → Applies old_engine this out result new out
-    create_taken is taken = refuses old_engine this refusal.NameTaken out result new out is same refl (create_refusal true _ _ _ taken refl refl refl)
+  module _ (out : List ℕ) (result : Result Answered ApplyError) (new : EngineState) (same : new ≡ record engine { count = engine.count + 1 }) where
+    pub create_taken : result ≡ Err (Refused refusal.NameTaken) → list_any (λ m. bytes_eq statement.name m.name) engine.subscriptions ≡ true → Applies engine this out result new out
+    create_taken is taken = refuses engine this refusal.NameTaken out result new out is same refl (create_refusal true _ _ _ taken refl refl refl)
 
-    pub create_odd : result ≡ Err (Refused refusal.Action) → list_any (λ m. bytes_eq statement.name m.name) members ≡ false → (query : NormalQuery) → Binds statement.query (roots_in store) (Ok query)
-        → is_at_odds (kind_in statement.action labels) statement.argument ≡ true → Applies old_engine this out result new out
-    create_odd is free query binds odd = refuses old_engine this refusal.Action out result new out is same refl (create_refusal false true _ None free (binds_freely statement.query (roots_in store) query binds) odd refl)
+    pub create_odd : result ≡ Err (Refused refusal.Action) → list_any (λ m. bytes_eq statement.name m.name) engine.subscriptions ≡ false → (query : NormalQuery) → Binds statement.query (roots_in engine.store) (Ok query)
+        → is_at_odds (kind_in statement.action engine.labels) statement.argument ≡ true → Applies engine this out result new out
+    create_odd is free query binds odd = refuses engine this refusal.Action out result new out is same refl (create_refusal false true _ None free (binds_freely statement.query (roots_in engine.store) query binds) odd refl)
 
-    pub create_late : result ≡ Err (Refused refusal.Times) → list_any (λ m. bytes_eq statement.name m.name) members ≡ false → (query : NormalQuery) → Binds statement.query (roots_in store) (Ok query)
-        → is_at_odds (kind_in statement.action labels) statement.argument ≡ false → is_expired (timed statement clock) (start_of statement.start clock) ≡ true → Applies old_engine this out result new out
+    pub create_late : result ≡ Err (Refused refusal.Times) → list_any (λ m. bytes_eq statement.name m.name) engine.subscriptions ≡ false → (query : NormalQuery) → Binds statement.query (roots_in engine.store) (Ok query)
+        → is_at_odds (kind_in statement.action engine.labels) statement.argument ≡ false → is_expired (timed statement engine.clock) (start_of statement.start engine.clock) ≡ true → Applies engine this out result new out
     create_late is free query binds fits late =
-        refuses old_engine this refusal.Times out result new out is same refl (create_refusal false false true None free (binds_freely statement.query (roots_in store) query binds) fits late)
+        refuses engine this refusal.Times out result new out is same refl (create_refusal false false true None free (binds_freely statement.query (roots_in engine.store) query binds) fits late)
 
-  pub create_unbound : (out : List ℕ) (result : Result Answered ApplyError) (new : EngineCore) (error : BindError) → IfSome (query_refusal error) (λ _. new ≡ engine store clock (count + 1) creates labels members table)
-      → result ≡ Err (refused_query error) → list_any (λ m. bytes_eq statement.name m.name) members ≡ false → Binds statement.query (roots_in store) (Err error) → Applies old_engine this out result new out
+  pub create_unbound : (out : List ℕ) (result : Result Answered ApplyError) (new : EngineState) (error : BindError) → IfSome (query_refusal error) (λ _. new ≡ record engine { count = engine.count + 1 })
+      → result ≡ Err (refused_query error) → list_any (λ m. bytes_eq statement.name m.name) engine.subscriptions ≡ false → Binds statement.query (roots_in engine.store) (Err error) → Applies engine this out result new out
   create_unbound out result new error same is free binds = by (query_refusal error) refl same is
     where
-      by : (o : Option Refusal) → query_refusal error ≡ o → IfSome o (λ _. new ≡ engine store clock (count + 1) creates labels members table) → result ≡ Err (error_of o) → Applies old_engine this out result new out
-      by None e same is = gives_up old_engine this out result new out is
-      by (Some why) e same is = refuses old_engine this why out result new out is same refl (create_refusal false _ _ (Some why) free (binds_not statement.query (roots_in store) error why e binds) refl refl)
+      by : (o : Option Refusal) → query_refusal error ≡ o → IfSome o (λ _. new ≡ record engine { count = engine.count + 1 }) → result ≡ Err (error_of o) → Applies engine this out result new out
+      by None e same is = gives_up engine this out result new out is
+      by (Some why) e same is = refuses engine this why out result new out is same refl (create_refusal false _ _ (Some why) free (binds_not statement.query (roots_in engine.store) error why e binds) refl refl)
 
 -- those that are live already do not fire at a create
 old_quiet : (statement : Statement) (h : History) (s : Subscription) → s.install ≤ creates_of h → fires s h (Create statement) ≡ None
@@ -124,37 +119,37 @@ new_fires statement h =
     let on : is_new (created statement h) h ≡ true = grind (arith, nat_tests) in
     λ i. if on i && start_of statement.start (now h) == now h then Some (now h) else None
 
--- the instant at which a create fires a member: the new one where it has started
-abbrev pub created_instant : ℕ → ℕ → Member → Option ℕ
+-- the instant at which a create fires a subscription: the new one where it has started
+abbrev pub created_instant : ℕ → ℕ → Kept → Option ℕ
 created_instant clock install m = if m.install == install && nat_le m.timing.start clock then Some clock else None
 
--- the new member is found behind the others
-found_last : (ms : List Member) (m : Member) → AllByRecursion (λ n. n.install < m.install) ms → member_of m.install (ms ++ m ∷ []) ≡ Some m
+-- the new subscription is found behind the others
+found_last : (ms : List Kept) (m : Kept) → AllByRecursion (λ n. n.install < m.install) ms → subscription_of m.install (ms ++ m ∷ []) ≡ Some m
 found_last [] m h = found_first m []
 found_last (x ∷ ms) m h = found_behind x (ms ++ m ∷ []) m.install h.0 ∙ found_last ms m h.1
 
-quiet_one : (clock install : ℕ) (m : Member) → m.install < install → created_instant clock install m ≡ None
+quiet_one : (clock install : ℕ) (m : Kept) → m.install < install → created_instant clock install m ≡ None
 quiet_one clock install m less =
     let other : (m.install == install) ≡ false = grind (arith, nat_tests, less) in
     λ i. if other i && nat_le m.timing.start clock then Some clock else None
 
-quiet_all : (clock install : ℕ) (ms : List Member) → AllByRecursion (λ n. n.install < install) ms → firings_of (created_instant clock install) ms ≡ []
+quiet_all : (clock install : ℕ) (ms : List Kept) → AllByRecursion (λ n. n.install < install) ms → firings_of (created_instant clock install) ms ≡ []
 quiet_all clock install [] h = refl
 quiet_all clock install (m ∷ ms) h = λ i. firing_at m.install (quiet_one clock install m h.0 i) ++ quiet_all clock install ms h.1 i
 
-own_instant : (clock : ℕ) (m : Member) → created_instant clock m.install m ≡ (if nat_le m.timing.start clock then Some clock else None)
+own_instant : (clock : ℕ) (m : Kept) → created_instant clock m.install m ≡ (if nat_le m.timing.start clock then Some clock else None)
 own_instant clock m =
     let same : (m.install == m.install) ≡ true = grind (arith, nat_tests) in
     λ i. if same i && nat_le m.timing.start clock then Some clock else None
 
--- so the firings that the code makes are those of the members
-pub created_firings : (clock : ℕ) (ms : List Member) (m : Member) → AllByRecursion (λ n. n.install < m.install) ms → flat_map (started_at clock (ms ++ m ∷ [])) (m.install ∷ []) ≡ firings_of (created_instant clock m.install) (ms ++ m ∷ [])
+-- so the firings that the code makes are those of the subscriptions
+pub created_firings : (clock : ℕ) (ms : List Kept) (m : Kept) → AllByRecursion (λ n. n.install < m.install) ms → flat_map (started_at clock (ms ++ m ∷ [])) (m.install ∷ []) ≡ firings_of (created_instant clock m.install) (ms ++ m ∷ [])
 created_firings clock ms m less =
     append-nil (started_at clock (ms ++ m ∷ []) m.install)
     ∙ (λ i. if has_started clock (found_last ms m less i) then record { instant = clock; install = m.install } ∷ [] else [])
     ∙ by (nat_le m.timing.start clock)
     ∙ ap (firing_at m.install) (sym (own_instant clock m))
-    ∙ sym (flat_map_append (λ (n : Member). firing_at n.install (created_instant clock m.install n)) ms (m ∷ [])
+    ∙ sym (flat_map_append (λ (n : Kept). firing_at n.install (created_instant clock m.install n)) ms (m ∷ [])
     ∙ (λ i. quiet_all clock m.install ms less i ++ (firing_at m.install (created_instant clock m.install m) ++ []))
     ∙ append-nil (firing_at m.install (created_instant clock m.install m)))
   where
@@ -163,17 +158,18 @@ created_firings clock ms m less =
     by false = refl
 
 -- the new subscription is kept, as it has not fired
-keeps_new : (store : StoreState) (clock count creates : ℕ) (labels : List Label) (members : List Member) (table : TableState) (statement : Statement) (query : NormalQuery) (action : ℕ) (file : FileId)
-    → IsWhole statement → Binds statement.query (roots_in store) (Ok query) → kind_at labels action ≡ kind_in statement.action labels
-    → (h : History) → Follows (engine store clock count creates labels members table) h → Keeps labels h (created statement h) (new_member statement query (timed statement clock) action creates file)
-keeps_new store clock count creates labels members table statement query action file whole binds kind h s = record {
+keeps_new : (engine : EngineState) (statement : Statement) (query : NormalQuery) (action : ℕ) (file : FileId)
+    → IsWhole statement → Binds statement.query (roots_in engine.store) (Ok query) → kind_at engine.labels action ≡ kind_in statement.action engine.labels → name_at engine.labels action ≡ Some statement.action
+    → (h : History) → Follows engine h → Keeps engine.labels h (created statement h) (new_subscription statement query (timed statement engine.clock) action engine.creates file)
+keeps_new engine statement query action file whole binds kind named h s = record {
   name = refl;
   sources = refl;
   whole = whole;
-  roots = roots_in store;
-  binds = binds;
+  bound = binds.bound;
+  query = binds.answer;
   timing = λ i. timed statement (s.clock i);
   kind = kind;
+  action = named;
   argument = refl;
   install = λ i. s.creates i + 1;
   marked = unmarked;
@@ -189,42 +185,42 @@ keeps_new store clock count creates labels members table statement query action 
         both true = refl
         both false = refl
 
-module _ (store : StoreState) (clock count creates : ℕ) (labels : List Label) (members : List Member) (old table : TableState) (statement : Statement) (query : NormalQuery) (action : ℕ) (file : FileId)
-    (whole : IsWhole statement) (binds : Binds statement.query (roots_in store) (Ok query)) (kind : kind_at labels action ≡ kind_in statement.action labels)
-    (done : IsInstalled (plan_of query) old table file.0) (number : old.number ≡ store.changes) (fits : Fits old.number (world_in store) table.files) (upto : AreUpTo store.changes table.files) where
-  abbrev made : Member
-  made = new_member statement query (timed statement clock) action creates file
+module _ (engine : EngineState) (table : TableState) (statement : Statement) (query : NormalQuery) (action : ℕ) (file : FileId)
+    (whole : IsWhole statement) (binds : Binds statement.query (roots_in engine.store) (Ok query)) (kind : kind_at engine.labels action ≡ kind_in statement.action engine.labels) (named : name_at engine.labels action ≡ Some statement.action)
+    (done : IsInstalled (plan_of query) engine.table table file.0) (number : engine.table.number ≡ engine.store.changes) (fits : Fits engine.table.number (world_in engine.store) table.files) (upto : AreUpTo engine.store.changes table.files) where
+  abbrev made : Kept
+  made = new_subscription statement query (timed statement engine.clock) action engine.creates file
 
-  abbrev all : List Member
-  all = members ++ made ∷ []
+  abbrev all : List Kept
+  all = engine.subscriptions ++ made ∷ []
 
-  abbrev instant : Member → Option ℕ
-  instant = created_instant clock made.install
+  abbrev instant : Kept → Option ℕ
+  instant = created_instant engine.clock made.install
 
-  -- the members behind the create
-  abbrev pub created_members : List Member
-  created_members = map (λ m. fired_if (is_some (created_instant clock (creates + 1) m)) store m) (members ++ new_member statement query (timed statement clock) action creates file ∷ [])
+  -- the subscriptions behind the create
+  abbrev pub created_subscriptions : List Kept
+  created_subscriptions = map (λ m. fired_if (is_some (created_instant engine.clock (engine.creates + 1) m)) engine.store m) (engine.subscriptions ++ new_subscription statement query (timed statement engine.clock) action engine.creates file ∷ [])
 
-  abbrev pub created_list : List Told
-  created_list = told_of labels store table.files (created_instant clock (creates + 1)) (members ++ new_member statement query (timed statement clock) action creates file ∷ [])
+  abbrev pub created_list : List NoticeText
+  created_list = told_of engine.labels engine.store table.files (created_instant engine.clock (engine.creates + 1)) (engine.subscriptions ++ new_subscription statement query (timed statement engine.clock) action engine.creates file ∷ [])
 
-  module _ (can : AllByRecursion (CanTell labels store table) all) (few : InstallsAreUpTo creates members) (h : History) (s : Follows (engine store clock count creates labels members old) h) where
+  module _ (can : AllByRecursion (CanTell engine.labels engine.store table) all) (few : InstallsAreUpTo engine.creates engine.subscriptions) (h : History) (s : Follows engine h) where
     abbrev own : Subscription
     own = created statement h
 
-    same_changes : store.changes ≡ changes (Create statement ∷ h)
+    same_changes : engine.store.changes ≡ changes (Create statement ∷ h)
     same_changes = s.changes ∙ sym (zero-add (changes h))
 
-    below : AllByRecursion (λ n. n.install < made.install) members
-    below = each_more (λ (n : Member). n.install ≤ creates) (λ (n : Member). n.install < made.install) (λ n le. let l : n.install < creates + 1 = omega (arith, le) in l) members few
+    below : AllByRecursion (λ n. n.install < made.install) engine.subscriptions
+    below = each_more (λ (n : Kept). n.install ≤ engine.creates) (λ (n : Kept). n.install < made.install) (λ n le. let l : n.install < engine.creates + 1 = omega (arith, le) in l) engine.subscriptions few
 
-    start_is : (o : Option ℕ) → nat_le (start_of o clock) clock ≡ (start_of o clock == clock)
-    start_is None = let a : nat_le clock clock ≡ true = grind (arith, nat_tests) in let b : (clock == clock) ≡ true = grind (arith, nat_tests) in a ∙ sym b
+    start_is : (o : Option ℕ) → nat_le (start_of o engine.clock) engine.clock ≡ (start_of o engine.clock == engine.clock)
+    start_is None = let a : nat_le engine.clock engine.clock ≡ true = grind (arith, nat_tests) in let b : (engine.clock == engine.clock) ≡ true = grind (arith, nat_tests) in a ∙ sym b
     start_is (Some written) = grind (arith, nat_tests)
 
     own_fires : instant made ≡ fires own h (Create statement)
     own_fires =
-        own_instant clock made ∙ (λ i. if start_is statement.start i then Some clock else None)
+        own_instant engine.clock made ∙ (λ i. if start_is statement.start i then Some engine.clock else None)
         ∙ (λ i. if start_of statement.start (s.clock i) == s.clock i then Some (s.clock i) else None)
         ∙ sym (new_fires statement h)
 
@@ -234,104 +230,102 @@ module _ (store : StoreState) (clock count creates : ℕ) (labels : List Label) 
     old_first : (sub : Subscription) → sub.install ≤ creates_of h → IsFirst sub h (Create statement)
     old_first sub before at fired based = absurd (let bad : Some at ≡ None = sym fired ∙ old_quiet statement h sub before in cc)
 
-    -- each member fires where its subscription does
-    olds_fire : (subs : List Subscription) (ms : List Member) → Pairwise (Keeps labels h) subs ms → Installed h subs → AllByRecursion (λ n. n.install < made.install) ms
-        → Pairwise (λ s m. Keeps labels h s m × (instant m ≡ fires s h (Create statement))) subs ms
+    -- each subscription fires where its subscription does
+    olds_fire : (subs : List Subscription) (ms : List Kept) → Pairwise (Keeps engine.labels h) subs ms → Installed h subs → AllByRecursion (λ n. n.install < made.install) ms
+        → Pairwise (λ s m. Keeps engine.labels h s m × (instant m ≡ fires s h (Create statement))) subs ms
     olds_fire [] [] p i b = tt
     olds_fire [] (m ∷ ms) p i b = absurd p
     olds_fire (x ∷ subs) [] p i b = absurd p
-    olds_fire (x ∷ subs) (m ∷ ms) p i b = ((p.0, quiet_one clock made.install m b.0 ∙ sym (old_quiet statement h x i.0)), olds_fire subs ms p.1 i.1 b.1)
+    olds_fire (x ∷ subs) (m ∷ ms) p i b = ((p.0, quiet_one engine.clock made.install m b.0 ∙ sym (old_quiet statement h x i.0)), olds_fire subs ms p.1 i.1 b.1)
 
-    own_keeps : Keeps labels h own made
-    own_keeps = keeps_new store clock count creates labels members old statement query action file whole binds kind h s
+    own_keeps : Keeps engine.labels h own made
+    own_keeps = keeps_new engine statement query action file whole binds kind named h s
 
-    firing : Pairwise (λ s m. Keeps labels h s m × (instant m ≡ fires s h (Create statement))) (live h ++ own ∷ []) all
-    firing = pairwise_push (λ s m. Keeps labels h s m × (instant m ≡ fires s h (Create statement))) (live h) members own made (olds_fire (live h) members s.members (installed h) below) (own_keeps, own_fires)
+    firing : Pairwise (λ s m. Keeps engine.labels h s m × (instant m ≡ fires s h (Create statement))) (live h ++ own ∷ []) all
+    firing = pairwise_push (λ s m. Keeps engine.labels h s m × (instant m ≡ fires s h (Create statement))) (live h) engine.subscriptions own made (olds_fire (live h) engine.subscriptions s.subscriptions (installed h) below) (own_keeps, own_fires)
 
-    olds_agree : (subs : List Subscription) (ms : List Member) → Pairwise (Keeps labels h) subs ms → Installed h subs → AllByRecursion (λ n. n.install < made.install) ms
-        → Pairwise (λ s m. Keeps labels h s m × (Agrees (is_some (instant m)) (fires s h (Create statement)) × IsFirst s h (Create statement))) subs ms
+    olds_agree : (subs : List Subscription) (ms : List Kept) → Pairwise (Keeps engine.labels h) subs ms → Installed h subs → AllByRecursion (λ n. n.install < made.install) ms
+        → Pairwise (λ s m. Keeps engine.labels h s m × (Agrees (is_some (instant m)) (fires s h (Create statement)) × IsFirst s h (Create statement))) subs ms
     olds_agree [] [] p i b = tt
     olds_agree [] (m ∷ ms) p i b = absurd p
     olds_agree (x ∷ subs) [] p i b = absurd p
-    olds_agree (x ∷ subs) (m ∷ ms) p i b = ((p.0, (ap is_some (quiet_one clock made.install m b.0 ∙ sym (old_quiet statement h x i.0)), old_first x i.0)), olds_agree subs ms p.1 i.1 b.1)
+    olds_agree (x ∷ subs) (m ∷ ms) p i b = ((p.0, (ap is_some (quiet_one engine.clock made.install m b.0 ∙ sym (old_quiet statement h x i.0)), old_first x i.0)), olds_agree subs ms p.1 i.1 b.1)
 
-    kept : Pairwise (Keeps labels (Create statement ∷ h)) (live h ++ own ∷ []) created_members
-    kept = keep_all labels h (Create statement) store same_changes (λ m. is_some (instant m)) (live h ++ own ∷ []) all
-        (pairwise_push (λ s m. Keeps labels h s m × (Agrees (is_some (instant m)) (fires s h (Create statement)) × IsFirst s h (Create statement))) (live h) members own made
-        (olds_agree (live h) members s.members (installed h) below) (own_keeps, (ap is_some own_fires, own_first)))
+    kept : Pairwise (Keeps engine.labels (Create statement ∷ h)) (live h ++ own ∷ []) created_subscriptions
+    kept = keep_all engine.labels h (Create statement) engine.store same_changes (λ m. is_some (instant m)) (live h ++ own ∷ []) all
+        (pairwise_push (λ s m. Keeps engine.labels h s m × (Agrees (is_some (instant m)) (fires s h (Create statement)) × IsFirst s h (Create statement))) (live h) engine.subscriptions own made
+        (olds_agree (live h) engine.subscriptions s.subscriptions (installed h) below) (own_keeps, (ap is_some own_fires, own_first)))
 
     contents_are : AreContents table.files (Create statement ∷ h)
-    contents_are = contents_installed (plan_of query) old table file.0 h (Create statement) done (number ∙ s.changes) (zero-add (changes h))
-        (subst (λ n. Fits n (world (sources (Create statement ∷ h))) table.files) (number ∙ s.changes) (subst (λ w. Fits old.number w table.files) (sym (world_is store (sources h) s.sources)) fits)) s.contents
+    contents_are = contents_installed (plan_of query) engine.table table file.0 h (Create statement) done (number ∙ s.changes) (zero-add (changes h))
+        (subst (λ n. Fits n (world (sources (Create statement ∷ h))) table.files) (number ∙ s.changes) (subst (λ w. Fits engine.table.number w table.files) (sym (world_is engine.store (sources h) s.sources)) fits)) s.contents
 
-    -- the engine with the new member behind the others
-    pub create_follows : Follows (engine store clock (count + 1) (creates + 1) labels created_members table) (Create statement ∷ h)
+    -- the engine with the new subscription behind the others
+    pub create_follows : Follows (record engine { count = engine.count + 1; creates = engine.creates + 1; subscriptions = created_subscriptions; table = table }) (Create statement ∷ h)
     create_follows = record {
       sources = s.sources;
       last = s.last;
       changes = same_changes;
       clock = s.clock;
       creates = let c = s.creates in omega (arith, c);
-      members = kept;
+      subscriptions = kept;
       contents = contents_are;
       rising = rises_quietly h (Create statement) refl s.rising;
     }
 
-    list_is : created_list ≡ map (noticed labels h (Create statement) store table.files) (firings h (Create statement))
-    list_is = told_list labels h (Create statement) store table.files instant (live h ++ own ∷ []) all
-        (tells_each labels h (Create statement) store table s.last s.rising contents_are (subst (λ n. AreUpTo n table.files) same_changes upto) instant (live h ++ own ∷ []) all firing can)
+    list_is : created_list ≡ map (noticed engine.labels h (Create statement) engine.store table.files) (firings h (Create statement))
+    list_is = told_list engine.labels h (Create statement) engine.store table.files instant (live h ++ own ∷ []) all
+        (tells_each engine.labels h (Create statement) engine.store table s.last s.rising contents_are (subst (λ n. AreUpTo n table.files) same_changes upto) instant (live h ++ own ∷ []) all firing can)
 
-    olds_quiet : (ms : List Member) → AllByRecursion (λ n. n.install < made.install) ms → told_of labels store table.files instant ms ≡ []
+    olds_quiet : (ms : List Kept) → AllByRecursion (λ n. n.install < made.install) ms → told_of engine.labels engine.store table.files instant ms ≡ []
     olds_quiet [] b = refl
-    olds_quiet (m ∷ ms) b = λ i. told_at labels store table.files m (quiet_one clock made.install m b.0 i) ++ olds_quiet ms b.1 i
+    olds_quiet (m ∷ ms) b = λ i. notice_texts engine.labels engine.store table.files m (quiet_one engine.clock made.install m b.0 i) ++ olds_quiet ms b.1 i
 
     -- it alone is told
-    one_told : created_list ≡ told_at labels store table.files made (instant made)
+    one_told : created_list ≡ notice_texts engine.labels engine.store table.files made (instant made)
     one_told =
-        flat_map_append (λ (m : Member). told_at labels store table.files m (instant m)) members (made ∷ [])
-        ∙ (λ i. olds_quiet members below i ++ (told_at labels store table.files made (instant made) ++ []))
-        ∙ append-nil (told_at labels store table.files made (instant made))
+        flat_map_append (λ (m : Kept). notice_texts engine.labels engine.store table.files m (instant m)) engine.subscriptions (made ∷ [])
+        ∙ (λ i. olds_quiet engine.subscriptions below i ++ (notice_texts engine.labels engine.store table.files made (instant made) ++ []))
+        ∙ append-nil (notice_texts engine.labels engine.store table.files made (instant made))
 
-    in_order : ordered_by (λ (t : Told). t.firing) created_list ≡ created_list
-    in_order = ap (ordered_by (λ (t : Told). t.firing)) one_told ∙ by (instant made) ∙ sym one_told
+    in_order : ordered_by (λ (t : NoticeText). t.firing) created_list ≡ created_list
+    in_order = ap (ordered_by (λ (t : NoticeText). t.firing)) one_told ∙ by (instant made) ∙ sym one_told
       where
-        by : (o : Option ℕ) → ordered_by (λ (t : Told). t.firing) (told_at labels store table.files made o) ≡ told_at labels store table.files made o
+        by : (o : Option ℕ) → ordered_by (λ (t : NoticeText). t.firing) (notice_texts engine.labels engine.store table.files made o) ≡ notice_texts engine.labels engine.store table.files made o
         by None = refl
         by (Some at) = refl
 
-    pub create_text : flat_map (λ (t : Told). t.text) created_list ≡ notices (language_of labels) h (Create statement)
-    create_text = ap (flat_map (λ (t : Told). t.text)) (sym in_order) ∙ told_text_is labels h (Create statement) store table.files created_list list_is
+    pub create_text : flat_map (λ (t : NoticeText). t.text) created_list ≡ notices (language_of engine.labels) h (Create statement)
+    create_text = ap (flat_map (λ (t : NoticeText). t.text)) (sym in_order) ∙ told_text_is engine.labels h (Create statement) engine.store table.files created_list list_is
 
-    pub create_spans : (from : ℕ) → told_spans from created_list ≡ spans (language_of labels) h (Create statement) from
-    create_spans from = ap (told_spans from) (sym in_order) ∙ told_spans_are labels h (Create statement) store table.files created_list list_is from
+    pub create_spans : (from : ℕ) → told_spans from created_list ≡ spans (language_of engine.labels) h (Create statement) from
+    create_spans from = ap (told_spans from) (sym in_order) ∙ told_spans_are engine.labels h (Create statement) engine.store table.files created_list list_is from
 
   -- a create that is accepted
-  pub create_accepted : is_at_odds (kind_in statement.action labels) statement.argument ≡ false → list_any (λ m. bytes_eq statement.name m.name) members ≡ false → is_expired (timed statement clock) (start_of statement.start clock) ≡ false
-      → AllByRecursion (CanTell labels store table) all → InstallsAreUpTo creates members
-      → (out line out' : List ℕ) (applied : Answered) (left : List Member) → line ≡ out ++ ok_text (count + 1)
-      → out' ≡ line ++ flat_map (λ (t : Told). t.text) created_list
-      → applied.from ≡ length line → applied.to ≡ length out' → applied.spans ≡ told_spans (length line) created_list → left ≡ created_members
-      → Applies (engine store clock count creates labels members old) (Create statement) out (Ok applied) (engine store clock (count + 1) (creates + 1) labels left table) out'
+  pub create_accepted : is_at_odds (kind_in statement.action engine.labels) statement.argument ≡ false → list_any (λ m. bytes_eq statement.name m.name) engine.subscriptions ≡ false → is_expired (timed statement engine.clock) (start_of statement.start engine.clock) ≡ false
+      → AllByRecursion (CanTell engine.labels engine.store table) all → InstallsAreUpTo engine.creates engine.subscriptions
+      → (out line out' : List ℕ) (applied : Answered) (left : List Kept) → line ≡ out ++ ok_text (engine.count + 1)
+      → out' ≡ line ++ flat_map (λ (t : NoticeText). t.text) created_list
+      → applied.from ≡ length line → applied.to ≡ length out' → applied.spans ≡ told_spans (length line) created_list → left ≡ created_subscriptions
+      → Applies engine (Create statement) out (Ok applied) (record engine { count = engine.count + 1; creates = engine.creates + 1; subscriptions = left; table = table }) out'
   create_accepted fitting free timely can few out line out' applied left first rest from to places is =
-      let text = flat_map (λ (t : Told). t.text) created_list in
-      let whole_text : out' ≡ (out ++ ok_text (count + 1)) ++ text = rest ∙ ap (λ (l : List ℕ). l ++ text) first in
-      subst (λ (ms : List Member). Applies (engine store clock count creates labels members old) (Create statement) out (Ok applied) (engine store clock (count + 1) (creates + 1) labels ms table) out') (sym is)
-      (accepts (engine store clock count creates labels members old) (Create statement) out applied (engine store clock (count + 1) (creates + 1) labels created_members table) out' text []
+      let text = flat_map (λ (t : NoticeText). t.text) created_list in
+      let whole_text : out' ≡ (out ++ ok_text (engine.count + 1)) ++ text = rest ∙ ap (λ (l : List ℕ). l ++ text) first in
+      subst (λ (ms : List Kept). Applies engine (Create statement) out (Ok applied) (record engine { count = engine.count + 1; creates = engine.creates + 1; subscriptions = ms; table = table }) out') (sym is)
+      (accepts engine (Create statement) out applied (record engine { count = engine.count + 1; creates = engine.creates + 1; subscriptions = created_subscriptions; table = table }) out' text []
       (record {
-        accepted = λ h s. (
-          create_refusal store clock count creates labels members old statement false false false None free (binds_freely statement.query (roots_in store) query binds) fitting timely h s,
-          create_follows can few h s,
-        );
+        accepted = λ h s. create_refusal engine statement false false false None free (binds_freely statement.query (roots_in engine.store) query binds) fitting timely h s;
+        follows = λ h s. create_follows can few h s;
         tells = λ h s. create_text can few h s;
-        stand = λ h s. places ∙ create_spans can few h s (length line) ∙ ap (spans (language_of labels) h (Create statement)) (sym from);
+        stand = λ h s. places ∙ create_spans can few h s (length line) ∙ ap (spans (language_of engine.labels) h (Create statement)) (sym from);
         ends = λ h s. refl;
         counted = refl;
         named = refl;
       })
-      (whole_text ∙ ap (λ (l : List ℕ). (out ++ ok_text (count + 1)) ++ l) (sym (append-nil text)))
+      (whole_text ∙ ap (λ (l : List ℕ). (out ++ ok_text (engine.count + 1)) ++ l) (sym (append-nil text)))
       (from ∙ ap length first)
       (to ∙ ap length whole_text))
 
 -- the new install number is above all others
-pub above_all : (most : ℕ) (members : List Member) (install : ℕ) → InstallsAreUpTo most members → install ≡ most + 1 → AllByRecursion (λ m. m.install < install) members
-above_all most members install h e = each_more (λ (m : Member). m.install ≤ most) (λ (m : Member). m.install < install) (λ m le. (let l : m.install < install = omega (arith, le, e) in l)) members h
+pub above_all : (most : ℕ) (subscriptions : List Kept) (install : ℕ) → InstallsAreUpTo most subscriptions → install ≡ most + 1 → AllByRecursion (λ m. m.install < install) subscriptions
+above_all most subscriptions install h e = each_more (λ (m : Kept). m.install ≤ most) (λ (m : Kept). m.install < install) (λ m le. (let l : m.install < install = omega (arith, le, e) in l)) subscriptions h

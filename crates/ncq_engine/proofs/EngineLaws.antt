@@ -10,36 +10,46 @@ use Rattle.ncq_script.specs.declared.refusal.Refusal.{Refusal}
 use Rattle.ncq_engine.specs.declared.telling.Answered.{Answered}
 use Rattle.ncq_engine.specs.declared.engine.ApplyError.{ApplyError}
 use Rattle.ncq_engine.specs.declared.engine.ApplyError.TheVariants.{Refused, OutOfMemory}
-use Rattle.ncq_book.specs.declared.member.Member.{Member}
+use Rattle.ncq_book.specs.declared.subscription.Subscription.{Subscription as Kept}
 use Rattle.ncq_engine.specs.Applies.{Applies, ok_text}
 use Rattle.ncq_engine.specs.Engines.{Pairwise}
 use Rattle.ncq_engine.specs.Firing.{fires}
 use Rattle.ncq_engine.specs.History.{History, Subscription, moved, now}
 use Rattle.ncq_engine.specs.Marks.{IsRising}
 use Rattle.ncq_engine.specs.Languages.{language_of}
-use Rattle.ncq_engine.specs.Notices.{fired_at, told}
+use Rattle.ncq_engine.specs.Notices.{fired_at, firings_in_order}
 use Rattle.ncq_engine.specs.Output.{closing_text, first_refusal, notices}
 use Rattle.ncq_engine.specs.declared.span.Span.{Span}
 use Rattle.ncq_engine.specs.Spans.{spans}
-use Rattle.ncq_engine.specs.Stands.{EngineCore, Follows, Keeps}
+use Rattle.ncq_engine.specs.Stands.{EngineState, Follows, Keeps}
 use Rattle.ncq_engine.proofs.Keeping.{keeps_quiet}
 
 -- a command that leaves the clock leaves it rising
 pub rises_quietly : (h : History) (command : Command) → moved command (now h) ≡ now h → IsRising h → IsRising (command ∷ h)
 rises_quietly h command same rising = ((let l : now h ≤ moved command (now h) = omega (arith, same) in l), rising)
 
+-- how many commands were answered, and where the notices of the last one stand, is no matter
+pub follows_still : (e : EngineState) (count : ℕ) (places : List Span) (h : History) → Follows e h → Follows (record e { count = count; spans = places }) h
+follows_still e count places h s = record { sources = s.sources; last = s.last; changes = s.changes; clock = s.clock; creates = s.creates; subscriptions = s.subscriptions; contents = s.contents; rising = s.rising }
+
 -- a command that is refused leaves all as it was, but for the number of commands
-pub refuses : (old : EngineCore) (command : Command) (why : Refusal) (out : List ℕ) (result : Result Answered ApplyError) (new : EngineCore) (out' : List ℕ)
+pub refuses : (old : EngineState) (command : Command) (why : Refusal) (out : List ℕ) (result : Result Answered ApplyError) (new : EngineState) (out' : List ℕ)
     → result ≡ Err (Refused why) → new ≡ record old { count = old.count + 1 } → out' ≡ out
     → ((h : History) → Follows old h → first_refusal (language_of old.labels) h command ≡ Some why) → Applies old command out result new out'
 refuses old command why out result new out' is same untouched because =
     subst (λ (r : Result Answered ApplyError). Applies old command out r new out') (sym is)
-    (subst (λ (n : EngineCore). Applies old command out (Err (Refused why)) n out') (sym same)
-    ((λ h s. (because h s, record { sources = s.sources; last = s.last; changes = s.changes; clock = s.clock; creates = s.creates; members = s.members; contents = s.contents; rising = s.rising })), (refl, (refl, untouched))))
+    (subst (λ (n : EngineState). Applies old command out (Err (Refused why)) n out') (sym same) (record {
+      refused = because;
+      follows = λ h s. follows_still old (old.count + 1) old.spans h s;
+      counted = refl;
+      labels = refl;
+      unwritten = untouched;
+    }))
 
 -- what is appended behind the first line, and what it stands for
-pub record Tells (old : EngineCore) (command : Command) (new : EngineCore) (text : List ℕ) (from : ℕ) (places : List Span) (rest : List ℕ) : Type 0 where
-  pub accepted : (h : History) → Follows old h → (first_refusal (language_of old.labels) h command ≡ None) × Follows new (command ∷ h)
+pub record Tells (old : EngineState) (command : Command) (new : EngineState) (text : List ℕ) (from : ℕ) (places : List Span) (rest : List ℕ) : Type 0 where
+  pub accepted : (h : History) → Follows old h → first_refusal (language_of old.labels) h command ≡ None
+  pub follows : (h : History) → Follows old h → Follows new (command ∷ h)
   pub tells : (h : History) → Follows old h → text ≡ notices (language_of old.labels) h command
   pub stand : (h : History) → Follows old h → places ≡ spans (language_of old.labels) h command from
   pub ends : (h : History) → Follows old h → rest ≡ closing_text (language_of old.labels) command h
@@ -47,43 +57,34 @@ pub record Tells (old : EngineCore) (command : Command) (new : EngineCore) (text
   pub named : new.labels ≡ old.labels
 
 -- a command that is accepted
-pub accepts : (old : EngineCore) (command : Command) (out : List ℕ) (applied : Answered) (new : EngineCore) (out' text rest : List ℕ)
+pub accepts : (old : EngineState) (command : Command) (out : List ℕ) (applied : Answered) (new : EngineState) (out' text rest : List ℕ)
     → Tells old command new text applied.from applied.spans rest
     → out' ≡ (out ++ ok_text (old.count + 1)) ++ (text ++ rest) → applied.from ≡ length (out ++ ok_text (old.count + 1)) → applied.to ≡ length ((out ++ ok_text (old.count + 1)) ++ text)
     → Applies old command out (Ok applied) new out'
 accepts old command out applied new out' text rest t e from to =
-    let line = ok_text (old.count + 1) in (
-      λ h s.
-          let a = t.accepted h s in (
-            a.0,
-            (
-              a.1,
-              e ∙ append_assoc out line (text ++ rest)
-                  ∙ ap (λ x. out ++ x) (sym (append_assoc line text rest))
-                  ∙ (λ i. out ++ ((line ++ t.tells h s i) ++ t.ends h s i)),
-            ),
-          ),
-      (
-        t.counted,
-        (
-          t.named,
-          λ h s. (
-            from ∙ length-append out line,
-            (
-              to ∙ length-append (out ++ line) text ∙ (λ i. sym from i + length (t.tells h s i)),
-              t.stand h s,
-            ),
-          ),
-        ),
-      ),
-    )
+    let line = ok_text (old.count + 1) in record {
+      accepted = t.accepted;
+      follows = t.follows;
+      answer = λ h s. e ∙ append_assoc out line (text ++ rest)
+          ∙ ap (λ x. out ++ x) (sym (append_assoc line text rest))
+          ∙ (λ i. out ++ ((line ++ t.tells h s i) ++ t.ends h s i));
+      counted = t.counted;
+      labels = t.named;
+      places = λ h s. record {
+        between = record {
+          begins = from ∙ length-append out line;
+          ends = to ∙ length-append (out ++ line) text ∙ (λ i. sym from i + length (t.tells h s i));
+        };
+        spans = t.stand h s;
+      };
+    }
 
 -- where the first line cannot be appended, or more
-pub gives_up : (old : EngineCore) (command : Command) (out : List ℕ) (result : Result Answered ApplyError) (new : EngineCore) (out' : List ℕ) → result ≡ Err OutOfMemory → Applies old command out result new out'
+pub gives_up : (old : EngineState) (command : Command) (out : List ℕ) (result : Result Answered ApplyError) (new : EngineState) (out' : List ℕ) → result ≡ Err OutOfMemory → Applies old command out result new out'
 gives_up old command out result new out' is = subst (λ (r : Result Answered ApplyError). Applies old command out r new out') (sym is) tt
 
 -- a command that tells nobody
-pub accepts_quietly : (old : EngineCore) (command : Command) (out : List ℕ) (result : Result Answered ApplyError) (new : EngineCore) (out' : List ℕ)
+pub accepts_quietly : (old : EngineState) (command : Command) (out : List ℕ) (result : Result Answered ApplyError) (new : EngineState) (out' : List ℕ)
     → Tells old command new [] (length out') [] []
     → OnOk result (out' ≡ out ++ ok_text (old.count + 1)) → IfOk result (λ a. a ≡ record { from = length out'; to = length out'; spans = [] }) → OnErr result (result ≡ Err OutOfMemory)
     → Applies old command out result new out'
@@ -93,6 +94,7 @@ accepts_quietly old command out (Ok applied) new out' t text places only =
     accepts old command out applied new out' [] []
     (record {
       accepted = t.accepted;
+      follows = t.follows;
       tells = t.tells;
       stand = λ h s. ap (λ (a : Answered). a.spans) places ∙ t.stand h s ∙ ap (spans (language_of old.labels) h command) (sym (ap (λ (a : Answered). a.from) places));
       ends = t.ends;
@@ -108,11 +110,11 @@ nobody : (h : History) (command : Command) → ((s : Subscription) → fires s h
 nobody h command quiet [] = refl
 nobody h command quiet (s ∷ subs) = (λ i. fired_at s (quiet s i) ++ nobody h command quiet subs i)
 
-pub told_nobody : (h : History) (command : Command) → ((s : Subscription) → fires s h command ≡ None) → told h command ≡ []
+pub told_nobody : (h : History) (command : Command) → ((s : Subscription) → fires s h command ≡ None) → firings_in_order h command ≡ []
 told_nobody h command quiet = ap (ordered_by (λ f. f.0)) (nobody h command quiet _)
 
 module _ (labels : List Label) (h : History) (command : Command) (quiet : (s : Subscription) → fires s h command ≡ None) where
-  pub keep_quiet : (subs : List Subscription) (ms : List Member) → Pairwise (Keeps labels h) subs ms → Pairwise (Keeps labels (command ∷ h)) subs ms
+  pub keep_quiet : (subs : List Subscription) (ms : List Kept) → Pairwise (Keeps labels h) subs ms → Pairwise (Keeps labels (command ∷ h)) subs ms
   keep_quiet [] [] p = tt
   keep_quiet [] (m ∷ ms) p = absurd p
   keep_quiet (s ∷ subs) [] p = absurd p

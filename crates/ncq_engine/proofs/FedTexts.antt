@@ -3,8 +3,8 @@ use Rattle.std.proofs.Common.{◌≡◌, ℕ, ◌+◌, Bool, true, false, ◌&&�
 use Rattle.std.specs.Prelude.{Some, None, ◌⊎◌, nat_eq, nat_le, if◌then◌else◌}
 use Rattle.std.specs.List.{filter, flat_map, list_any, AllByRecursion}
 use Rattle.std.specs.Str.{bytes_eq}
-use Rattle.ncq_book.specs.declared.member.Member.{Member}
-use Rattle.ncq_book.specs.Books.{InstallsRise, member_of, watchers_of, watches}
+use Rattle.ncq_book.specs.declared.subscription.Subscription.{Subscription as Kept}
+use Rattle.ncq_book.specs.Books.{InstallsRise, subscription_of, watchers_of, watches}
 use Rattle.ncq_callback.specs.Labels.{Label}
 use Rattle.ncq_event.specs.declared.firing.Firing.{Firing}
 use Rattle.ncq_feed.specs.Feeds.{NamesTheFed}
@@ -14,7 +14,7 @@ use Rattle.ncq_script.specs.declared.command.Command.TheVariants.{Delta}
 use Rattle.ncq_shelf.specs.Contents.{AreUpTo}
 use Rattle.ncq_shelf.specs.KeptFiles.{Files}
 use Rattle.ncq_source.specs.StoreStates.{StoreState}
-use Rattle.ncq_engine.specs.Engines.{CanTell, Pairwise, Told, is_told_change, last_in, told_at, told_text}
+use Rattle.ncq_engine.specs.Engines.{CanTell, Pairwise, NoticeText, is_told_change, last_in, notice_texts, notice_text}
 use Rattle.ncq_engine.specs.History.{History, Subscription, changes, last_change, live, now}
 use Rattle.ncq_engine.specs.Marks.{IsRising}
 use Rattle.ncq_engine.specs.Stands.{AreContents, Keeps}
@@ -51,31 +51,31 @@ module _ {X : Type 0} (name text : X → List ℕ) where
   spans_total from (x ∷ xs) = ap (λ rest. span_of (name x) from (text x) ++ rest) (spans_total (from + length (text x)) xs)
 
 module _ (labels : List Label) (store : StoreState) (files : Files) (fed : List ℕ) (name : List ℕ) (clock : ℕ) where
-  -- the member is asked exactly where it is told, or it is told nothing
-  abbrev pub AsksEnough : Member → Type 0
-  AsksEnough m = ((watches fed m && nat_le m.timing.start clock) ≡ is_told_change name clock m) ⊎ (told_text labels store files m clock ≡ [])
+  -- the subscription is asked exactly where it is told, or it is told nothing
+  abbrev pub AsksEnough : Kept → Type 0
+  AsksEnough m = ((watches fed m && nat_le m.timing.start clock) ≡ is_told_change name clock m) ⊎ (notice_text labels store files m clock ≡ [])
 
-  module _ (all : List Member) where
-    -- the firings of those of these members that are asked
-    abbrev asked : List Member → List Firing
+  module _ (all : List Kept) where
+    -- the firings of those of these subscriptions that are asked
+    abbrev asked : List Kept → List Firing
     asked ms = flat_map (started_at clock all) (watchers_of fed ms)
 
     -- and the notices of those that are told
-    abbrev told : List Member → List Told
+    abbrev told : List Kept → List NoticeText
     told ms = told_of labels store files (changed_instant name clock) ms
 
     module _ {A : Type 0} (weigh : List ℕ → List ℕ → A → A) (silent : (name : List ℕ) (rest : A) → weigh name [] rest ≡ rest) (none : A) where
       abbrev of_firings : List Firing → A
       of_firings firings = total weigh none (firing_name all) (firing_text labels store files all) firings
 
-      abbrev of_told : List Told → A
-      of_told list = total weigh none (λ (t : Told). t.name) (λ (t : Told). t.text) list
+      abbrev of_told : List NoticeText → A
+      of_told list = total weigh none (λ (t : NoticeText). t.name) (λ (t : NoticeText). t.text) list
 
-      -- what one more member adds, where the test says so
-      abbrev one_more : Bool → Member → A → A
-      one_more test m rest = if test then weigh m.name (told_text labels store files m clock) rest else rest
+      -- what one more subscription adds, where the test says so
+      abbrev one_more : Bool → Kept → A → A
+      one_more test m rest = if test then weigh m.name (notice_text labels store files m clock) rest else rest
 
-      started_one : (m : Member) → member_of m.install all ≡ Some m → (rest : List Firing)
+      started_one : (m : Kept) → subscription_of m.install all ≡ Some m → (rest : List Firing)
           → of_firings (started_at clock all m.install ++ rest) ≡ one_more (nat_le m.timing.start clock) m (of_firings rest)
       started_one m e rest =
           let firing : Firing = record { instant = clock; install = m.install } in
@@ -85,7 +85,7 @@ module _ (labels : List Label) (store : StoreState) (files : Files) (fed : List 
             | false ↦ refl
           ]
 
-      asked_more : (m : Member) (ms : List Member) → member_of m.install all ≡ Some m
+      asked_more : (m : Kept) (ms : List Kept) → subscription_of m.install all ≡ Some m
           → of_firings (asked (m ∷ ms)) ≡ one_more (watches fed m && nat_le m.timing.start clock) m (of_firings (asked ms))
       asked_more m ms e =
           elim (watches fed m) as (λ t. of_firings (flat_map (started_at clock all) (map (λ m. m.install) (cond t (m ∷ filter (watches fed) ms) (filter (watches fed) ms))))
@@ -94,20 +94,20 @@ module _ (labels : List Label) (store : StoreState) (files : Files) (fed : List 
             | false ↦ refl
           ]
 
-      told_more : (m : Member) (ms : List Member) → of_told (told (m ∷ ms)) ≡ one_more (is_told_change name clock m) m (of_told (told ms))
+      told_more : (m : Kept) (ms : List Kept) → of_told (told (m ∷ ms)) ≡ one_more (is_told_change name clock m) m (of_told (told ms))
       told_more m ms =
-          elim (is_told_change name clock m) as (λ t. of_told (told_at labels store files m (if t then Some clock else None) ++ told ms) ≡ one_more t m (of_told (told ms))) [ true ↦ refl | false ↦ refl ]
+          elim (is_told_change name clock m) as (λ t. of_told (notice_texts labels store files m (if t then Some clock else None) ++ told ms) ≡ one_more t m (of_told (told ms))) [ true ↦ refl | false ↦ refl ]
 
       -- one that is told nothing adds nothing
-      adds_nothing : (test : Bool) (m : Member) (rest : A) → told_text labels store files m clock ≡ [] → one_more test m rest ≡ rest
+      adds_nothing : (test : Bool) (m : Kept) (rest : A) → notice_text labels store files m clock ≡ [] → one_more test m rest ≡ rest
       adds_nothing true m rest quiet = ap (λ bytes. weigh m.name bytes rest) quiet ∙ silent m.name rest
       adds_nothing false m rest quiet = refl
 
-      adds_alike : (m : Member) (rest : A) → AsksEnough m → one_more (watches fed m && nat_le m.timing.start clock) m rest ≡ one_more (is_told_change name clock m) m rest
+      adds_alike : (m : Kept) (rest : A) → AsksEnough m → one_more (watches fed m && nat_le m.timing.start clock) m rest ≡ one_more (is_told_change name clock m) m rest
       adds_alike m rest (inl same) = λ i. one_more (same i) m rest
       adds_alike m rest (inr quiet) = adds_nothing (watches fed m && nat_le m.timing.start clock) m rest quiet ∙ sym (adds_nothing (is_told_change name clock m) m rest quiet)
 
-      same_total : (ms : List Member) → AreFound all ms → AllByRecursion AsksEnough ms → of_firings (asked ms) ≡ of_told (told ms)
+      same_total : (ms : List Kept) → AreFound all ms → AllByRecursion AsksEnough ms → of_firings (asked ms) ≡ of_told (told ms)
       same_total [] found enough = refl
       same_total (m ∷ ms) found enough =
           asked_more m ms found.0
@@ -116,13 +116,13 @@ module _ (labels : List Label) (store : StoreState) (files : Files) (fed : List 
           ∙ sym (told_more m ms)
 
   -- what is written where those are asked whose file got rows
-  module _ (all : List Member) (rise : InstallsRise all) (enough : AllByRecursion AsksEnough all) where
+  module _ (all : List Kept) (rise : InstallsRise all) (enough : AllByRecursion AsksEnough all) where
     pub fed_text : flat_map (firing_text labels store files all) (flat_map (started_at clock all) (watchers_of fed all))
-        ≡ flat_map (λ (t : Told). t.text) (told_of labels store files (changed_instant name clock) all)
+        ≡ flat_map (λ (t : NoticeText). t.text) (told_of labels store files (changed_instant name clock) all)
     fed_text =
         flat_total (firing_name all) (firing_text labels store files all) (asked all all)
         ∙ same_total all text_first (λ name rest. refl) [] all (found_each all rise) enough
-        ∙ sym (flat_total (λ (t : Told). t.name) (λ (t : Told). t.text) (told all all))
+        ∙ sym (flat_total (λ (t : NoticeText). t.name) (λ (t : NoticeText). t.text) (told all all))
 
     -- and where it stands
     pub fed_spans : (from : ℕ) → firing_spans labels store files all from (flat_map (started_at clock all) (watchers_of fed all))
@@ -130,16 +130,16 @@ module _ (labels : List Label) (store : StoreState) (files : Files) (fed : List 
     fed_spans from =
         spans_total (firing_name all) (firing_text labels store files all) from (asked all all)
         ∙ ap (λ (made : ℕ → List Span). made from) (same_total all span_first silent (λ _. []) all (found_each all rise) enough)
-        ∙ sym (spans_total (λ (t : Told). t.name) (λ (t : Told). t.text) from (told all all))
+        ∙ sym (spans_total (λ (t : NoticeText). t.name) (λ (t : NoticeText). t.text) from (told all all))
       where
         silent : (name : List ℕ) (rest : ℕ → List Span) → span_first name [] rest ≡ rest
         silent name rest = λ i from. rest (let e : from + 0 ≡ from = omega arith in e i)
 
--- behind a change of an engine that follows the history each member is asked enough
+-- behind a change of an engine that follows the history each subscription is asked enough
 module _ (labels : List Label) (h : History) (name : List ℕ) (items : List Item) (clock : ℕ) (at_now : clock ≡ now h) (store : StoreState) (table : TableState)
     (last : (asked : List ℕ) → last_in store asked ≡ last_change asked h) (rising : IsRising h) (contents : AreContents table.files (Delta name items ∷ h))
     (upto : AreUpTo (changes (Delta name items ∷ h)) table.files) (fed : List ℕ) (named : NamesTheFed (changes h) table.files fed) where
-  asks_one : (s : Subscription) (m : Member) → Keeps labels h s m → CanTell labels store table m → FiresFirst h s → AsksEnough labels store table.files fed name clock m
+  asks_one : (s : Subscription) (m : Kept) → Keeps labels h s m → CanTell labels store table m → FiresFirst h s → AsksEnough labels store table.files fed name clock m
   asks_one s m k can fired = by (m.timing.every == 0) (list_any (nat_eq m.file.0) fed) (nat_le m.timing.start clock) (list_any (bytes_eq name) m.sources) refl refl refl refl
     where
       alike : (b f t a : Bool) → m.timing.every == 0 ≡ b → list_any (nat_eq m.file.0) fed ≡ f → nat_le m.timing.start clock ≡ t → list_any (bytes_eq name) m.sources ≡ a
@@ -158,13 +158,13 @@ module _ (labels : List Label) (h : History) (name : List ℕ) (items : List Ite
       by true false true false based in_fed started asks = alike true false true false based in_fed started asks refl
       by true false false a based in_fed started asks = alike true false false a based in_fed started asks refl
 
-  asks_each : (subs : List Subscription) (ms : List Member) → Pairwise (Keeps labels h) subs ms → AllByRecursion (CanTell labels store table) ms → AllByRecursion (FiresFirst h) subs
+  asks_each : (subs : List Subscription) (ms : List Kept) → Pairwise (Keeps labels h) subs ms → AllByRecursion (CanTell labels store table) ms → AllByRecursion (FiresFirst h) subs
       → AllByRecursion (AsksEnough labels store table.files fed name clock) ms
   asks_each [] [] p can fired = tt
   asks_each [] (m ∷ ms) p can fired = absurd p
   asks_each (s ∷ subs) [] p can fired = absurd p
   asks_each (s ∷ subs) (m ∷ ms) p can fired = (asks_one s m p.0 can.0 fired.0, asks_each subs ms p.1 can.1 fired.1)
 
-  pub asks_enough : (members : List Member) → Pairwise (Keeps labels h) (live h) members → AllByRecursion (CanTell labels store table) members
-      → AllByRecursion (AsksEnough labels store table.files fed name clock) members
-  asks_enough members p can = asks_each (live h) members p can (all_fired h)
+  pub asks_enough : (subscriptions : List Kept) → Pairwise (Keeps labels h) (live h) subscriptions → AllByRecursion (CanTell labels store table) subscriptions
+      → AllByRecursion (AsksEnough labels store table.files fed name clock) subscriptions
+  asks_enough subscriptions p can = asks_each (live h) subscriptions p can (all_fired h)

@@ -16,7 +16,7 @@ use Rattle.ncq_midfile.specs.Files.{FileState}
 use Rattle.ncq_shelf.specs.KeptFiles.{Files}
 use Rattle.ncq_plan.specs.Plans.{plan_of}
 use Rattle.ncq_pyx.specs.declared.item.Item.{Item}
-use Rattle.ncq_roll.specs.Rolls.{IsRoll, RollState}
+use Rattle.ncq_live.specs.LiveTables.{IsLiveTable, LiveState}
 use Rattle.ncq_shelf.specs.Contents.{AreUpTo, Fits}
 use Rattle.ncq_shelf.specs.Stands.{Stands as HasFile}
 use Rattle.ncq_source.specs.ChangeStates.{ChangeState}
@@ -25,11 +25,11 @@ use Rattle.ncq_source.specs.Prepared.{IsPrepared}
 use Rattle.ncq_source.specs.declared.key.Key.{Key}
 use Rattle.ncq_source.specs.Stores.{Source as Declared, without_room}
 use Rattle.ncq_source.specs.StoreStates.{StoreState, At, Declares, IsAlike, IsCommitted, found}
-use Rattle.ncq_book.specs.declared.member.Member.{Member}
+use Rattle.ncq_book.specs.declared.subscription.Subscription.{Subscription as Kept}
 use Rattle.ncq_book.specs.Books.{InstallsRise}
 use Rattle.ncq_engine.specs.Engines.{CanTell, InstallsAreUpTo, IsEngine, fired_if, last_in}
 use Rattle.ncq_engine.specs.History.{world}
-use Rattle.ncq_engine.specs.Stands.{EngineCore, content_of}
+use Rattle.ncq_engine.specs.Stands.{EngineState, content_of}
 use Rattle.ncq_engine.specs.Tellings.{AreOf, IsLeftBy}
 use Rattle.ncq_engine.proofs.HistoryLaws.{key_is}
 use Rattle.ncq_engine.proofs.Lists.{each_filter, each_more, each_push}
@@ -38,8 +38,13 @@ use Rattle.ncq_engine.proofs.StoreLaws.{last_alike, last_declared}
 use Rattle.ncq_engine.proofs.TableLaws.{can_left, can_noted, can_store, can_table, fed_still, installed_still}
 use Rattle.ncq_engine.proofs.Worlds.{new_is_empty, world_is}
 
-abbrev pub Invariant : EngineCore → Type 0
-Invariant e = IsEngine e.store e.count e.creates e.labels e.members e.table
+abbrev pub Invariant : EngineState → Type 0
+Invariant e = IsEngine e.store e.count e.creates e.labels e.subscriptions e.table
+
+-- it holds with the same subscriptions and files, wherever they are kept
+pub invariant_same : (e : EngineState) (live_table : LiveState) → live_table.subscriptions ≡ e.subscriptions → live_table.table ≡ e.table → Invariant e → Invariant (record e { subscriptions = live_table.subscriptions; table = live_table.table })
+invariant_same e live_table subscriptions table =
+    subst (λ (p : List Kept × TableState). IsEngine e.store e.count e.creates e.labels p.0 p.1) (λ j. (sym subscriptions j, sym table j))
 
 -- sources that differ in room alone have one world
 pub world_alike : (old new : StoreState) → map without_room new.sources ≡ map without_room old.sources → world_in new ≡ world_in old
@@ -54,7 +59,7 @@ world_declared old new name root key d =
     ∙ world_is old (map content_of old.sources) refl
 
 -- a command that is counted
-pub invariant_counted : (e : EngineCore) → Invariant e → Invariant (record e { count = e.count + 1 })
+pub invariant_counted : (e : EngineState) → Invariant e → Invariant (record e { count = e.count + 1 })
 invariant_counted e i =
     let a = i.changes in let b = i.creates_too in
     record {
@@ -70,7 +75,7 @@ invariant_counted e i =
     }
 
 -- one more source
-pub invariant_declared : (e : EngineCore) (store : StoreState) (name root : List ℕ) (key : Key) → Declares e.store store name root key → Invariant e → Invariant (record e { store = store })
+pub invariant_declared : (e : EngineState) (store : StoreState) (name root : List ℕ) (key : Key) → Declares e.store store name root key → Invariant e → Invariant (record e { store = store })
 invariant_declared e store name root key d i =
     let few = i.changes in
     let same = d.changes in
@@ -80,7 +85,7 @@ invariant_declared e store name root key d i =
       creates_too = i.creates_too;
       lasts = λ asked. (let a = last asked in let b = i.lasts asked in let l : last_in store asked ≤ store.changes = omega (arith, a, b, same) in l);
       can = each_more (CanTell e.labels e.store e.table) (CanTell e.labels store e.table)
-          (can_store e.labels e.store store e.table (λ asked. let a = last asked in let l : last_in e.store asked ≤ last_in store asked = omega (arith, a) in l)) e.members i.can;
+          (can_store e.labels e.store store e.table (λ asked. let a = last asked in let l : last_in e.store asked ≤ last_in store asked = omega (arith, a) in l)) e.subscriptions i.can;
       rise = i.rise;
       installed = i.installed;
       number = i.number ∙ sym same;
@@ -89,7 +94,7 @@ invariant_declared e store name root key d i =
     }
 
 -- room for sources
-pub invariant_alike : (e : EngineCore) (store : StoreState) → IsAlike e.store store → Invariant e → Invariant (record e { store = store })
+pub invariant_alike : (e : EngineState) (store : StoreState) → IsAlike e.store store → Invariant e → Invariant (record e { store = store })
 invariant_alike e store alike i =
     let few = i.changes in
     let same = alike.changes in
@@ -99,7 +104,7 @@ invariant_alike e store alike i =
       creates_too = i.creates_too;
       lasts = λ asked. (let a = last asked in let b = i.lasts asked in let l : last_in store asked ≤ store.changes = omega (arith, a, b, same) in l);
       can = each_more (CanTell e.labels e.store e.table) (CanTell e.labels store e.table)
-          (can_store e.labels e.store store e.table (λ asked. let a = last asked in let l : last_in e.store asked ≤ last_in store asked = omega (arith, a) in l)) e.members i.can;
+          (can_store e.labels e.store store e.table (λ asked. let a = last asked in let l : last_in e.store asked ≤ last_in store asked = omega (arith, a) in l)) e.subscriptions i.can;
       rise = i.rise;
       installed = i.installed;
       number = i.number ∙ sym same;
@@ -148,7 +153,7 @@ module _ (store ready : StoreState) (name : List ℕ) (items : List Item) (chang
       ∙ ap world_of (sym (λ i. λ source. commits_after ready ready after name change (record { source = here_ready; chains = chains_here; room = record { changes = refl; sources = refl }; committed = done }) source i))
 
 -- the files were fed, and the change was committed
-pub invariant_changed : (e : EngineCore) (change : ChangeState) (store : StoreState) (table : TableState) → Invariant e → store.changes ≡ e.store.changes + 1 → e.store.changes + 1 ≤ e.count
+pub invariant_changed : (e : EngineState) (change : ChangeState) (store : StoreState) (table : TableState) → Invariant e → store.changes ≡ e.store.changes + 1 → e.store.changes + 1 ≤ e.count
     → ((name : List ℕ) → last_in e.store name ≤ last_in store name) → ((name : List ℕ) → last_in store name ≤ store.changes)
     → AreFed e.store change e.table.files table.files → Fits table.number (world_in store) table.files → table.number ≡ e.table.number + 1 → table.next_file ≡ e.table.next_file
     → Invariant (record e { store = store; table = table })
@@ -157,7 +162,7 @@ invariant_changed e change store table i more few last lasts fed fits number nex
   creates_too = i.creates_too;
   lasts = lasts;
   can = each_more (CanTell e.labels e.store e.table) (CanTell e.labels store table)
-      (λ m can. can_store e.labels e.store store table last m (can_table e.labels e.store e.table table (fed_still e.store change e.table table (world_in store) fed fits) m can)) e.members i.can;
+      (λ m can. can_store e.labels e.store store table last m (can_table e.labels e.store e.table table (fed_still e.store change e.table table (world_in store) fed fits) m can)) e.subscriptions i.can;
   rise = i.rise;
   installed = i.installed;
   number = number ∙ ap (λ n. n + 1) i.number ∙ sym more;
@@ -165,22 +170,22 @@ invariant_changed e change store table i more few last lasts fed fits number nex
   next = (let n = i.next in let l : table.next_file ≤ 256 * e.creates = omega (arith, n, next) in l);
 }
 
--- before the commit the members can be told
-pub can_fed : (e : EngineCore) (change : ChangeState) (w : World) (table : TableState) → Invariant e → AreFed e.store change e.table.files table.files → Fits table.number w table.files → AllByRecursion (CanTell e.labels e.store table) e.members
+-- before the commit the subscriptions can be told
+pub can_fed : (e : EngineState) (change : ChangeState) (w : World) (table : TableState) → Invariant e → AreFed e.store change e.table.files table.files → Fits table.number w table.files → AllByRecursion (CanTell e.labels e.store table) e.subscriptions
 can_fed e change w table i fed fits =
-    each_more (CanTell e.labels e.store e.table) (CanTell e.labels e.store table) (can_table e.labels e.store e.table table (fed_still e.store change e.table table w fed fits)) e.members i.can
+    each_more (CanTell e.labels e.store e.table) (CanTell e.labels e.store table) (can_table e.labels e.store e.table table (fed_still e.store change e.table table w fed fits)) e.subscriptions i.can
 
-rise_push : (creates : ℕ) (ms : List Member) (m : Member) → InstallsRise ms → InstallsAreUpTo creates ms → creates < m.install → InstallsRise (ms ++ m ∷ [])
+rise_push : (creates : ℕ) (ms : List Kept) (m : Kept) → InstallsRise ms → InstallsAreUpTo creates ms → creates < m.install → InstallsRise (ms ++ m ∷ [])
 rise_push creates [] m r u less = (tt, tt)
 rise_push creates (x ∷ ms) m r u less =
     let first = u.0 in
-    (each_push (λ (n : Member). x.install < n.install) ms m r.0 (let l : x.install < m.install = omega (arith, first, less) in l), rise_push creates ms m r.1 u.1 less)
+    (each_push (λ (n : Kept). x.install < n.install) ms m r.0 (let l : x.install < m.install = omega (arith, first, less) in l), rise_push creates ms m r.1 u.1 less)
 
-few_more : (creates : ℕ) (ms : List Member) → InstallsAreUpTo creates ms → InstallsAreUpTo (creates + 1) ms
-few_more creates ms few = each_more (λ (n : Member). n.install ≤ creates) (λ (n : Member). n.install ≤ creates + 1) (λ n le. let l : n.install ≤ creates + 1 = omega (arith, le) in l) ms few
+few_more : (creates : ℕ) (ms : List Kept) → InstallsAreUpTo creates ms → InstallsAreUpTo (creates + 1) ms
+few_more creates ms few = each_more (λ (n : Kept). n.install ≤ creates) (λ (n : Kept). n.install ≤ creates + 1) (λ n le. let l : n.install ≤ creates + 1 = omega (arith, le) in l) ms few
 
--- one more create, whose member is not there yet
-pub invariant_created : (e : EngineCore) → Invariant e → e.creates + 1 ≤ e.count → Invariant (record e { creates = e.creates + 1 })
+-- one more create, whose subscription is not there yet
+pub invariant_created : (e : EngineState) → Invariant e → e.creates + 1 ≤ e.count → Invariant (record e { creates = e.creates + 1 })
 invariant_created e i few =
     let n = i.next in
     record {
@@ -189,44 +194,44 @@ invariant_created e i few =
       lasts = i.lasts;
       can = i.can;
       rise = i.rise;
-      installed = few_more e.creates e.members i.installed;
+      installed = few_more e.creates e.subscriptions i.installed;
       number = i.number;
       fits = i.fits;
       next = (let l : e.table.next_file ≤ 256 * (e.creates + 1) = omega (arith, n) in l);
     }
 
--- the member is there, with the file of its plan
-pub invariant_added : (e : EngineCore) (expr : Expr) (table : TableState) (file : ℕ) (m : Member) → Invariant e → IsInstalled expr e.table table file → Fits table.number (world_in e.store) table.files → operators expr ≤ 256
+-- the subscription is there, with the file of its plan
+pub invariant_added : (e : EngineState) (expr : Expr) (table : TableState) (file : ℕ) (m : Kept) → Invariant e → IsInstalled expr e.table table file → Fits table.number (world_in e.store) table.files → operators expr ≤ 256
     → CanTell e.labels e.store table m → m.install ≡ e.creates + 1
-    → e.creates + 1 ≤ e.count → Invariant (record e { creates = e.creates + 1; members = e.members ++ m ∷ []; table = table })
+    → e.creates + 1 ≤ e.count → Invariant (record e { creates = e.creates + 1; subscriptions = e.subscriptions ++ m ∷ []; table = table })
 invariant_added e expr table file m i done fits small can install few =
     let n = i.next in let room = done.room in
     record {
       changes = i.changes;
       creates_too = few;
       lasts = i.lasts;
-      can = each_push (CanTell e.labels e.store table) e.members m
-          (each_more (CanTell e.labels e.store e.table) (CanTell e.labels e.store table) (can_table e.labels e.store e.table table (installed_still expr e.table table file (world_in e.store) done fits)) e.members i.can) can;
-      rise = rise_push e.creates e.members m i.rise i.installed (let l : e.creates < m.install = omega (arith, install) in l);
-      installed = each_push (λ (x : Member). x.install ≤ e.creates + 1) e.members m (few_more e.creates e.members i.installed) (let l : m.install ≤ e.creates + 1 = omega (arith, install) in l);
+      can = each_push (CanTell e.labels e.store table) e.subscriptions m
+          (each_more (CanTell e.labels e.store e.table) (CanTell e.labels e.store table) (can_table e.labels e.store e.table table (installed_still expr e.table table file (world_in e.store) done fits)) e.subscriptions i.can) can;
+      rise = rise_push e.creates e.subscriptions m i.rise i.installed (let l : e.creates < m.install = omega (arith, install) in l);
+      installed = each_push (λ (x : Kept). x.install ≤ e.creates + 1) e.subscriptions m (few_more e.creates e.subscriptions i.installed) (let l : m.install ≤ e.creates + 1 = omega (arith, install) in l);
       number = done.same ∙ i.number;
       fits = fits;
       next = (let l : table.next_file ≤ 256 * (e.creates + 1) = omega (arith, n, room, small) in l);
     }
 
-each_map : (P Q : Member → Type 0) (f : Member → Member) → ((m : Member) → P m → Q (f m)) → (ms : List Member) → AllByRecursion P ms → AllByRecursion Q (map f ms)
+each_map : (P Q : Kept → Type 0) (f : Kept → Kept) → ((m : Kept) → P m → Q (f m)) → (ms : List Kept) → AllByRecursion P ms → AllByRecursion Q (map f ms)
 each_map P Q f g [] h = tt
 each_map P Q f g (m ∷ ms) h = (g m h.0, each_map P Q f g ms h.1)
 
 -- what is written down changes no number
-module _ (store : StoreState) (test : Member → Bool) where
-  abbrev noted_one : Member → Member
+module _ (store : StoreState) (test : Kept → Bool) where
+  abbrev noted_one : Kept → Kept
   noted_one m = fired_if (test m) store m
 
-  pub one_install : (m : Member) → (noted_one m).install ≡ m.install
+  pub one_install : (m : Kept) → (noted_one m).install ≡ m.install
   one_install m = elim (test m) as (λ t. (fired_if t store m).install ≡ m.install) [ true ↦ refl | false ↦ refl ]
 
-  pub rise_noted : (ms : List Member) → InstallsRise ms → InstallsRise (map noted_one ms)
+  pub rise_noted : (ms : List Kept) → InstallsRise ms → InstallsRise (map noted_one ms)
   rise_noted [] r = tt
   rise_noted (m ∷ ms) r = (
     each_map (λ n. m.install < n.install) (λ n. (noted_one m).install < n.install) noted_one
@@ -234,32 +239,32 @@ module _ (store : StoreState) (test : Member → Bool) where
     rise_noted ms r.1,
   )
 
-  pub invariant_noted : (e : EngineCore) → e.store ≡ store → AreUpTo e.table.number e.table.files → Invariant e → Invariant (record e { members = map noted_one e.members })
+  pub invariant_noted : (e : EngineState) → e.store ≡ store → AreUpTo e.table.number e.table.files → Invariant e → Invariant (record e { subscriptions = map noted_one e.subscriptions })
   invariant_noted e same upto i =
       let up : AreUpTo store.changes e.table.files = subst (λ n. AreUpTo n e.table.files) (i.number ∙ ap (λ (s : StoreState). s.changes) same) upto in
       record {
         changes = i.changes;
         creates_too = i.creates_too;
         lasts = i.lasts;
-        can = subst (λ (s : StoreState). AllByRecursion (CanTell e.labels s e.table) (map noted_one e.members)) (sym same)
-            (each_map (CanTell e.labels store e.table) (CanTell e.labels store e.table) noted_one (λ m can. can_noted e.labels store e.table up (test m) m can) e.members
-            (subst (λ (s : StoreState). AllByRecursion (CanTell e.labels s e.table) e.members) same i.can));
-        rise = rise_noted e.members i.rise;
-        installed = each_map (λ n. n.install ≤ e.creates) (λ n. n.install ≤ e.creates) noted_one (λ n few. let a = one_install n in (let l : (noted_one n).install ≤ e.creates = omega (arith, few, a) in l)) e.members i.installed;
+        can = subst (λ (s : StoreState). AllByRecursion (CanTell e.labels s e.table) (map noted_one e.subscriptions)) (sym same)
+            (each_map (CanTell e.labels store e.table) (CanTell e.labels store e.table) noted_one (λ m can. can_noted e.labels store e.table up (test m) m can) e.subscriptions
+            (subst (λ (s : StoreState). AllByRecursion (CanTell e.labels s e.table) e.subscriptions) same i.can));
+        rise = rise_noted e.subscriptions i.rise;
+        installed = each_map (λ n. n.install ≤ e.creates) (λ n. n.install ≤ e.creates) noted_one (λ n few. let a = one_install n in (let l : (noted_one n).install ≤ e.creates = omega (arith, few, a) in l)) e.subscriptions i.installed;
         number = i.number;
         fits = i.fits;
         next = i.next;
       }
 
-rise_filter : (keep : Member → Bool) (ms : List Member) → InstallsRise ms → InstallsRise (filter keep ms)
+rise_filter : (keep : Kept → Bool) (ms : List Kept) → InstallsRise ms → InstallsRise (filter keep ms)
 rise_filter keep [] r = tt
 rise_filter keep (m ∷ ms) r =
     elim (keep m) as (λ t. InstallsRise (cond t (m ∷ filter keep ms) (filter keep ms))) [
-      | true ↦ (each_filter (λ (n : Member). m.install < n.install) keep ms r.0, rise_filter keep ms r.1)
+      | true ↦ (each_filter (λ (n : Kept). m.install < n.install) keep ms r.0, rise_filter keep ms r.1)
       | false ↦ rise_filter keep ms r.1
     ]
 
-can_all : (e : EngineCore) (table : TableState) → AreOf e.table.files table.files → table.number ≡ e.table.number → (ms : List Member) → AllByRecursion (λ m. HasFile table.files (plan_of m.query) m.file.0) ms
+can_all : (e : EngineState) (table : TableState) → AreOf e.table.files table.files → table.number ≡ e.table.number → (ms : List Kept) → AllByRecursion (λ m. HasFile table.files (plan_of m.query) m.file.0) ms
     → AllByRecursion (CanTell e.labels e.store e.table) ms → AllByRecursion (CanTell e.labels e.store table) ms
 can_all e table left same [] f c = tt
 can_all e table left same (m ∷ ms) f c = (can_left e.labels e.store e.table table left same m f.0 c.0, can_all e table left same ms f.1 c.1)
@@ -270,25 +275,25 @@ fits_left old new now w left fits number file at =
     let was = left number file at in
     subst (λ (e : Expr). IsContent now file.content.rows (rows_in e w)) (sym was.2.0) (subst (λ (c : FileState). IsContent now c.rows (rows_in was.0.expr w)) (sym was.2.1) (fits number was.0 was.1))
 
--- members are gone
-pub invariant_left : (e : EngineCore) (keep : Member → Bool) (table : TableState) → Invariant e → IsRoll table (filter keep e.members) → AreOf e.table.files table.files → table.number ≡ e.table.number → table.next_file ≡ e.table.next_file
-    → Invariant (record e { members = filter keep e.members; table = table })
-invariant_left e keep table i roll left number next = record {
+-- subscriptions are gone
+pub invariant_left : (e : EngineState) (keep : Kept → Bool) (table : TableState) → Invariant e → IsLiveTable table (filter keep e.subscriptions) → AreOf e.table.files table.files → table.number ≡ e.table.number → table.next_file ≡ e.table.next_file
+    → Invariant (record e { subscriptions = filter keep e.subscriptions; table = table })
+invariant_left e keep table i live_table left number next = record {
   changes = i.changes;
   creates_too = i.creates_too;
   lasts = i.lasts;
-  can = can_all e table left number (filter keep e.members) roll.files (each_filter (CanTell e.labels e.store e.table) keep e.members i.can);
-  rise = rise_filter keep e.members i.rise;
-  installed = each_filter (λ (m : Member). m.install ≤ e.creates) keep e.members i.installed;
+  can = can_all e table left number (filter keep e.subscriptions) live_table.files (each_filter (CanTell e.labels e.store e.table) keep e.subscriptions i.can);
+  rise = rise_filter keep e.subscriptions i.rise;
+  installed = each_filter (λ (m : Kept). m.install ≤ e.creates) keep e.subscriptions i.installed;
   number = number ∙ i.number;
   fits = subst (λ n. Fits n (world_in e.store) table.files) (sym number) (fits_left e.table.files table.files e.table.number (world_in e.store) left i.fits);
   next = (let n = i.next in let l : table.next_file ≤ 256 * e.creates = omega (arith, n, next) in l);
 }
 
--- one member is gone
-pub left_holds : (e : EngineCore) (install : ℕ) (roll : RollState) → Invariant e → IsLeftBy (install ∷ []) (record { table = e.table; members = e.members; instant = e.clock }) roll → IsRoll roll.table roll.members
-    → IsEngine e.store e.count e.creates e.labels roll.members roll.table
-left_holds e install roll holds left owns =
-    let members : roll.members ≡ filter (λ m. not (list_any (nat_eq m.install) (install ∷ []))) e.members = left.members in
-    subst (λ (ms : List Member). IsEngine e.store e.count e.creates e.labels ms roll.table) (sym members)
-    (invariant_left e (λ m. not (list_any (nat_eq m.install) (install ∷ []))) roll.table holds (subst (IsRoll roll.table) members owns) left.files left.number left.next_file)
+-- one subscription is gone
+pub left_holds : (e : EngineState) (install : ℕ) (live_table : LiveState) → Invariant e → IsLeftBy (install ∷ []) (record { table = e.table; subscriptions = e.subscriptions; instant = e.clock }) live_table → IsLiveTable live_table.table live_table.subscriptions
+    → IsEngine e.store e.count e.creates e.labels live_table.subscriptions live_table.table
+left_holds e install live_table holds left owns =
+    let subscriptions : live_table.subscriptions ≡ filter (λ m. not (list_any (nat_eq m.install) (install ∷ []))) e.subscriptions = left.subscriptions in
+    subst (λ (ms : List Kept). IsEngine e.store e.count e.creates e.labels ms live_table.table) (sym subscriptions)
+    (invariant_left e (λ m. not (list_any (nat_eq m.install) (install ∷ []))) live_table.table holds (subst (IsLiveTable live_table.table) subscriptions owns) left.files left.number left.next_file)

@@ -5,7 +5,7 @@ use Rattle.std.specs.Option.{option_map}
 use Rattle.ncq_callback.specs.Labels.{Label}
 use Rattle.ncq_script.specs.declared.command.Command.{Command}
 use Rattle.ncq_source.specs.StoreStates.{StoreState}
-use Rattle.ncq_book.specs.declared.member.Member.{Member}
+use Rattle.ncq_book.specs.declared.subscription.Subscription.{Subscription as Kept}
 use Rattle.ncq_engine.specs.Engines.{Pairwise, fired_if, last_in, latest_in, mark_in}
 use Rattle.ncq_engine.specs.Firing.{fires, mark, marked, sources_of}
 use Rattle.ncq_engine.specs.History.{History, Subscription, changes, last_change}
@@ -31,29 +31,30 @@ latest_is store h last [] = refl
 latest_is store h last (name ∷ more) = λ i. max (last name i) (latest_is store h last more i)
 
 -- the mark that follows from what is written down is the subscription's
-pub mark_is : (labels : List Label) (h : History) (s : Subscription) (m : Member) → Keeps labels h s m → IsRising h → (store : StoreState) → ((name : List ℕ) → last_in store name ≡ last_change name h) → mark_in store m ≡ mark s h
+pub mark_is : (labels : List Label) (h : History) (s : Subscription) (m : Kept) → Keeps labels h s m → IsRising h → (store : StoreState) → ((name : List ℕ) → last_in store name ≡ last_change name h) → mark_in store m ≡ mark s h
 mark_is labels h s m k rising store last =
     (λ i. if (k.timing i).every == 0 then option_map (λ first. max first (latest_in store (k.sources i))) (k.marked i) else k.marked i)
     ∙ (λ i. if s.statement.every == 0 then option_map (λ first. max first (latest_is store h last (sources_of s.statement) i)) (noted s h) else noted s h)
     ∙ sym (marks_follow s h rising)
 
--- a member whose mark is written down as it is behind the command is kept
-pub keeps_as : (labels : List Label) (h : History) (command : Command) (s : Subscription) (m : Member) → Keeps labels h s m → (written : Option ℕ) → written ≡ noted s (command ∷ h) → Keeps labels (command ∷ h) s (record m { noted = written })
+-- a subscription whose mark is written down as it is behind the command is kept
+pub keeps_as : (labels : List Label) (h : History) (command : Command) (s : Subscription) (m : Kept) → Keeps labels h s m → (written : Option ℕ) → written ≡ noted s (command ∷ h) → Keeps labels (command ∷ h) s (record m { noted = written })
 keeps_as labels h command s m k written e = record {
   name = k.name;
   sources = k.sources;
   whole = k.whole;
-  roots = k.roots;
-  binds = k.binds;
+  bound = k.bound;
+  query = k.query;
   timing = k.timing;
   kind = k.kind;
+  action = k.action;
   argument = k.argument;
   install = k.install;
   marked = e;
 }
 
 -- a command that writes nothing down keeps it as it is
-pub keeps_noted : (labels : List Label) (h : History) (command : Command) (s : Subscription) (m : Member) → Keeps labels h s m → noted s (command ∷ h) ≡ noted s h → Keeps labels (command ∷ h) s m
+pub keeps_noted : (labels : List Label) (h : History) (command : Command) (s : Subscription) (m : Kept) → Keeps labels h s m → noted s (command ∷ h) ≡ noted s h → Keeps labels (command ∷ h) s m
 keeps_noted labels h command s m k e = keeps_as labels h command s m k m.noted (k.marked ∙ sym e)
 
 -- nothing is written down of what does not fire
@@ -68,7 +69,7 @@ quiet_note s h command quiet =
     unmarked None = refl
     unmarked (Some number) = refl
 
-pub keeps_quiet : (labels : List Label) (h : History) (command : Command) (s : Subscription) (m : Member) → Keeps labels h s m → fires s h command ≡ None → Keeps labels (command ∷ h) s m
+pub keeps_quiet : (labels : List Label) (h : History) (command : Command) (s : Subscription) (m : Kept) → Keeps labels h s m → fires s h command ≡ None → Keeps labels (command ∷ h) s m
 keeps_quiet labels h command s m k quiet = keeps_noted labels h command s m k (quiet_note s h command quiet)
 
 -- what is written down of what fires: of a timer the number of now, and of one that fires at changes that too where it is its first firing
@@ -92,7 +93,7 @@ abbrev pub IsFirst : Subscription → History → Command → Type 0
 IsFirst s h command = (instant : ℕ) → fires s h command ≡ Some instant → s.statement.every == 0 ≡ true → first_mark s h ≡ None
 
 module _ (labels : List Label) (h : History) (command : Command) (store : StoreState) (count : store.changes ≡ changes (command ∷ h)) where
-  pub keeps_one : (s : Subscription) (m : Member) (test : Bool) → Agrees test (fires s h command) → Keeps labels h s m → IsFirst s h command → Keeps labels (command ∷ h) s (fired_if test store m)
+  pub keeps_one : (s : Subscription) (m : Kept) (test : Bool) → Agrees test (fires s h command) → Keeps labels h s m → IsFirst s h command → Keeps labels (command ∷ h) s (fired_if test store m)
   keeps_one s m test agrees k first = by_firing (fires s h command) refl test agrees
     where
       by_firing : (o : Option ℕ) → fires s h command ≡ o → (test : Bool) → Agrees test o → Keeps labels (command ∷ h) s (fired_if test store m)
@@ -102,7 +103,7 @@ module _ (labels : List Label) (h : History) (command : Command) (store : StoreS
       by_firing (Some instant) e false a = absurd (true≢false (sym a))
 
   -- so it is of all that are live
-  pub keep_all : (test : Member → Bool) (subs : List Subscription) (ms : List Member)
+  pub keep_all : (test : Kept → Bool) (subs : List Subscription) (ms : List Kept)
       → Pairwise (λ s m. Keeps labels h s m × (Agrees (test m) (fires s h command) × IsFirst s h command)) subs ms
       → Pairwise (Keeps labels (command ∷ h)) subs (map (λ m. fired_if (test m) store m) ms)
   keep_all test [] [] p = tt

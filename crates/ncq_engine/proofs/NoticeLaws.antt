@@ -1,12 +1,13 @@
--- What a member is told is what the notice of its subscription says.
+-- What is kept of a subscription is told what the notice of the subscription says.
 use Rattle.std.proofs.Common.{◌≡◌, ℕ, ◌≤◌, true, List, [], ◌∷◌, map, refl, ◌∙◌, ap, subst, arith}
-use Rattle.std.specs.Prelude.{Option, Some, None, Ok, IfSome, nat_le}
+use Rattle.std.specs.Prelude.{Option, Some, None, IfSome, nat_le}
 use Rattle.std.specs.List.{filter}
 use Rattle.std.proofs.lemmas.Bool.Decides.{nat_tests}
 use Rattle.ncq_bag.specs.Bags.{difference}
 use Rattle.ncq_bind.specs.Answers.{answer}
-use Rattle.ncq_bind.specs.Bindings.{Binds, Roots}
-use Rattle.ncq_bind.proofs.AnswerLaws.{plan_answers}
+use Rattle.ncq_bind.specs.Bound.{query_is_bound}
+use Rattle.ncq_bind.specs.NormalQueries.{normal_query}
+use Rattle.ncq_bind.proofs.AnswerLaws.{bound_answers}
 use Rattle.ncq_callback.specs.Gathered.{answer_of}
 use Rattle.ncq_callback.specs.Labels.{Label}
 use Rattle.ncq_midfile.specs.Content.{IsContent}
@@ -26,8 +27,8 @@ use Rattle.ncq_source.specs.StoreStates.{StoreState}
 use Rattle.ncq_script.specs.declared.command.Command.{Command}
 use Rattle.ncq_xmlql.specs.declared.model.Statement.{Statement}
 use Rattle.ncq_xmlql.specs.WellFormed.{IsWellFormed}
-use Rattle.ncq_book.specs.declared.member.Member.{Member}
-use Rattle.ncq_engine.specs.Engines.{CanTell, last_in, mark_in, news_of, rows_in_file, told_text}
+use Rattle.ncq_book.specs.declared.subscription.Subscription.{Subscription as Kept}
+use Rattle.ncq_engine.specs.Engines.{CanTell, last_in, mark_in, news_of, rows_in_file, notice_text}
 use Rattle.ncq_engine.specs.Firing.{mark}
 use Rattle.ncq_engine.specs.History.{History, Subscription, changes, last_change, sources, up_to, world}
 use Rattle.ncq_engine.specs.Languages.{language_of}
@@ -44,21 +45,21 @@ each_bytes query [] = refl
 each_bytes query (row ∷ rows) = ap (λ more. answer_of query.template row ∷ more) (each_bytes query rows)
 
 -- what rows of the plan tell is the answer
-pub answer_is : (statement : Statement) (roots : Roots) (query : NormalQuery) → IsWellFormed statement → Binds statement.query roots (Ok query)
+pub answer_is : (statement : Statement) (query : NormalQuery) → IsWellFormed statement → query_is_bound statement.query ≡ true → query ≡ normal_query statement.query
     → (w : World) → answers_in query (rows_in (plan_of query) w) ≡ map pyx (answer statement.query w)
-answer_is statement roots query whole binds w =
+answer_is statement query whole bound is w =
     each_bytes query (filter (passes query.residual) (rows_in (plan_of query) w))
-    ∙ ap (map pyx) (plan_answers statement roots query whole binds w)
+    ∙ ap (map pyx) (bound_answers statement query whole bound is w)
 
 -- the answer at a mark, from the rows of the plan then
-at_mark : (labels : List Label) (h : History) (s : Subscription) (m : Member) → Keeps labels h s m → (w : World) → answers_in m.query (rows_in (plan_of m.query) w) ≡ map pyx (answer s.statement.query w)
-at_mark labels h s m k w = answer_is s.statement k.roots m.query k.whole k.binds w
+at_mark : (labels : List Label) (h : History) (s : Subscription) (m : Kept) → Keeps labels h s m → (w : World) → answers_in m.query (rows_in (plan_of m.query) w) ≡ map pyx (answer s.statement.query w)
+at_mark labels h s m k w = answer_is s.statement m.query k.whole k.bound k.query w
 
--- the notice of a member whose files tell the sources behind the command: its mark follows from the store before the command
+-- the notice of a subscription whose files tell the sources behind the command: its mark follows from the store before the command
 module _ (labels : List Label) (h : History) (command : Command) (store : StoreState) (table : TableState)
     (last : (name : List ℕ) → last_in store name ≡ last_change name h) (rising : IsRising h) (contents : AreContents table.files (command ∷ h))
     (upto : AreUpTo (changes (command ∷ h)) table.files) where
-  module _ (s : Subscription) (m : Member) (k : Keeps labels h s m) (can : CanTell labels store table m) where
+  module _ (s : Subscription) (m : Kept) (k : Keeps labels h s m) (can : CanTell labels store table m) where
     abbrev rows : List SignedRow
     rows = can.file.content.rows
 
@@ -93,12 +94,12 @@ module _ (labels : List Label) (h : History) (command : Command) (store : StoreS
         since_tell m.query number (changes (command ∷ h)) rows (then_rows number) (rows_in (plan_of m.query) (world (sources (command ∷ h)))) (upto m.file.0 can.file can.at).last (content_then number base within) content_now
         ∙ (λ i. difference (answer_now i) (before i))
 
-    -- what differs for the member is what differs in the answer
+    -- what differs for the subscription is what differs in the answer
     news_is : entries_of m.query (news_of store table.files m) ≡ news (language_of labels) s h command
     news_is =
         let is : mark_in store m ≡ mark s h = mark_is labels h s m k rising store last in
         (λ i. entries_of m.query (since_mark (is i) (rows_in_file (can.at i))))
         ∙ by_mark (mark s h) refl (subst (λ o. IfSome o (λ number. can.file.content.base ≤ number)) is can.base)
 
-    pub text_is : (instant : ℕ) → told_text labels store table.files m instant ≡ notice_at (language_of labels) h command (record { instant = instant; install = s.install }, s)
+    pub text_is : (instant : ℕ) → notice_text labels store table.files m instant ≡ notice_at (language_of labels) h command (record { instant = instant; install = s.install }, s)
     text_is instant = λ i. rendered (k.kind i) (k.argument i) (k.name i) instant (news_is i)

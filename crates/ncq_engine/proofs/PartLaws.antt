@@ -1,39 +1,30 @@
--- The parts of an expression as a list, and lists in which each expression stands once.
-use Rattle.std.proofs.Common.{◌≡◌, true, false, ◌||◌, List, [], ◌∷◌, ◌++◌, length, ◌⊎◌, inl, inr, refl, sym, ◌∙◌, subst}
-use Rattle.std.specs.Prelude.{if◌then◌else◌}
-use Rattle.std.specs.List.{list_any}
-use Rattle.std.proofs.lemmas.Bool.{or_left, or_right, false≢true}
-use Rattle.ncq_base.specs.Exact.{exact_is, exact_itself}
+-- The parts of expressions as a list, lists in which each expression stands once, and the plans of
+-- the live subscriptions.
+use Rattle.std.proofs.Common.{◌≡◌, true, false, List, [], ◌∷◌, length, map, inl, inr, refl, sym, ◌∙◌, subst}
+use Rattle.std.specs.Prelude.{◌↔◌, if◌then◌else◌}
+use Rattle.std.specs.List.{flat_map, list_any}
+use Rattle.std.proofs.lemmas.Bool.{false≢true}
 use Rattle.ncq_base.proofs.CountLaws.{counts-length}
-use Rattle.ncq_plan.specs.contracts.expr.Expr.{the_row as expr_row}
+use Rattle.ncq_book.specs.declared.subscription.Subscription.{Subscription as Kept}
+use Rattle.ncq_callback.specs.Labels.{Label}
+use Rattle.ncq_live.specs.LiveTables.{plan_in}
 use Rattle.ncq_plan.specs.declared.expr.Expr.{Expr}
 use Rattle.ncq_plan.specs.declared.expr.Expr.TheVariants.{Scan, EqSel, RangeSel, Join}
+use Rattle.ncq_plan.specs.ExprLists.{AreApart, IsIn, is_expr}
+use Rattle.ncq_plan.specs.Plans.{plan_of}
 use Rattle.ncq_plan.proofs.ExprCases.{expr_cases, expr_induction, para_scan, para_equal, para_range, para_join}
-use Rattle.ncq_report.specs.Lines.{AreApart, AreTheSame, IsIn}
+use Rattle.ncq_plan.proofs.ExprListLaws.{any_in, in_any, in_behind, in_either, in_front}
+use Rattle.ncq_report.specs.Lines.{AreTheSame}
 use Rattle.ncq_report.proofs.GroupLaws.{same_exprs}
-use Rattle.ncq_shelf.specs.Indexed.{is_expr}
-use Rattle.ncq_shelf.specs.Parts.{IsInput, IsPart}
+use Rattle.ncq_shelf.specs.Parts.{IsInput, IsPart, IsPartOfOne}
 use Rattle.ncq_shelf.specs.Parts.IsPart.{itself, within}
 use Rattle.ncq_shelf.proofs.CallerLemmas.{no_input-scan, input_of-equal, equal-input_of, input_of-range, range-input_of, input_of-join, left-input_of, right-input_of}
-use Rattle.ncq_engine.specs.Reports.{distinct, parts, parts_step, with_expr}
-
--- what stands in one of two lists stands in both together
-pub in_front : (e : Expr) (some others : List Expr) → IsIn e some → IsIn e (some ++ others)
-in_front e [] others is = absurd is
-in_front e (x ∷ some) others (inl same) = inl same
-in_front e (x ∷ some) others (inr more) = inr (in_front e some others more)
-
-pub in_behind : (e : Expr) (some others : List Expr) → IsIn e others → IsIn e (some ++ others)
-in_behind e [] others is = is
-in_behind e (x ∷ some) others is = inr (in_behind e some others is)
-
-pub in_either : (e : Expr) (some others : List Expr) → IsIn e (some ++ others) → IsIn e some ⊎ IsIn e others
-in_either e [] others is = inr is
-in_either e (x ∷ some) others (inl same) = inl (inl same)
-in_either e (x ∷ some) others (inr more) = elim (in_either e some others more) [
-  | inl here ↦ inl (inr here)
-  | inr there ↦ inr there
-]
+use Rattle.ncq_engine.specs.Engines.{Pairwise}
+use Rattle.ncq_engine.specs.History.{History, Subscription}
+use Rattle.ncq_engine.specs.Languages.{language_of}
+use Rattle.ncq_engine.specs.Notices.{Language}
+use Rattle.ncq_engine.specs.Reports.{closure, distinct, live_plans, parts, parts_step, plan_for, with_expr}
+use Rattle.ncq_engine.specs.Stands.{Keeps}
 
 -- an expression is the first of its parts
 first_part : (whole : Expr) → IsIn whole (parts whole)
@@ -61,7 +52,7 @@ part_in {part} itself = first_part part
 part_in {part} (within {whole = whole} {input = input} i p) = input_parts whole part input i (part_in p)
 
 -- the list has the parts
-pub part_is_in : (part whole : Expr) → IsPart part whole → IsIn part (parts whole)
+part_is_in : (part whole : Expr) → IsPart part whole → IsIn part (parts whole)
 part_is_in part whole p = part_in p
 
 is_itself : (part whole : Expr) → part ≡ whole → IsPart part whole
@@ -90,26 +81,13 @@ in_part = expr_induction (λ whole. (part : Expr) → IsIn part (parts whole) �
       ]
     ])
 
-pub in_is_part : (part whole : Expr) → IsIn part (parts whole) → IsPart part whole
+in_is_part : (part whole : Expr) → IsIn part (parts whole) → IsPart part whole
 in_is_part part whole is = in_part whole part is
-
--- the test of a list finds what stands in it
-is_found : (e : Expr) (list : List Expr) → IsIn e list → list_any (is_expr e) list ≡ true
-is_found e [] is = absurd is
-is_found e (x ∷ list) (inl same) = or_left _ _ (subst (λ y. is_expr e y ≡ true) same (exact_itself expr_row.coded e))
-is_found e (x ∷ list) (inr more) = or_right (is_expr e x) _ (is_found e list more)
-
-found_is : (e : Expr) (list : List Expr) → list_any (is_expr e) list ≡ true → IsIn e list
-found_is e [] some = absurd (false≢true some)
-found_is e (x ∷ list) some = elim (is_expr e x) as (λ t. is_expr e x ≡ t → (t || list_any (is_expr e) list) ≡ true → IsIn e (x ∷ list)) [
-  | true ↦ λ same some. inl (exact_is expr_row.coded e x same)
-  | false ↦ λ differs some. inr (found_is e list some)
-] refl some
 
 in_with : (e expr : Expr) (list : List Expr) → IsIn e (expr ∷ list) → IsIn e (with_expr expr list)
 in_with e expr list is = elim (list_any (is_expr expr) list) as (λ t. list_any (is_expr expr) list ≡ t → IsIn e (if t then list else expr ∷ list)) [
   | true ↦ λ some. elim is [
-    | inl same ↦ subst (λ x. IsIn x list) (sym same) (found_is expr list some)
+    | inl same ↦ subst (λ x. IsIn x list) (sym same) (in_any expr list some)
     | inr more ↦ more
   ]
   | false ↦ λ none. is
@@ -124,26 +102,58 @@ with_in e expr list = elim (list_any (is_expr expr) list) as (λ t. IsIn e (if t
 with_apart : (expr : Expr) (list : List Expr) → AreApart list → AreApart (with_expr expr list)
 with_apart expr list apart = elim (list_any (is_expr expr) list) as (λ t. list_any (is_expr expr) list ≡ t → AreApart (if t then list else expr ∷ list)) [
   | true ↦ λ some. apart
-  | false ↦ λ none. (λ is. false≢true (sym none ∙ is_found expr list is), apart)
+  | false ↦ λ none. (λ is. false≢true (sym none ∙ any_in expr list is), apart)
 ] refl
 
 -- the expressions of a list, each once, are those of the list
-pub in_distinct : (e : Expr) (list : List Expr) → IsIn e list → IsIn e (distinct list)
+in_distinct : (e : Expr) (list : List Expr) → IsIn e list → IsIn e (distinct list)
 in_distinct e [] is = is
 in_distinct e (x ∷ list) (inl same) = in_with e x (distinct list) (inl same)
 in_distinct e (x ∷ list) (inr more) = in_with e x (distinct list) (inr (in_distinct e list more))
 
-pub distinct_in : (e : Expr) (list : List Expr) → IsIn e (distinct list) → IsIn e list
+distinct_in : (e : Expr) (list : List Expr) → IsIn e (distinct list) → IsIn e list
 distinct_in e [] is = is
 distinct_in e (x ∷ list) is = elim (with_in e x (distinct list) is) [
   | inl same ↦ inl same
   | inr more ↦ inr (distinct_in e list more)
 ]
 
-pub distinct_apart : (list : List Expr) → AreApart (distinct list)
+distinct_apart : (list : List Expr) → AreApart (distinct list)
 distinct_apart [] = tt
 distinct_apart (x ∷ list) = with_apart x (distinct list) (distinct_apart list)
 
 -- lists of the same expressions, each once, are of one length
 pub same_length : (some others : List Expr) → AreTheSame some others → length some ≡ length others
 same_length some others same = counts-length some others (same_exprs some others same)
+
+-- the parts of expressions, one behind the other
+parts_of_one : (e : Expr) (wholes : List Expr) → IsPartOfOne e wholes → IsIn e (flat_map parts wholes)
+parts_of_one e [] one = absurd one
+parts_of_one e (whole ∷ wholes) (inl part) = in_front e (parts whole) (flat_map parts wholes) (part_is_in e whole part)
+parts_of_one e (whole ∷ wholes) (inr others) = in_behind e (parts whole) (flat_map parts wholes) (parts_of_one e wholes others)
+
+one_of_parts : (e : Expr) (wholes : List Expr) → IsIn e (flat_map parts wholes) → IsPartOfOne e wholes
+one_of_parts e [] is = absurd is
+one_of_parts e (whole ∷ wholes) is = elim (in_either e (parts whole) (flat_map parts wholes) is) [
+  | inl here ↦ inl (in_is_part e whole here)
+  | inr behind ↦ inr (one_of_parts e wholes behind)
+]
+
+-- an expression stands in the closure exactly where it is a part of a live plan
+pub in_closure : (language : Language) (h : History) (e : Expr) → IsIn e (closure language h) ↔ IsPartOfOne e (live_plans language h)
+in_closure language h e =
+    let plans = live_plans language h in (
+      λ is. one_of_parts e plans (distinct_in e (flat_map parts plans) is),
+      λ one. in_distinct e (flat_map parts plans) (parts_of_one e plans one),
+    )
+
+pub apart_closure : (language : Language) (h : History) → AreApart (closure language h)
+apart_closure language h = distinct_apart (flat_map parts (live_plans language h))
+
+-- the plans of what is kept of the subscriptions are the plans of the subscriptions
+pub plans_are : (labels : List Label) (h : History) (subs : List Subscription) (ms : List Kept) → Pairwise (Keeps labels h) subs ms
+    → map plan_in ms ≡ map (plan_for (language_of labels)) subs
+plans_are labels h [] [] p = refl
+plans_are labels h [] (m ∷ ms) p = absurd p
+plans_are labels h (s ∷ subs) [] p = absurd p
+plans_are labels h (s ∷ subs) (m ∷ ms) p = λ i. plan_of (p.0.query i) ∷ plans_are labels h subs ms p.1 i

@@ -1,4 +1,4 @@
--- What a change does not tell: a member that does not ask its source, and one whose file got no row, are told nothing.
+-- What a change does not tell: a subscription that does not ask its source, and one whose file got no row, are told nothing.
 use Rattle.std.proofs.Common.{◌≡◌, ℕ, ◌≤◌, max, true, false, ◌||◌, ◌==◌, cond, List, [], ◌∷◌, map, slice_get, refl, sym, ◌∙◌, ap, subst, arith, true≢false}
 use Rattle.std.specs.Prelude.{Some, IfSome, nat_le, nat_lt, if◌then◌else◌}
 use Rattle.std.specs.Option.{option_map, unwrap_or}
@@ -7,7 +7,7 @@ use Rattle.std.specs.List.{list_any, AllByRecursion}
 use Rattle.std.specs.Str.{bytes_eq}
 use Rattle.ncq_bag.specs.Bags.{difference}
 use Rattle.ncq_bind.specs.Answers.{answer}
-use Rattle.ncq_book.specs.declared.member.Member.{Member}
+use Rattle.ncq_book.specs.declared.subscription.Subscription.{Subscription as Kept}
 use Rattle.ncq_callback.specs.Labels.{Label}
 use Rattle.ncq_event.specs.declared.timing.Timing.{Timing}
 use Rattle.ncq_group.specs.Tables.{TableState}
@@ -24,7 +24,7 @@ use Rattle.ncq_row.specs.Embeddings.{Row}
 use Rattle.ncq_script.specs.declared.command.Command.TheVariants.{Delta}
 use Rattle.ncq_shelf.specs.Contents.{AreUpTo}
 use Rattle.ncq_source.specs.StoreStates.{StoreState}
-use Rattle.ncq_engine.specs.Engines.{CanTell, last_in, mark_in, news_of, rows_in_file, told_text}
+use Rattle.ncq_engine.specs.Engines.{CanTell, last_in, mark_in, news_of, rows_in_file, notice_text}
 use Rattle.ncq_engine.specs.Firing.{mark, sources_of}
 use Rattle.ncq_engine.specs.History.{History, Subscription, changes, last_change, now, sources, up_to, world}
 use Rattle.ncq_engine.specs.Languages.{language_of}
@@ -89,11 +89,11 @@ none_since n (r ∷ rows) none =
       | false ↦ λ early e. (grind (arith, nat_tests, early), none_since n rows e)
     ] refl none
 
--- a member that fires at changes and has started, behind a change
+-- a subscription that fires at changes and has started, behind a change
 module _ (labels : List Label) (h : History) (name : List ℕ) (items : List Item) (store : StoreState) (table : TableState)
     (last : (asked : List ℕ) → last_in store asked ≡ last_change asked h) (rising : IsRising h) (contents : AreContents table.files (Delta name items ∷ h))
     (upto : AreUpTo (changes (Delta name items ∷ h)) table.files) where
-  module _ (s : Subscription) (m : Member) (k : Keeps labels h s m) (can : CanTell labels store table m) (fired : FiresFirst h s)
+  module _ (s : Subscription) (m : Kept) (k : Keeps labels h s m) (can : CanTell labels store table m) (fired : FiresFirst h s)
       (based : m.timing.every == 0 ≡ true) (started : nat_le m.timing.start (now h) ≡ true) where
     has_mark : HasMark s h
     has_mark =
@@ -114,7 +114,7 @@ module _ (labels : List Label) (h : History) (name : List ℕ) (items : List Ite
     answer_since number covers = ap (map pyx) (same_answer s.statement (world (sources (up_to number h))) (world (sources h)) (λ asked there. stays_since asked number h (covers asked there)))
 
     -- nothing is told of a source that it does not ask
-    pub quiet_elsewhere : list_any (bytes_eq name) m.sources ≡ false → (instant : ℕ) → told_text labels store table.files m instant ≡ []
+    pub quiet_elsewhere : list_any (bytes_eq name) m.sources ≡ false → (instant : ℕ) → notice_text labels store table.files m instant ≡ []
     quiet_elsewhere elsewhere instant =
         text_is labels h (Delta name items) store table last rising contents upto s m k can instant
         ∙ ap (rendered (kind_in s.statement.action labels) (unwrap_or s.statement.argument []) s.statement.name instant) nothing
@@ -133,7 +133,7 @@ module _ (labels : List Label) (h : History) (name : List ℕ) (items : List Ite
             ∙ same_bag old_answer
 
     -- nothing is told where its file has no row of the change
-    pub quiet_unfed : since (changes h) can.file.content.rows ≡ [] → (instant : ℕ) → told_text labels store table.files m instant ≡ []
+    pub quiet_unfed : since (changes h) can.file.content.rows ≡ [] → (instant : ℕ) → notice_text labels store table.files m instant ≡ []
     quiet_unfed unfed instant = ap (rendered (option_map (λ label. label.1) (slice_get labels m.action)) m.argument m.name instant) nothing
       where
         marks : mark_in store m ≡ Some has_mark.number
@@ -151,7 +151,7 @@ module _ (labels : List Label) (h : History) (name : List ℕ) (items : List Ite
 
         answers_then : (number : ℕ) → ((asked : List ℕ) → list_any (bytes_eq asked) (sources_of s.statement) ≡ true → last_change asked h ≤ number)
             → answers_in m.query (then_rows number) ≡ old_answer
-        answers_then number covers = answer_is s.statement k.roots m.query k.whole k.binds (world (sources (up_to number h))) ∙ answer_since number covers
+        answers_then number covers = answer_is s.statement m.query k.whole k.bound k.query (world (sources (up_to number h))) ∙ answer_since number covers
 
         content_now : IsContent (changes h) can.file.content.rows (then_rows (changes h))
         content_now = let few = has_mark.few in content_then (changes h) (omega (arith, few, base)) (omega arith)

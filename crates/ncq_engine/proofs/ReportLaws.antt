@@ -3,34 +3,30 @@ use Rattle.std.proofs.Common.{◌≡◌, ◌≢◌, ℕ, true, false, cond, List
 use Rattle.std.specs.Prelude.{Some}
 use Rattle.std.specs.FinMap.{entries, entries_sorted, get-entries, find, is_sorted, len-entries}
 use Rattle.std.specs.FinMap.Entries.{below_all}
-use Rattle.std.specs.List.{AllByRecursion, flat_map}
+use Rattle.std.specs.List.{AllByRecursion}
 use Rattle.std.specs.Ordering.{nat_cmp, eq_by_cmp}
 use Rattle.std.proofs.lemmas.List.{length-map}
 use Rattle.ncq_base.proofs.Tests.{both_true}
 use Rattle.ncq_base.proofs.Totals.{told}
-use Rattle.ncq_bind.specs.NormalQueries.{normal_query}
-use Rattle.ncq_book.specs.declared.member.Member.{Member}
-use Rattle.ncq_callback.specs.Labels.{Label}
 use Rattle.ncq_count.specs.FileExprs.{exprs_of}
 use Rattle.ncq_group.specs.Closure.{IsKept}
 use Rattle.ncq_plan.specs.declared.expr.Expr.{Expr}
-use Rattle.ncq_plan.specs.declared.query.NormalQuery.{NormalQuery}
-use Rattle.ncq_plan.specs.Plans.{plan_of}
+use Rattle.ncq_plan.specs.ExprLists.{AreApart, IsIn}
 use Rattle.ncq_report.specs.declared.report.Summary.{Summary}
-use Rattle.ncq_report.specs.Lines.{AreApart, AreTheSame, IsIn}
+use Rattle.ncq_report.specs.Lines.{AreTheSame}
 use Rattle.ncq_report.proofs.LineLaws.{one_list}
-use Rattle.ncq_roll.specs.Shares.{IsPlanned, Shares}
+use Rattle.ncq_live.specs.Shares.{Shares}
 use Rattle.ncq_shelf.specs.KeptFiles.{KeptFile, Files}
-use Rattle.ncq_shelf.specs.Parts.{IsPart}
+use Rattle.ncq_shelf.specs.Parts.{IsPartOfOne}
 use Rattle.ncq_shelf.specs.Stands.{IsGrounded}
 use Rattle.ncq_shelf.proofs.CallerLemmas.{there}
 use Rattle.ncq_engine.specs.Engines.{Pairwise}
-use Rattle.ncq_engine.specs.History.{History, Subscription, live}
+use Rattle.ncq_engine.specs.History.{History, live}
 use Rattle.ncq_engine.specs.Languages.{language_of}
-use Rattle.ncq_engine.specs.Reports.{closure, parts, summary}
-use Rattle.ncq_engine.specs.Stands.{EngineCore, Follows, Keeps, content_of}
+use Rattle.ncq_engine.specs.Reports.{closure, summary}
+use Rattle.ncq_engine.specs.Stands.{EngineState, Follows, Keeps, content_of}
 use Rattle.ncq_engine.specs.Summaries.{IsSummary}
-use Rattle.ncq_engine.proofs.PartLaws.{distinct_apart, distinct_in, in_behind, in_distinct, in_either, in_front, in_is_part, part_is_in, same_length}
+use Rattle.ncq_engine.proofs.PartLaws.{apart_closure, in_closure, plans_are, same_length}
 use Rattle.ncq_engine.proofs.WorkLaws.{IsThere, all_there, apart_exprs}
 
 -- the expressions of files with their numbers
@@ -81,41 +77,18 @@ kept_exprs files expr kept =
     subst (λ x. IsIn x (exprs_of files)) kept.1.of
     (found_in kept.0 kept.1.file (entries files) (sym (get-entries files kept.0) ∙ kept.1.at))
 
--- the parts of the members' plans are those of the plans of their subscriptions' queries
-abbrev parts_of : Subscription → List Expr
-parts_of s = parts (plan_of (normal_query s.statement.query))
-
-module _ (labels : List Label) (h : History) (expr : Expr) where
-  planned_in : (subs : List Subscription) (ms : List Member) → Pairwise (Keeps labels h) subs ms → IsPlanned ms expr → IsIn expr (flat_map parts_of subs)
-  planned_in [] [] p planned = absurd planned
-  planned_in [] (m ∷ ms) p planned = absurd p
-  planned_in (s ∷ subs) [] p planned = absurd p
-  planned_in (s ∷ subs) (m ∷ ms) p (inl part) =
-      in_front expr (parts_of s) (flat_map parts_of subs)
-      (part_is_in expr (plan_of (normal_query s.statement.query)) (subst (λ (n : NormalQuery). IsPart expr (plan_of n)) p.0.binds.answer part))
-  planned_in (s ∷ subs) (m ∷ ms) p (inr others) = in_behind expr (parts_of s) (flat_map parts_of subs) (planned_in subs ms p.1 others)
-
-  in_planned : (subs : List Subscription) (ms : List Member) → Pairwise (Keeps labels h) subs ms → IsIn expr (flat_map parts_of subs) → IsPlanned ms expr
-  in_planned [] [] p is = absurd is
-  in_planned [] (m ∷ ms) p is = absurd p
-  in_planned (s ∷ subs) [] p is = absurd p
-  in_planned (s ∷ subs) (m ∷ ms) p is = elim (in_either expr (parts_of s) (flat_map parts_of subs) is) [
-    | inl here ↦
-        inl (subst (λ (n : NormalQuery). IsPart expr (plan_of n)) (sym p.0.binds.answer) (in_is_part expr (plan_of (normal_query s.statement.query)) here))
-    | inr behind ↦ inr (in_planned subs ms p.1 behind)
-  ]
-
--- the files of an engine are those of the expressions of the live queries, each once
-pub exprs_same : (e : EngineCore) (h : History) → Follows e h → Shares e.members e.table → AreTheSame (exprs_of e.table.files) (closure (language_of e.labels) h)
+-- the files of an engine are those of the parts of the live plans, each once
+pub exprs_same : (e : EngineState) (h : History) → Follows e h → Shares e.subscriptions e.table → AreTheSame (exprs_of e.table.files) (closure (language_of e.labels) h)
 exprs_same e h f shares =
-    let list = flat_map parts_of (live h) in
+    let language = language_of e.labels in
+    let plans = plans_are e.labels h (live h) e.subscriptions f.subscriptions in
     record {
       apart = exprs_apart e.table.files shares.facts.grounded;
-      others_apart = distinct_apart list;
-      there = λ expr is. in_distinct expr list
-          (planned_in e.labels h expr (live h) e.members f.members ((shares.kept expr).0 (exprs_kept e.table.files shares.facts.grounded expr is)));
+      others_apart = apart_closure language h;
+      there = λ expr is. (in_closure language h expr).1
+          (subst (IsPartOfOne expr) plans ((shares.kept expr).0 (exprs_kept e.table.files shares.facts.grounded expr is)));
       back = λ expr is. kept_exprs e.table.files expr
-          ((shares.kept expr).1 (in_planned e.labels h expr (live h) e.members f.members (distinct_in expr list is)));
+          ((shares.kept expr).1 (subst (IsPartOfOne expr) (sym plans) ((in_closure language h expr).0 is)));
     }
 
 pairwise_length : {A B : Type 0} (R : A → B → Type 0) (xs : List A) (ys : List B) → Pairwise R xs ys → length xs ≡ length ys
@@ -125,10 +98,10 @@ pairwise_length R (x ∷ xs) [] p = absurd p
 pairwise_length R (x ∷ xs) (y ∷ ys) p = let rest = pairwise_length R xs ys p.1 in omega arith
 
 -- So what an engine counts is what a report tells of the history.
-pub summary_is : (e : EngineCore) (h : History) → Follows e h → Shares e.members e.table → (s : Summary) → IsSummary e s → s ≡ summary (language_of e.labels) h
+pub summary_is : (e : EngineState) (h : History) → Follows e h → Shares e.subscriptions e.table → (s : Summary) → IsSummary e s → s ≡ summary (language_of e.labels) h
 summary_is e h f shares s is =
     let same = exprs_same e h f shares in
-    let queries = is.queries ∙ sym (pairwise_length (Keeps e.labels h) (live h) e.members f.members) in
+    let queries = is.queries ∙ sym (pairwise_length (Keeps e.labels h) (live h) e.subscriptions f.subscriptions) in
     let sources = is.sources ∙ sym (length-map e.store.sources content_of) ∙ ap length f.sources in
     let changes = is.changes ∙ f.changes in
     let files = is.files ∙ len-entries e.table.files ∙ sym (length-map (entries e.table.files) (λ entry. entry.1))

@@ -1,10 +1,10 @@
--- Members that can be told stay so: behind a change of the store, of the files, and of what is written down.
+-- Subscriptions that can be told stay so: behind a change of the store, of the files, and of what is written down.
 use Rattle.std.proofs.Common.{◌≡◌, ℕ, ◌+◌, ◌<◌, ◌≤◌, max, Bool, true, false, ◌==◌, List, [], ◌∷◌, length, refl, sym, ◌∙◌, ap, subst, arith, inl, inr}
 use Rattle.std.specs.Prelude.{Option, Some, None, IfSome, if◌then◌else◌}
 use Rattle.std.specs.FinMap.{get}
 use Rattle.std.specs.Option.{option_map}
 use Rattle.std.proofs.lemmas.Bool.{cases_eq}
-use Rattle.ncq_book.specs.declared.member.Member.{Member}
+use Rattle.ncq_book.specs.declared.subscription.Subscription.{Subscription as Kept}
 use Rattle.ncq_callback.specs.Labels.{Label}
 use Rattle.ncq_feed.specs.Feeds.{AreFed}
 use Rattle.ncq_feed.proofs.ContentLaws.{content_sound, up_before}
@@ -36,7 +36,7 @@ latest_more : (old new : StoreState) → ((name : List ℕ) → last_in old name
 latest_more old new more [] = let z : 0 ≤ 0 = omega arith in z
 latest_more old new more (name ∷ names) = let a = more name in let b = latest_more old new more names in omega (arith, a, b)
 
-mark_more : (old new : StoreState) → ((name : List ℕ) → last_in old name ≤ last_in new name) → (m : Member) (base : ℕ) → IfSome (mark_in old m) (λ n. base ≤ n) → IfSome (mark_in new m) (λ n. base ≤ n)
+mark_more : (old new : StoreState) → ((name : List ℕ) → last_in old name ≤ last_in new name) → (m : Kept) (base : ℕ) → IfSome (mark_in old m) (λ n. base ≤ n) → IfSome (mark_in new m) (λ n. base ≤ n)
 mark_more old new more m base = by (m.timing.every == 0) m.noted
   where
     by : (based : Bool) (noted : Option ℕ) → IfSome (if based then option_map (λ first. max first (latest_in old m.sources)) noted else noted) (λ n. base ≤ n)
@@ -46,7 +46,7 @@ mark_more old new more m base = by (m.timing.every == 0) m.noted
     by false noted h = h
 
 -- behind a store whose last changes do not fall
-pub can_store : (labels : List Label) (old new : StoreState) (table : TableState) → ((name : List ℕ) → last_in old name ≤ last_in new name) → (m : Member) → CanTell labels old table m → CanTell labels new table m
+pub can_store : (labels : List Label) (old new : StoreState) (table : TableState) → ((name : List ℕ) → last_in old name ≤ last_in new name) → (m : Kept) → CanTell labels old table m → CanTell labels new table m
 can_store labels old new table more m can = record {
   formed = can.formed;
   action = can.action;
@@ -65,7 +65,7 @@ pub record HasStill (table : TableState) (number : ℕ) (was : KeptFile) : Type 
   pub base : file.content.base ≡ was.content.base
   pub sound : IsSoundAt table.number file.content.rows
 
-pub can_table : (labels : List Label) (store : StoreState) (old new : TableState) → ((number : ℕ) (file : KeptFile) → get old.files number ≡ Some file → HasStill new number file) → (m : Member) → CanTell labels store old m → CanTell labels store new m
+pub can_table : (labels : List Label) (store : StoreState) (old new : TableState) → ((number : ℕ) (file : KeptFile) → get old.files number ≡ Some file → HasStill new number file) → (m : Kept) → CanTell labels store old m → CanTell labels store new m
 can_table labels store old new still m can =
     let s = still m.file.0 can.file can.at in
     record {
@@ -104,8 +104,8 @@ installed_still expr old new at w done fits number file here =
           record { file = file; at = there; own = refl; base = refl; sound = fits_sound new.number w new.files fits number file there }
     ]
 
--- a member whose file is left
-pub can_left : (labels : List Label) (store : StoreState) (old new : TableState) → AreOf old.files new.files → new.number ≡ old.number → (m : Member) → HasFile new.files (plan_of m.query) m.file.0 → CanTell labels store old m → CanTell labels store new m
+-- a subscription whose file is left
+pub can_left : (labels : List Label) (store : StoreState) (old new : TableState) → AreOf old.files new.files → new.number ≡ old.number → (m : Kept) → HasFile new.files (plan_of m.query) m.file.0 → CanTell labels store old m → CanTell labels store new m
 can_left labels store old new left same m has can =
     let was = left m.file.0 has.file has.at in
     let one : Some was.0 ≡ Some can.file = sym was.1 ∙ can.at in
@@ -121,8 +121,8 @@ can_left labels store old new left same m has can =
       base = subst (λ (c : FileState). IfSome (mark_in store m) (λ n. c.base ≤ n)) (sym content) can.base;
     }
 
--- a member that is new has not fired
-pub can_new : (labels : List Label) (store : StoreState) (table : TableState) (w : World) → Fits table.number w table.files → (m : Member) → IsWellFormed m.query → m.action < length labels → m.noted ≡ None → HasFile table.files (plan_of m.query) m.file.0
+-- a subscription that is new has not fired
+pub can_new : (labels : List Label) (store : StoreState) (table : TableState) (w : World) → Fits table.number w table.files → (m : Kept) → IsWellFormed m.query → m.action < length labels → m.noted ≡ None → HasFile table.files (plan_of m.query) m.file.0
     → CanTell labels store table m
 can_new labels store table w fits m formed action none has = record {
   formed = formed;
@@ -141,8 +141,8 @@ can_new labels store table w fits m formed action none has = record {
         both true = refl
         both false = refl
 
--- a member that has fired now
-pub can_noted : (labels : List Label) (store : StoreState) (table : TableState) → AreUpTo store.changes table.files → (fires : Bool) (m : Member) → CanTell labels store table m → CanTell labels store table (fired_if fires store m)
+-- a subscription that has fired now
+pub can_noted : (labels : List Label) (store : StoreState) (table : TableState) → AreUpTo store.changes table.files → (fires : Bool) (m : Kept) → CanTell labels store table m → CanTell labels store table (fired_if fires store m)
 can_noted labels store table upto false m can = can
 can_noted labels store table upto true m can = record {
   formed = can.formed;

@@ -5,12 +5,12 @@ use Rattle.std.specs.Borrow.{Bor}
 use Rattle.std.specs.Option.{option_copied}
 use Rattle.std.proofs.lemmas.List.{append-nil, take_more}
 use Rattle.std.specs.List.{flat_map, AllByRecursion}
-use Rattle.ncq_book.specs.declared.member.Member.{Member}
-use Rattle.ncq_book.specs.Books.{is_of, member_of}
+use Rattle.ncq_book.specs.declared.subscription.Subscription.{Subscription as Kept}
+use Rattle.ncq_book.specs.Books.{is_of, subscription_of}
 use Rattle.ncq_callback.specs.Labels.{Label}
 use Rattle.ncq_event.specs.declared.firing.Firing.{Firing}
 use Rattle.ncq_source.specs.StoreStates.{StoreState}
-use Rattle.ncq_engine.specs.Engines.{Pairwise, told_text}
+use Rattle.ncq_engine.specs.Engines.{Pairwise, notice_text}
 use Rattle.ncq_shelf.specs.KeptFiles.{Files}
 use Rattle.ncq_engine.specs.declared.span.Span.{Span}
 use Rattle.ncq_engine.specs.Spans.{span_of, spans_of}
@@ -78,22 +78,22 @@ module _ {A : Type 0} (xs : List A) (at : ℕ) (item : A) (one : take (at + 1) x
       map_push f (z ∷ xs) x = ap (λ more. f z ∷ more) (map_push f xs x)
 
 -- what holds of each holds of the one that is found
-pub found_has : (P : Member → Type 0) (install : ℕ) (ms : List Member) (m : Member) → AllByRecursion P ms → member_of install ms ≡ Some m → P m
+pub found_has : (P : Kept → Type 0) (install : ℕ) (ms : List Kept) (m : Kept) → AllByRecursion P ms → subscription_of install ms ≡ Some m → P m
 found_has P install [] m h e = absurd cc
 found_has P install (x ∷ ms) m h e =
-    elim (is_of install x) as (λ t. cond t (Some x) (member_of install ms) ≡ Some m → P m) [
+    elim (is_of install x) as (λ t. cond t (Some x) (subscription_of install ms) ≡ Some m → P m) [
       | true ↦ λ q. (let same : x ≡ m = cc in subst P same h.0)
       | false ↦ λ q. found_has P install ms m h.1 q
     ] e
 
--- the text of a firing whose member is found
-pub text_found : (labels : List Label) (store : StoreState) (files : Files) (members : List Member) (firing : Firing) (m : Member) → Some m ≡ member_of firing.install members
-    → told_text labels store files m firing.instant ≡ firing_text labels store files members firing
-text_found labels store files members firing m e = ap (text_of labels store files firing.instant) e
+-- the text of a firing whose subscription is found
+pub text_found : (labels : List Label) (store : StoreState) (files : Files) (subscriptions : List Kept) (firing : Firing) (m : Kept) → Some m ≡ subscription_of firing.install subscriptions
+    → notice_text labels store files m firing.instant ≡ firing_text labels store files subscriptions firing
+text_found labels store files subscriptions firing m e = ap (text_of labels store files firing.instant) e
 
 -- and its name
-pub name_found : (members : List Member) (firing : Firing) (m : Member) → Some m ≡ member_of firing.install members → m.name ≡ firing_name members firing
-name_found members firing m e = ap name_of e
+pub name_found : (subscriptions : List Kept) (firing : Firing) (m : Kept) → Some m ≡ subscription_of firing.install subscriptions → m.name ≡ firing_name subscriptions firing
+name_found subscriptions firing m e = ap name_of e
 
 -- what holds of each holds at each place
 pub each_here : {A : Type 0} (P : A → Type 0) (xs : List A) (at : ℕ) (d : A) → at < length xs → AllByRecursion P xs → P (get_or xs at d)
@@ -101,9 +101,9 @@ each_here P [] at d less h = absurd (let n : ⊥ = omega (arith, less) in n)
 each_here P (x ∷ xs) zero d less h = h.0
 each_here P (x ∷ xs) (suc at) d less h = each_here P xs at d (let l : at < length xs = omega (arith, less) in l) h.1
 
--- a member that is there is found
-pub not_missing : (o : Option (Bor Member)) (p : Option Member) → option_copied o ≡ p → o ≡ None → IsSome p → ⊥
+-- a subscription that is there is found
+pub not_missing : (o : Option (Bor Kept)) (p : Option Kept) → option_copied o ≡ p → o ≡ None → IsSome p → ⊥
 not_missing o p e none some = true≢false (sym some ∙ ap is_some (sym e ∙ ap option_copied none))
 
-pub found_as : (o : Option (Bor Member)) (p : Option Member) (m : Bor Member) → option_copied o ≡ p → o ≡ Some m → p ≡ Some m.now
+pub found_as : (o : Option (Bor Kept)) (p : Option Kept) (m : Bor Kept) → option_copied o ≡ p → o ≡ Some m → p ≡ Some m.now
 found_as o p m e is = sym e ∙ ap option_copied is

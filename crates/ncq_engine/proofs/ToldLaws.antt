@@ -1,4 +1,4 @@
--- Who fires, in which order, and what they are told: the members against the subscriptions.
+-- Who fires, in which order, and what they are told: the subscriptions of the history against those that are kept.
 use Rattle.std.proofs.Common.{◌≡◌, ℕ, ◌+◌, ◌<◌, ◌≤◌, Bool, true, false, not, cond, List, [], ◌∷◌, ◌++◌, map, length, refl, sym, ◌∙◌, ap, arith}
 use Rattle.std.specs.Prelude.{Option, Some, None, if◌then◌else◌}
 use Rattle.std.proofs.lemmas.Bool.Decides.{nat_tests}
@@ -9,14 +9,14 @@ use Rattle.ncq_event.specs.Orders.{is_before, placed_by, ordered_by}
 use Rattle.ncq_script.specs.declared.command.Command.{Command}
 use Rattle.ncq_script.specs.declared.command.Command.TheVariants.{Declare, Delta, Create, Delete, Clock, Report, Malformed}
 use Rattle.ncq_source.specs.StoreStates.{StoreState}
-use Rattle.ncq_book.specs.declared.member.Member.{Member}
-use Rattle.ncq_engine.specs.Engines.{Told}
-use Rattle.ncq_engine.specs.Engines.{CanTell, Pairwise, last_in, told_at, told_text}
+use Rattle.ncq_book.specs.declared.subscription.Subscription.{Subscription as Kept}
+use Rattle.ncq_engine.specs.Engines.{NoticeText}
+use Rattle.ncq_engine.specs.Engines.{CanTell, Pairwise, last_in, notice_texts, notice_text}
 use Rattle.ncq_engine.specs.Firing.{fires}
 use Rattle.ncq_event.specs.Instants.{is_expired}
 use Rattle.ncq_engine.specs.History.{History, Subscription, changes, created, creates, is_named, last_change, live, timing_of}
 use Rattle.ncq_engine.specs.Languages.{language_of}
-use Rattle.ncq_engine.specs.Notices.{fired_at, firings, notice_at, told}
+use Rattle.ncq_engine.specs.Notices.{fired_at, firings, notice_at, firings_in_order}
 use Rattle.ncq_engine.specs.Marks.{IsRising}
 use Rattle.ncq_engine.specs.declared.span.Span.{Span}
 use Rattle.ncq_engine.specs.Spans.{span_of, spans_of}
@@ -115,24 +115,24 @@ module _ (instant : ℕ) (fired : Subscription → Option ℕ) (one : (s : Subsc
       by_firing rest (Some c) e = (behind_all s.install c (one s c e) xs r.0, rest)
 
 -- where the notices of what is told stand, from this place on
-abbrev pub told_spans : ℕ → List Told → List Span
-told_spans from list = spans_of (λ (t : Told). t.name) (λ (t : Told). t.text) from list
+abbrev pub told_spans : ℕ → List NoticeText → List Span
+told_spans from list = spans_of (λ (t : NoticeText). t.name) (λ (t : NoticeText). t.text) from list
 
--- what members are told, each with its firing
-abbrev pub told_of : List Label → StoreState → Files → (Member → Option ℕ) → List Member → List Told
-told_of labels store files instant ms = flat_map (λ m. told_at labels store files m (instant m)) ms
+-- what subscriptions are told, each with its firing
+abbrev pub told_of : List Label → StoreState → Files → (Kept → Option ℕ) → List Kept → List NoticeText
+told_of labels store files instant ms = flat_map (λ m. notice_texts labels store files m (instant m)) ms
 
 module _ (labels : List Label) (h : History) (command : Command) (store : StoreState) (files : Files) where
   -- the notice of a firing, with the firing
-  abbrev pub noticed : Fired → Told
+  abbrev pub noticed : Fired → NoticeText
   noticed f = record { firing = f.0; name = f.1.statement.name; text = notice_at (language_of labels) h command f }
 
-  -- the member is told what the notice of its subscription says
-  abbrev pub Tells : Subscription → Member → Type 0
+  -- what is kept of a subscription is told what the notice of its subscription says
+  abbrev pub Tells : Subscription → Kept → Type 0
   Tells s m = (m.install ≡ s.install) × (m.name ≡ s.statement.name)
-      × ((instant : ℕ) → told_text labels store files m instant ≡ notice_at (language_of labels) h command (record { instant = instant; install = s.install }, s))
+      × ((instant : ℕ) → notice_text labels store files m instant ≡ notice_at (language_of labels) h command (record { instant = instant; install = s.install }, s))
 
-  told_one : (s : Subscription) (m : Member) (o : Option ℕ) → Tells s m → told_at labels store files m o ≡ map noticed (fired_at s o)
+  told_one : (s : Subscription) (m : Kept) (o : Option ℕ) → Tells s m → notice_texts labels store files m o ≡ map noticed (fired_at s o)
   told_one s m None k = refl
   told_one s m (Some d) k = λ i. record { firing = record { instant = d; install = k.0 i }; name = k.1 i; text = k.2 d i } ∷ []
 
@@ -140,19 +140,19 @@ module _ (labels : List Label) (h : History) (command : Command) (store : StoreS
   map_push [] ys = refl
   map_push (x ∷ xs) ys = ap (λ more. noticed x ∷ more) (map_push xs ys)
 
-  -- what the members are told is what is told of their subscriptions
-  pub told_list : (instant : Member → Option ℕ) (subs : List Subscription) (ms : List Member)
+  -- what the subscriptions are told is what is told of their subscriptions
+  pub told_list : (instant : Kept → Option ℕ) (subs : List Subscription) (ms : List Kept)
       → Pairwise (λ s m. Tells s m × (instant m ≡ fires s h command)) subs ms
       → told_of labels store files instant ms ≡ map noticed (flat_map (λ s. fired_at s (fires s h command)) subs)
   told_list instant [] [] p = refl
   told_list instant [] (m ∷ ms) p = absurd p
   told_list instant (s ∷ subs) [] p = absurd p
   told_list instant (s ∷ subs) (m ∷ ms) p =
-      (λ i. told_at labels store files m (p.0.1 i) ++ told_list instant subs ms p.1 i)
+      (λ i. notice_texts labels store files m (p.0.1 i) ++ told_list instant subs ms p.1 i)
       ∙ (λ i. told_one s m (fires s h command) p.0.0 i ++ map noticed (flat_map (λ s. fired_at s (fires s h command)) subs))
       ∙ sym (map_push (fired_at s (fires s h command)) (flat_map (λ s. fired_at s (fires s h command)) subs))
 
-  pub texts_of : (xs : List Fired) → flat_map (λ (t : Told). t.text) (map noticed xs) ≡ flat_map (notice_at (language_of labels) h command) xs
+  pub texts_of : (xs : List Fired) → flat_map (λ (t : NoticeText). t.text) (map noticed xs) ≡ flat_map (notice_at (language_of labels) h command) xs
   texts_of [] = refl
   texts_of (x ∷ xs) = ap (λ more. notice_at (language_of labels) h command x ++ more) (texts_of xs)
 
@@ -167,28 +167,28 @@ module _ (labels : List Label) (h : History) (command : Command) (store : StoreS
       ap (λ more. span_of x.1.statement.name from text ++ more) (spans_are (from + length text) xs)
 
   -- in the order of the firings
-  pub told_text_is : (list : List Told) → list ≡ map noticed (firings h command)
-      → flat_map (λ (t : Told). t.text) (ordered_by (λ (t : Told). t.firing) list) ≡ flat_map (notice_at (language_of labels) h command) (told h command)
+  pub told_text_is : (list : List NoticeText) → list ≡ map noticed (firings h command)
+      → flat_map (λ (t : NoticeText). t.text) (ordered_by (λ (t : NoticeText). t.firing) list) ≡ flat_map (notice_at (language_of labels) h command) (firings_in_order h command)
   told_text_is list e =
-      ap (λ l. flat_map (λ (t : Told). t.text) (ordered_by (λ (t : Told). t.firing) l)) e
-      ∙ ap (flat_map (λ (t : Told). t.text)) (order_made noticed (λ (f : Fired). f.0) (λ (t : Told). t.firing) (λ x. refl) (firings h command))
-      ∙ texts_of (told h command)
+      ap (λ l. flat_map (λ (t : NoticeText). t.text) (ordered_by (λ (t : NoticeText). t.firing) l)) e
+      ∙ ap (flat_map (λ (t : NoticeText). t.text)) (order_made noticed (λ (f : Fired). f.0) (λ (t : NoticeText). t.firing) (λ x. refl) (firings h command))
+      ∙ texts_of (firings_in_order h command)
 
-  pub told_spans_are : (list : List Told) → list ≡ map noticed (firings h command)
-      → (from : ℕ) → told_spans from (ordered_by (λ (t : Told). t.firing) list) ≡ fired_spans from (told h command)
+  pub told_spans_are : (list : List NoticeText) → list ≡ map noticed (firings h command)
+      → (from : ℕ) → told_spans from (ordered_by (λ (t : NoticeText). t.firing) list) ≡ fired_spans from (firings_in_order h command)
   told_spans_are list e from =
-      ap (λ l. told_spans from (ordered_by (λ (t : Told). t.firing) l)) e
-      ∙ ap (told_spans from) (order_made noticed (λ (f : Fired). f.0) (λ (t : Told). t.firing) (λ x. refl) (firings h command))
-      ∙ spans_are from (told h command)
+      ap (λ l. told_spans from (ordered_by (λ (t : NoticeText). t.firing) l)) e
+      ∙ ap (told_spans from) (order_made noticed (λ (f : Fired). f.0) (λ (t : NoticeText). t.firing) (λ x. refl) (firings h command))
+      ∙ spans_are from (firings_in_order h command)
 
--- the members of an engine that follows the history are told what the notices say: the store is that before the command, and the files are those behind it
+-- the subscriptions of an engine that follows the history are told what the notices say: the store is that before the command, and the files are those behind it
 module _ (labels : List Label) (h : History) (command : Command) (store : StoreState) (table : TableState)
     (last : (name : List ℕ) → last_in store name ≡ last_change name h) (rising : IsRising h) (contents : AreContents table.files (command ∷ h))
     (upto : AreUpTo (changes (command ∷ h)) table.files) where
-  pub tells_one : (s : Subscription) (m : Member) → Keeps labels h s m → CanTell labels store table m → Tells labels h command store table.files s m
+  pub tells_one : (s : Subscription) (m : Kept) → Keeps labels h s m → CanTell labels store table m → Tells labels h command store table.files s m
   tells_one s m k can = (k.install, k.name, λ instant. text_is labels h command store table last rising contents upto s m k can instant)
 
-  pub tells_each : (instant : Member → Option ℕ) (subs : List Subscription) (ms : List Member) → Pairwise (λ s m. Keeps labels h s m × (instant m ≡ fires s h command)) subs ms
+  pub tells_each : (instant : Kept → Option ℕ) (subs : List Subscription) (ms : List Kept) → Pairwise (λ s m. Keeps labels h s m × (instant m ≡ fires s h command)) subs ms
       → AllByRecursion (CanTell labels store table) ms → Pairwise (λ s m. Tells labels h command store table.files s m × (instant m ≡ fires s h command)) subs ms
   tells_each instant [] [] p c = tt
   tells_each instant [] (m ∷ ms) p c = absurd p

@@ -13,23 +13,23 @@ use Rattle.ncq_base.proofs.CountLaws.{total_by-congr}
 use Rattle.ncq_base.proofs.Tests.{both_true}
 use Rattle.ncq_base.proofs.Totals.{told, not_tied}
 use Rattle.ncq_bind.specs.Bindings.{Binds, roots_in}
-use Rattle.ncq_book.specs.declared.member.Member.{Member}
-use Rattle.ncq_callback.specs.Labels.{Label}
 use Rattle.ncq_change.specs.Entries.{of_source, scans_of}
 use Rattle.ncq_change.specs.Stores.{world_in}
 use Rattle.ncq_change.proofs.CommitLaws.{found_name}
 use Rattle.ncq_feed.specs.Feeds.{delta_by, feed_work, world_after}
-use Rattle.ncq_group.specs.Installs.{IsNamed, NamesTheMissing, rows_of_all}
+use Rattle.ncq_group.specs.Installs.{NamesTheMissing, rows_of_all}
+use Rattle.ncq_plan.specs.ExprLists.{IsIn}
+use Rattle.ncq_plan.proofs.ExprListLaws.{without_one}
 use Rattle.ncq_plan.specs.declared.expr.Expr.{Expr}
 use Rattle.ncq_plan.specs.declared.query.NormalQuery.{NormalQuery}
 use Rattle.ncq_plan.specs.Deltas.{delta_of}
 use Rattle.ncq_plan.specs.Exprs.{World}
 use Rattle.ncq_plan.specs.Plans.{plan_of}
 use Rattle.ncq_pyx.specs.declared.item.Item.{Item}
-use Rattle.ncq_roll.specs.Shares.{IsPlanned, Shares}
+use Rattle.ncq_live.specs.Shares.{Shares}
 use Rattle.ncq_script.specs.declared.command.Command.TheVariants.{Delta, Create}
 use Rattle.ncq_shelf.specs.KeptFiles.{KeptFile, Files}
-use Rattle.ncq_shelf.specs.Parts.{IsPart}
+use Rattle.ncq_shelf.specs.Parts.{IsPart, IsPartOfOne}
 use Rattle.ncq_shelf.specs.Stands.{IsGrounded}
 use Rattle.ncq_shelf.proofs.CallerLemmas.{there}
 use Rattle.ncq_source.specs.Changes.{after, prepared}
@@ -39,17 +39,18 @@ use Rattle.ncq_source.specs.Prepared.{IsPrepared}
 use Rattle.ncq_source.specs.Stores.{Source as Declared, Follows as IsChanged}
 use Rattle.ncq_source.specs.StoreStates.{StoreState, At, IsAlike, IsCommitted, found}
 use Rattle.ncq_source.proofs.Folds.{fold_of_entries}
-use Rattle.ncq_engine.specs.Engines.{Pairwise}
-use Rattle.ncq_engine.specs.History.{History, Subscription, live, source_in, sources, with_items, world}
+use Rattle.ncq_engine.specs.History.{History, live, source_in, sources, with_items, world}
 use Rattle.ncq_engine.specs.Languages.{language_of}
-use Rattle.ncq_engine.specs.Output.{delta_refusal, first_refusal, trial_refusal}
-use Rattle.ncq_engine.specs.Stands.{EngineCore, Follows, Keeps, content_of}
-use Rattle.ncq_engine.specs.Works.{IsPartOfOne, IsWorkUpTo, delta_rows, entries_in, entries_of, made_rows, unless_refused}
+use Rattle.ncq_engine.specs.Output.{delta_refusal, first_refusal, unless_refused}
+use Rattle.ncq_engine.specs.Stands.{EngineState, Follows, content_of}
+use Rattle.ncq_engine.specs.Works.{IsWorkUpTo, delta_rows, entries_in, made_rows, prepared_entries}
 use Rattle.ncq_engine.proofs.ChangeAnswers.{mid_engine}
+use Rattle.ncq_engine.proofs.ChangeLaws.{good_allowed}
 use Rattle.ncq_engine.proofs.ClockAnswers.{counted_engine}
 use Rattle.ncq_engine.proofs.CreateAnswers.{IsRead}
 use Rattle.ncq_engine.proofs.CreateLaws.{binds_freely, create_refusal}
 use Rattle.ncq_engine.proofs.InvariantLaws.{name_is, world_alike, world_committed}
+use Rattle.ncq_engine.proofs.PartLaws.{plans_are}
 use Rattle.ncq_engine.proofs.Places.{is_found, moved_by, same_names}
 use Rattle.ncq_engine.proofs.Worlds.{world_is}
 use Rattle.ncq_xmlql.specs.declared.model.Statement.{Statement}
@@ -96,34 +97,10 @@ module _ (files : Files) (grounded : IsGrounded files) where
       )
 
   module _ (f : Expr → ℕ) where
-    -- the list without the first of the expression's places
-    without_one : (expr : Expr) (list : List Expr) → IsNamed expr list
-        → (rest : List Expr) × (total_by f list ≡ f expr + total_by f rest) × ((other : Expr) → IsNamed other list → expr ≢ other → IsNamed other rest)
-    without_one expr [] named = absurd named
-    without_one expr (e ∷ list) named = elim named [
-      | inl same ↦ (
-        list,
-        ap (λ x. f x + total_by f list) (sym same),
-        λ other is differs. elim is [
-          | inl e_is ↦ absurd (differs (same ∙ sym e_is))
-          | inr in_list ↦ in_list
-        ],
-      )
-      | inr in_list ↦
-          let below = without_one expr list in_list in (
-            e ∷ below.0,
-            (let h = below.1 in omega arith),
-            λ other is differs. elim is [
-              | inl here ↦ inl here
-              | inr behind ↦ inr (below.2 other behind differs)
-            ],
-          )
-    ]
-
     abbrev AreNamed : List Expr → List (ℕ × KeptFile) → Type 0
-    AreNamed list es = AllByRecursion (λ e. IsNamed e.1.expr list) es
+    AreNamed list es = AllByRecursion (λ e. IsIn e.1.expr list) es
 
-    still_named : (expr : Expr) (es : List (ℕ × KeptFile)) (list rest : List Expr) → ((other : Expr) → IsNamed other list → expr ≢ other → IsNamed other rest) → AllByRecursion (λ e. expr ≢ e.1.expr) es → AreNamed list es → AreNamed rest es
+    still_named : (expr : Expr) (es : List (ℕ × KeptFile)) (list rest : List Expr) → ((other : Expr) → IsIn other list → expr ≢ other → IsIn other rest) → AllByRecursion (λ e. expr ≢ e.1.expr) es → AreNamed list es → AreNamed rest es
     still_named expr [] list rest less apart all = tt
     still_named expr (e ∷ es) list rest less apart all = (less e.1.expr all.0 apart.0, still_named expr es list rest less apart.1 all.1)
 
@@ -131,43 +108,26 @@ module _ (files : Files) (grounded : IsGrounded files) where
     apart_total [] list sorted at named = omega arith
     apart_total (e ∷ es) list sorted at named =
         let b = both_true (below_all nat_cmp e.0 es) (is_sorted nat_cmp es) sorted in
-        let split = without_one e.1.expr list named.0 in
+        let split = without_one f e.1.expr list named.0 in
         let rest = apart_total es split.0 b.1 at.1 (still_named e.1.expr es list split.0 split.2 (apart_exprs e es at.0 b.0 at.1) named.1) in
         let total = split.1 in
         omega arith
 
-  all_named : (exprs : List Expr) → ((number : ℕ) (file : KeptFile) → get files number ≡ Some file → IsNamed file.expr exprs) → (es : List (ℕ × KeptFile)) → AllByRecursion IsThere es → AllByRecursion (λ e. IsNamed e.1.expr exprs) es
+  all_named : (exprs : List Expr) → ((number : ℕ) (file : KeptFile) → get files number ≡ Some file → IsIn file.expr exprs) → (es : List (ℕ × KeptFile)) → AllByRecursion IsThere es → AllByRecursion (λ e. IsIn e.1.expr exprs) es
   all_named exprs names [] at = tt
   all_named exprs names (e ∷ es) at = (names e.0 e.1 at.0, all_named exprs names es at.1)
 
 -- Files that share no expression weigh, together, at most what any list weighs that names the
 -- expression of each.
-pub work_named : (files : Files) → IsGrounded files → (f : Expr → ℕ) (exprs : List Expr) → ((number : ℕ) (file : KeptFile) → get files number ≡ Some file → IsNamed file.expr exprs)
+pub work_named : (files : Files) → IsGrounded files → (f : Expr → ℕ) (exprs : List Expr) → ((number : ℕ) (file : KeptFile) → get files number ≡ Some file → IsIn file.expr exprs)
     → total_by (λ entry. f entry.1.expr) (entries files) ≤ total_by f exprs
 work_named files grounded f exprs names =
     let sorted : is_sorted nat_cmp (entries files) ≡ true = told _ (entries_sorted files) in
     let at = all_there files grounded (entries files) sorted (λ number file found. get-entries files number ∙ found) in
     apart_total files grounded f (entries files) exprs sorted at (all_named files grounded exprs names (entries files) at)
 
--- the parts of the members' plans are those of the plans of their subscriptions' queries
-module _ (labels : List Label) (h : History) (expr : Expr) where
-  planned_of_one : (subs : List Subscription) (ms : List Member) → Pairwise (Keeps labels h) subs ms → IsPlanned ms expr → IsPartOfOne subs expr
-  planned_of_one [] [] p planned = absurd planned
-  planned_of_one [] (m ∷ ms) p planned = absurd p
-  planned_of_one (s ∷ subs) [] p planned = absurd p
-  planned_of_one (s ∷ subs) (m ∷ ms) p (inl part) = inl (record { roots = p.0.roots; normal = m.query; binds = p.0.binds; part = part })
-  planned_of_one (s ∷ subs) (m ∷ ms) p (inr others) = inr (planned_of_one subs ms p.1 others)
-
-  -- a query has one normal query
-  one_is_planned : (subs : List Subscription) (ms : List Member) → Pairwise (Keeps labels h) subs ms → IsPartOfOne subs expr → IsPlanned ms expr
-  one_is_planned [] [] p one = absurd one
-  one_is_planned [] (m ∷ ms) p one = absurd p
-  one_is_planned (s ∷ subs) [] p one = absurd p
-  one_is_planned (s ∷ subs) (m ∷ ms) p (inl is) = inl (subst (λ (n : NormalQuery). IsPart expr (plan_of n)) (is.binds.answer ∙ sym p.0.binds.answer) is.part)
-  one_is_planned (s ∷ subs) (m ∷ ms) p (inr others) = inr (one_is_planned subs ms p.1 others)
-
 -- a change that was prepared from a store, and is fed from that store with room
-module _ (e : EngineCore) (ready : StoreState) (name : List ℕ) (items : List Item) (change : ChangeState) (here : found e.store name ≡ Some change.source.0) (alike : IsAlike e.store ready)
+module _ (e : EngineState) (ready : StoreState) (name : List ℕ) (items : List Item) (change : ChangeState) (here : found e.store name ≡ Some change.source.0) (alike : IsAlike e.store ready)
     (prepares : At e.store change.source (λ s. IsPrepared s items change.entries))
     (good : (d : Declared) → slice_get e.store.sources change.source.0 ≡ Some d → prepared d.key 1 d.elements items ≡ Good change.entries) where
   abbrev own : (d : Declared) × (slice_get e.store.sources change.source.0 ≡ Some d) × (bytes_eq name d.name ≡ true)
@@ -197,7 +157,7 @@ module _ (e : EngineCore) (ready : StoreState) (name : List ℕ) (items : List I
     source_is = ap (source_in name) (sym s.sources) ∙ is_found name e.store.sources change.source.0 own.0 here own.1
 
     allowed : first_refusal (language_of e.labels) h (Delta name items) ≡ None
-    allowed = ap (delta_refusal items) source_is ∙ ap trial_refusal (good own.0 own.1)
+    allowed = ap (delta_refusal items) source_is ∙ good_allowed own.0 items change.entries (good own.0 own.1)
 
     world_before : world_in ready ≡ world (sources h)
     world_before = world_alike e.store ready alike.sources ∙ sym (world_is e.store (sources h) s.sources)
@@ -212,7 +172,7 @@ module _ (e : EngineCore) (ready : StoreState) (name : List ℕ) (items : List I
     world_behind = world_committed e.store ready name items change here alike prepares committed_store committed ∙ sym (world_is committed_store (sources (Delta name items ∷ h)) sources_after)
 
     entries_are : change.entries ≡ entries_in items (source_in name (sources h))
-    entries_are = sym (ap (entries_in items) source_is ∙ ap entries_of (good own.0 own.1))
+    entries_are = sym (ap (entries_in items) source_is ∙ ap prepared_entries (good own.0 own.1))
 
     -- what the change makes of an expression is what the delta makes of it
     delta_is : (expr : Expr) → delta_by ready change expr ≡ delta_rows h name items expr
@@ -220,56 +180,56 @@ module _ (e : EngineCore) (ready : StoreState) (name : List ℕ) (items : List I
 
     -- To feed an accepted change to the files costs at most the work of the delta: each file has
     -- the expression of a part of a live subscription's plan.
-    pub change_cost : Shares e.members e.table → (bound : ℕ) → IsWorkUpTo (language_of e.labels) h (Delta name items) bound → feed_work ready change e.table.files ≤ bound
+    pub change_cost : Shares e.subscriptions e.table → (bound : ℕ) → IsWorkUpTo (language_of e.labels) h (Delta name items) bound → feed_work ready change e.table.files ≤ bound
     change_cost shares bound work =
         let named : feed_work ready change e.table.files ≤ total_by (λ expr. length (delta_by ready change expr)) work.0 =
         work_named e.table.files shares.facts.grounded (λ expr. length (delta_by ready change expr)) work.0 (λ number file at.
-        work.1 file.expr (planned_of_one e.labels h file.expr (live h) e.members s.members ((shares.kept file.expr).0 (number, record { file = file; at = at; of = refl })))) in
+        work.1 file.expr (subst (IsPartOfOne file.expr) (plans_are e.labels h (live h) e.subscriptions s.subscriptions) ((shares.kept file.expr).0 (number, record { file = file; at = at; of = refl })))) in
         let same : total_by (λ expr. length (delta_by ready change expr)) work.0 ≡ made_rows h (Delta name items) work.0 = total_by-congr _ _ (λ expr. ap length (delta_is expr)) work.0 in
-        let is : bound ≡ made_rows h (Delta name items) work.0 = work.2 ∙ (λ i. unless_refused (allowed i) (made_rows h (Delta name items) work.0)) in
+        let is : bound ≡ made_rows h (Delta name items) work.0 = work.2 ∙ (λ i. unless_refused 0 (allowed i) (made_rows h (Delta name items) work.0)) in
         omega (arith, named, same, is)
 
     -- The same by the names of the code: the steps that feeding may take, from the store with room
     -- and the files of the counted engine, are within the work of the delta.
-    pub change_steps : Shares e.members e.table → (inside : EngineCore) → inside ≡ mid_engine e ready → (bound : ℕ) → IsWorkUpTo (language_of e.labels) h (Delta name items) bound
+    pub change_steps : Shares e.subscriptions e.table → (inside : EngineState) → inside ≡ mid_engine e ready → (bound : ℕ) → IsWorkUpTo (language_of e.labels) h (Delta name items) bound
         → (old new : ℕ) → new ≤ old + feed_work inside.store change inside.table.files → new ≤ old + bound
     change_steps shares inside is bound work old new steps =
-        let few : feed_work inside.store change inside.table.files ≤ bound = subst (λ (x : EngineCore). feed_work x.store change x.table.files ≤ bound) (sym is) (change_cost shares bound work) in
+        let few : feed_work inside.store change inside.table.files ≤ bound = subst (λ (x : EngineState). feed_work x.store change x.table.files ≤ bound) (sym is) (change_cost shares bound work) in
         omega (arith, few, steps)
 
 -- To install the plan of an accepted create costs at most the work of the create: there is a list
 -- of expressions that names each part of the plan without a file, and its rows are within the
 -- work. A part without a file is no part of a live subscription's plan.
-pub create_cost : (e : EngineCore) (h : History) → Follows e h → Shares e.members e.table → (statement : Statement) (query : NormalQuery) → Binds statement.query (roots_in e.store) (Ok query)
+pub create_cost : (e : EngineState) (h : History) → Follows e h → Shares e.subscriptions e.table → (statement : Statement) (query : NormalQuery) → Binds statement.query (roots_in e.store) (Ok query)
     → first_refusal (language_of e.labels) h (Create statement) ≡ None → (bound : ℕ) → IsWorkUpTo (language_of e.labels) h (Create statement) bound
     → (exprs : List Expr) × NamesTheMissing e.table.files (plan_of query) exprs × (rows_of_all (world_in e.store) exprs ≤ bound)
 create_cost e h s shares statement query binds none bound work = (
   work.0,
   λ part is missing. work.1 part (
-    record { roots = roots_in e.store; normal = query; binds = binds; part = is },
-    λ one. missing ((shares.kept part).1 (one_is_planned e.labels h part (live h) e.members s.members one)),
+    subst (λ (n : NormalQuery). IsPart part (plan_of n)) binds.answer is,
+    λ one. missing ((shares.kept part).1 (subst (IsPartOfOne part) (sym (plans_are e.labels h (live h) e.subscriptions s.subscriptions)) one)),
   ),
   (let same : rows_of_all (world_in e.store) work.0 ≡ made_rows h (Create statement) work.0 = ap (λ (w : World). rows_of_all w work.0) (sym (world_is e.store (sources h) s.sources)) in
-      let is : bound ≡ made_rows h (Create statement) work.0 = work.2 ∙ (λ i. unless_refused (none i) (made_rows h (Create statement) work.0)) in
+      let is : bound ≡ made_rows h (Create statement) work.0 = work.2 ∙ (λ i. unless_refused 0 (none i) (made_rows h (Create statement) work.0)) in
       omega (arith, same, is)),
 )
 
 -- A create whose statement was read, bound and found free, fitting and timely is not refused.
-pub create_allowed : (e : EngineCore) (h : History) → Follows e h → (statement : Statement) (query : NormalQuery) (action : ℕ) → IsRead e statement query action
+pub create_allowed : (e : EngineState) (h : History) → Follows e h → (statement : Statement) (query : NormalQuery) (action : ℕ) → IsRead e statement query action
     → first_refusal (language_of e.labels) h (Create statement) ≡ None
 create_allowed e h s statement query action read =
-    create_refusal e.store e.clock e.count e.creates e.labels e.members e.table statement false false false None read.free (binds_freely statement.query (roots_in e.store) query read.binds) read.fitting read.timely h s
+    create_refusal e statement false false false None read.free (binds_freely statement.query (roots_in e.store) query read.binds) read.fitting read.timely h s
 
--- The same by the names of the code: the steps that adding the new member may take are within the
+-- The same by the names of the code: the steps that adding the new subscription may take are within the
 -- work of the create.
-pub create_steps : (e inside : EngineCore) → inside ≡ counted_engine e → (h : History) → Follows e h → Shares e.members e.table
+pub create_steps : (e inside : EngineState) → inside ≡ counted_engine e → (h : History) → Follows e h → Shares e.subscriptions e.table
     → (statement : Statement) (query : NormalQuery) (action : ℕ) → IsRead e statement query action → (plan : Expr) → plan ≡ plan_of query
     → (bound : ℕ) → IsWorkUpTo (language_of e.labels) h (Create statement) bound
     → (old new : ℕ) → ((missing : List Expr) → NamesTheMissing inside.table.files plan missing → new ≤ old + rows_of_all (world_in inside.store) missing) → new ≤ old + bound
 create_steps e inside is h s shares statement query action read plan planned bound work old new steps =
     let cost = create_cost e h s shares statement query read.binds (create_allowed e h s statement query action read) bound work in
     let taken : new ≤ old + rows_of_all (world_in e.store) cost.0 =
-    subst (λ (x : EngineCore). new ≤ old + rows_of_all (world_in x.store) cost.0) is (steps cost.0 (subst (λ (x : EngineCore). NamesTheMissing x.table.files plan cost.0) (sym is)
+    subst (λ (x : EngineState). new ≤ old + rows_of_all (world_in x.store) cost.0) is (steps cost.0 (subst (λ (x : EngineState). NamesTheMissing x.table.files plan cost.0) (sym is)
     (subst (λ (p : Expr). NamesTheMissing e.table.files p cost.0) (sym planned) cost.1))) in
     let few = cost.2 in
     omega (arith, taken, few)

@@ -1,14 +1,12 @@
 -- The notices of one subscriber, and the commands that are left without the others.
-use Rattle.std.specs.Prelude.{ℕ, Bool, false, not, List, [], ◌∷◌, ◌++◌, Option, Some}
-use Rattle.std.specs.Prelude.{None}
+use Rattle.std.specs.Prelude.{ℕ, Bool, false, not, List, [], ◌∷◌, ◌++◌}
 use Rattle.std.specs.List.{flat_map, filter}
 use Rattle.std.specs.Str.{bytes_eq}
-use Rattle.ncq_script.specs.declared.refusal.Refusal.{Refusal}
 use Rattle.ncq_script.specs.declared.command.Command.{Command}
 use Rattle.ncq_script.specs.declared.command.Command.TheVariants.{Create, Delete}
 use Rattle.ncq_engine.specs.History.{History, is_named}
-use Rattle.ncq_engine.specs.Notices.{Language, notice_at, told}
-use Rattle.ncq_engine.specs.Output.{first_refusal, after}
+use Rattle.ncq_engine.specs.Notices.{Language, notice_at, firings_in_order}
+use Rattle.ncq_engine.specs.Output.{first_refusal, after, unless_refused}
 
 -- whether the command is a create or a delete of another name
 abbrev pub is_of_another : List ℕ → Command → Bool
@@ -20,21 +18,16 @@ is_of_another name command = false
 abbrev pub only : List ℕ → List Command → List Command
 only name commands = filter (λ command. not (is_of_another name command)) commands
 
--- a text where nothing is refused
-abbrev pub unless_refused : Option Refusal → List ℕ → List ℕ
-unless_refused None text = text
-unless_refused (Some why) text = []
-
 module _ (language : Language) where
   -- the notices in the answer to an accepted command that are of this name
   abbrev pub notices_of : List ℕ → History → Command → List ℕ
   notices_of name history command
       = flat_map (notice_at language history command)
-      (filter (λ fired. is_named name fired.1) (told history command))
+      (filter (λ fired. is_named name fired.1) (firings_in_order history command))
 
   -- the notices of this name in the answers to commands, joined
   abbrev pub notes : List ℕ → History → List Command → List ℕ
   notes name history [] = []
   notes name history (command ∷ more) =
-      unless_refused (first_refusal language history command) (notices_of name history command)
+      unless_refused [] (first_refusal language history command) (notices_of name history command)
       ++ notes name (after language history command) more

@@ -1,5 +1,5 @@
 -- What the answer to a command does.
-use Rattle.std.specs.Prelude.{◌≡◌, ◌+◌, ◌++◌, ◌∷◌, ℕ, List, length, codes, decimal, None}
+use Rattle.std.specs.Prelude.{◌≡◌, ◌+◌, ◌++◌, ◌∷◌, ℕ, List, length, None}
 use Rattle.std.specs.Prelude.{Some, Result, Ok, Err}
 use Rattle.std.specs.Prelude.{Option, slice_get}
 use Rattle.std.specs.Option.{option_map}
@@ -8,7 +8,6 @@ use Rattle.ncq_bind.specs.declared.binding.BindError.TheVariants as binding
 use Rattle.ncq_callback.specs.Labels.{Label}
 use Rattle.ncq_callback.specs.declared.notice.Kind.{Kind}
 use Rattle.ncq_source.specs.declared.change.ChangeError.{ChangeError}
-use Rattle.ncq_source.specs.declared.change.ChangeError.TheVariants as change
 use Rattle.ncq_script.specs.declared.refusal.Refusal.TheVariants as refusal
 use Rattle.ncq_script.specs.declared.command.Command.{Command}
 use Rattle.ncq_script.specs.declared.refusal.Refusal.{Refusal}
@@ -20,27 +19,13 @@ use Rattle.ncq_engine.specs.declared.engine.ApplyError.TheVariants.{Refused, Out
 use Rattle.ncq_engine.specs.History.{History}
 use Rattle.ncq_engine.specs.Languages.{language_of}
 use Rattle.ncq_engine.specs.Output.{accepted_text, first_refusal, notices}
+pub use Rattle.ncq_engine.specs.Output.{change_refusal, ok_text}
 use Rattle.ncq_engine.specs.Spans.{spans}
-use Rattle.ncq_engine.specs.Stands.{EngineCore, EngineState, Follows, Stands}
-
--- the line that begins the answer to an accepted command
-abbrev pub ok_text : ℕ → List ℕ
-ok_text number = decimal number ++ codes " ok\n"
+use Rattle.ncq_engine.specs.Stands.{EngineState, Follows, Stands}
 
 -- the kind of the handler at a place
 abbrev pub kind_at : List Label → ℕ → Option Kind
 kind_at labels at = option_map (λ label. label.1) (slice_get labels at)
-
--- the line of a subscription that expires
-abbrev pub expired_name : List ℕ → List ℕ
-expired_name name = codes "expired " ++ name ++ codes "\n"
-
--- the refusal of a change that cannot be prepared; none where memory ran out
-abbrev pub change_refusal : ChangeError → Option Refusal
-change_refusal change.NoSource = Some refusal.NoSource
-change_refusal (change.BadKey position) = Some (refusal.Key position)
-change_refusal (change.NoSuchKey position) = Some (refusal.NoKey position)
-change_refusal change.OutOfMemory = None
 
 -- the refusal of a query that does not bind; none where memory ran out
 abbrev pub query_refusal : BindError → Option Refusal
@@ -75,14 +60,18 @@ IfAnswered (Ok applied) holds = holds
 IfAnswered (Err (Refused why)) holds = holds
 IfAnswered (Err OutOfMemory) holds = Unit {0}
 
+-- the notices begin behind the first line of the answer, and end where they are all written
+pub record StandBetween (from to : ℕ) (old : EngineState) (history : History) (command : Command)
+    (out : List ℕ) : Type 0 where
+  pub begins : from ≡ length out + length (ok_text (old.count + 1))
+  pub ends : to ≡ from + length (notices (language_of old.labels) history command)
+
 -- where the notices begin and end, and how many there are
-abbrev pub AreNotices : EngineState → History → Command → List ℕ → Applied → Type 0
-AreNotices old history command out applied =
-    (applied.from ≡ length out + length (ok_text (old.count + 1)))
-    × ((applied.to
-    ≡ applied.from + length (notices (language_of old.labels) history command))
-    × (applied.notices
-    ≡ length (spans (language_of old.labels) history command applied.from)))
+pub record AreNotices (old : EngineState) (history : History) (command : Command) (out : List ℕ)
+    (applied : Applied) : Type 0 where
+  pub between : StandBetween applied.from applied.to old history command out
+  pub notices : applied.notices
+      ≡ length (spans (language_of old.labels) history command applied.from)
 
 abbrev pub WritesNotices : EngineState → Command → List ℕ → Applied → Type 0
 WritesNotices old command out applied =
@@ -96,40 +85,40 @@ AreSpans old history command out places =
 
 -- it holds of each history that the engine follows. Only the crate's private clauses cite this and
 -- what is below.
-abbrev pub OfFollowed : EngineCore → (History → Type 0) → Type 0
+abbrev pub OfFollowed : EngineState → (History → Type 0) → Type 0
 OfFollowed engine holds = (history : History) → Follows engine history → holds history
 
--- the command is accepted: its answer was appended, and the engine follows it
-abbrev pub Accepts : EngineCore → Command → List ℕ → EngineCore → List ℕ → Type 0
-Accepts old command out new out' =
-    (history : History) → Follows old history
-    → (first_refusal (language_of old.labels) history command ≡ None)
-    × (Follows new (command ∷ history)
-    × (out' ≡ out ++ accepted_text (language_of old.labels) history (old.count + 1) command))
-
--- the command is refused for this, and the engine follows what it followed
-abbrev pub Refuses : EngineCore → Command → Refusal → EngineCore → Type 0
-Refuses old command why new =
-    (history : History) → Follows old history
-    → (first_refusal (language_of old.labels) history command ≡ Some why) × Follows new history
-
 -- where the notices begin and end, and where each of them stands
-abbrev pub ArePlaces : EngineCore → History → Command → List ℕ → Answered → Type 0
-ArePlaces old history command out answered =
-    (answered.from ≡ length out + length (ok_text (old.count + 1)))
-    × ((answered.to
-    ≡ answered.from + length (notices (language_of old.labels) history command))
-    × (answered.spans ≡ spans (language_of old.labels) history command answered.from))
+pub record ArePlaces (old : EngineState) (history : History) (command : Command) (out : List ℕ)
+    (answered : Answered) : Type 0 where
+  pub between : StandBetween answered.from answered.to old history command out
+  pub spans : answered.spans ≡ spans (language_of old.labels) history command answered.from
 
--- what each answer says
-abbrev pub Applies
-    : EngineCore → Command → List ℕ → Result Answered ApplyError → EngineCore → List ℕ → Type 0
-Applies old command out (Ok answered) new out' =
-    Accepts old command out new out'
-    × ((new.count ≡ old.count + 1)
-    × ((new.labels ≡ old.labels)
-    × OfFollowed old (λ history. ArePlaces old history command out answered)))
-Applies old command out (Err (Refused why)) new out' =
-    Refuses old command why new
-    × ((new.count ≡ old.count + 1) × ((new.labels ≡ old.labels) × (out' ≡ out)))
+-- the command is accepted: it meets no refusal, the engine follows it, and its answer was appended
+pub record Accepts (old : EngineState) (command : Command) (out : List ℕ) (answered : Answered)
+    (new : EngineState) (out' : List ℕ) : Type 0 where
+  pub accepted : OfFollowed old (λ history.
+      first_refusal (language_of old.labels) history command ≡ None)
+  pub follows : OfFollowed old (λ history. Follows new (command ∷ history))
+  pub answer : OfFollowed old (λ history. out'
+      ≡ out ++ accepted_text (language_of old.labels) history (old.count + 1) command)
+  pub counted : new.count ≡ old.count + 1
+  pub labels : new.labels ≡ old.labels
+  pub places : OfFollowed old (λ history. ArePlaces old history command out answered)
+
+-- the command is refused for this: the engine follows what it followed, and nothing was written
+pub record Refuses (old : EngineState) (command : Command) (out : List ℕ) (why : Refusal)
+    (new : EngineState) (out' : List ℕ) : Type 0 where
+  pub refused : OfFollowed old (λ history.
+      first_refusal (language_of old.labels) history command ≡ Some why)
+  pub follows : OfFollowed old (Follows new)
+  pub counted : new.count ≡ old.count + 1
+  pub labels : new.labels ≡ old.labels
+  pub unwritten : out' ≡ out
+
+-- what each answer says: nothing where memory ran out
+abbrev pub Applies : EngineState → Command → List ℕ → Result Answered ApplyError → EngineState
+    → List ℕ → Type 0
+Applies old command out (Ok answered) new out' = Accepts old command out answered new out'
+Applies old command out (Err (Refused why)) new out' = Refuses old command out why new out'
 Applies old command out (Err OutOfMemory) new out' = Unit {0}

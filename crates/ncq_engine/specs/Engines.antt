@@ -15,16 +15,16 @@ use Rattle.ncq_event.specs.Instants.{due}
 use Rattle.ncq_event.specs.declared.firing.Firing.{Firing}
 use Rattle.ncq_event.specs.declared.timing.Timing.{Timing}
 use Rattle.ncq_plan.specs.declared.query.NormalQuery.{NormalQuery}
-use Rattle.ncq_plan.specs.Plans.{plan_of}
 use Rattle.ncq_plan.specs.WellFormed.{IsWellFormed}
 use Rattle.ncq_midfile.specs.Content.{IsSoundAt}
 use Rattle.ncq_midfile.specs.declared.signed.SignedRow.{SignedRow}
 use Rattle.ncq_shelf.specs.KeptFiles.{KeptFile, Files}
 use Rattle.ncq_shelf.specs.Contents.{Fits}
 use Rattle.ncq_group.specs.Tables.{TableState}
+use Rattle.ncq_live.specs.LiveTables.{plan_in}
 use Rattle.ncq_source.specs.StoreStates.{StoreState}
 use Rattle.ncq_source.specs.Stores.{Source}
-use Rattle.ncq_book.specs.declared.member.Member.{Member}
+use Rattle.ncq_book.specs.declared.subscription.Subscription.{Subscription as Kept}
 use Rattle.ncq_book.specs.Books.{InstallsRise}
 use Rattle.ncq_news.specs.News.{since_mark, entries_of}
 use Rattle.ncq_xmlql.specs.declared.model.Statement.{Statement}
@@ -47,7 +47,7 @@ latest_in store (source ∷ more) = max (last_in store source) (latest_in store 
 
 -- the number of changes at its latest firing: of one that fires at changes it follows from its
 -- first firing and the last changes of its sources
-abbrev pub mark_in : StoreState → Member → Option ℕ
+abbrev pub mark_in : StoreState → Kept → Option ℕ
 mark_in store m = if m.timing.every == 0
     then option_map (λ first. max first (latest_in store m.sources)) m.noted else m.noted
 
@@ -57,17 +57,17 @@ rows_in_file None = []
 rows_in_file (Some file) = file.content.rows
 
 -- the signed rows of its file behind its mark
-abbrev pub news_of : StoreState → Files → Member → List SignedRow
+abbrev pub news_of : StoreState → Files → Kept → List SignedRow
 news_of store files m = since_mark (mark_in store m) (rows_in_file (get files m.file.0))
 
 -- what it is told at an instant
-abbrev pub told_text : List Label → StoreState → Files → Member → ℕ → List ℕ
-told_text labels store files m instant =
+abbrev pub notice_text : List Label → StoreState → Files → Kept → ℕ → List ℕ
+notice_text labels store files m instant =
     rendered (option_map (λ label. label.1) (slice_get labels m.action)) m.argument m.name instant
     (entries_of m.query (news_of store files m))
 
 -- whether it fires at a change of this source now
-abbrev pub is_told_change : List ℕ → ℕ → Member → Bool
+abbrev pub is_told_change : List ℕ → ℕ → Kept → Bool
 is_told_change source now m =
     m.timing.every == 0 && nat_le m.timing.start now && list_any (bytes_eq source) m.sources
 
@@ -78,28 +78,28 @@ has_news_in store (Some number) sources =
     list_any (λ source. nat_lt number (last_in store source)) sources
 
 -- the instant at which a move of the clock fires it
-abbrev pub moved_instant : StoreState → ℕ → ℕ → Member → Option ℕ
+abbrev pub moved_instant : StoreState → ℕ → ℕ → Kept → Option ℕ
 moved_instant store now to m =
     if has_news_in store (mark_in store m) m.sources then due m.timing now to else None
 
--- a member that can be told: its query is well formed, its handler is there, it has the file of its
--- plan, and that file tells its content now and at the member's mark
-pub record CanTell (labels : List Label) (store : StoreState) (table : TableState) (m : Member)
+-- a subscription that can be told: its query is well formed, its handler is there, it has the file
+-- of its plan, and that file tells its content now and at the subscription's mark
+pub record CanTell (labels : List Label) (store : StoreState) (table : TableState) (m : Kept)
     : Type 0 where
   pub formed : IsWellFormed m.query
   pub action : m.action < length labels
   pub file : KeptFile
   pub at : get table.files m.file.0 ≡ Some file
-  pub own : file.expr ≡ plan_of m.query
+  pub own : file.expr ≡ plan_in m
   pub sound : IsSoundAt table.number file.content.rows
   pub base : IfSome (mark_in store m) (λ number. file.content.base ≤ number)
 
--- a member that has fired at a number of changes
-abbrev pub noted_at : ℕ → Member → Member
+-- a subscription that has fired at a number of changes
+abbrev pub noted_at : ℕ → Kept → Kept
 noted_at number m = record m { noted = Some number }
 
 -- it fired where the test says so, and else it is as it was
-abbrev pub fired_if : Bool → StoreState → Member → Member
+abbrev pub fired_if : Bool → StoreState → Kept → Kept
 fired_if fires store m = if fires then noted_at store.changes m else m
 
 -- the two lists are of one length, and the items at each place are so related
@@ -109,29 +109,29 @@ Pairwise R [] (y ∷ ys) = ⊥
 Pairwise R (x ∷ xs) [] = ⊥
 Pairwise R (x ∷ xs) (y ∷ ys) = R x y × Pairwise R xs ys
 
--- a firing with the name of its member and the text of its notice
-pub record Told : Type 0 where
+-- a firing with the name of its subscription and the text of its notice
+pub record NoticeText : Type 0 where
   pub firing : Firing
   pub name : List ℕ
   pub text : List ℕ
 
 -- its notice where it fires, with the firing
-abbrev pub told_at : List Label → StoreState → Files → Member → Option ℕ → List Told
-told_at labels store files m None = []
-told_at labels store files m (Some instant) =
+abbrev pub notice_texts : List Label → StoreState → Files → Kept → Option ℕ → List NoticeText
+notice_texts labels store files m None = []
+notice_texts labels store files m (Some instant) =
     record {
       firing = record { instant = instant; install = m.install };
       name = m.name;
-      text = told_text labels store files m instant;
+      text = notice_text labels store files m instant;
     } ∷ []
 
 -- none has an install number above this one
-abbrev pub InstallsAreUpTo : ℕ → List Member → Type 0
-InstallsAreUpTo most members = AllByRecursion (λ m. m.install ≤ most) members
+abbrev pub InstallsAreUpTo : ℕ → List Kept → Type 0
+InstallsAreUpTo most subscriptions = AllByRecursion (λ m. m.install ≤ most) subscriptions
 
 -- the subscription that a create makes, before its first firing
-abbrev pub new_member : Statement → NormalQuery → Timing → ℕ → ℕ → FileId → Member
-new_member statement query timing action creates file = record {
+abbrev pub new_subscription : Statement → NormalQuery → Timing → ℕ → ℕ → FileId → Kept
+new_subscription statement query timing action creates file = record {
   name = statement.name;
   sources = sources_of statement;
   query = query;
@@ -144,17 +144,17 @@ new_member statement query timing action creates file = record {
 }
 
 -- what holds of an engine whatever was answered: there are no more changes and creates than
--- commands, and no source has changed later; its members can be told and rise
+-- commands, and no source has changed later; its subscriptions can be told and rise
 -- by install number; its files have the rows of the sources as they stand, and no more numbers were
 -- given than creates can take
 pub record IsEngine (store : StoreState) (count creates : ℕ) (labels : List Label)
-    (members : List Member) (table : TableState) : Type 0 where
+    (subscriptions : List Kept) (table : TableState) : Type 0 where
   pub changes : store.changes ≤ count
   pub creates_too : creates ≤ count
   pub lasts : (name : List ℕ) → last_in store name ≤ store.changes
-  pub can : AllByRecursion (CanTell labels store table) members
-  pub rise : InstallsRise members
-  pub installed : InstallsAreUpTo creates members
+  pub can : AllByRecursion (CanTell labels store table) subscriptions
+  pub rise : InstallsRise subscriptions
+  pub installed : InstallsAreUpTo creates subscriptions
   pub number : table.number ≡ store.changes
   pub fits : Fits table.number (world_in store) table.files
   pub next : table.next_file ≤ 256 * creates

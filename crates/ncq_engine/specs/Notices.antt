@@ -1,6 +1,7 @@
 -- What a subscription is told, and in which order.
 use Rattle.std.specs.Prelude.{ℕ, List, [], ◌∷◌, ◌++◌, map, Option, Some, None, if◌then◌else◌}
-use Rattle.std.specs.Option.{unwrap_or}
+use Rattle.std.specs.Prelude.{slice_get}
+use Rattle.std.specs.Option.{option_map, unwrap_or}
 use Rattle.std.specs.List.{flat_map}
 use Rattle.std.specs.Str.{bytes_eq}
 use Rattle.ncq_tree.specs.declared.model.Node.{Node}
@@ -35,6 +36,10 @@ abbrev pub kind_in : List ℕ → List (List ℕ × Kind) → Option Kind
 kind_in name [] = None
 kind_in name (handler ∷ more) = if bytes_eq name handler.0 then Some handler.1
     else kind_in name more
+
+-- the name of the handler at a place
+abbrev pub name_at : List (List ℕ × Kind) → ℕ → Option (List ℕ)
+name_at handlers at = option_map (λ handler. handler.0) (slice_get handlers at)
 
 -- the text of a notice: none where nothing differs
 abbrev pub rendered : Option Kind → List ℕ → List ℕ → ℕ → List Difference → List ℕ
@@ -80,5 +85,5 @@ firings before command = flat_map (λ s. fired_at s (fires s before command))
     (with_new command before (live before))
 
 -- by instant, then by install number
-abbrev pub told : History → Command → List (Firing × Subscription)
-told before command = ordered_by (λ fired. fired.0) (firings before command)
+abbrev pub firings_in_order : History → Command → List (Firing × Subscription)
+firings_in_order before command = ordered_by (λ fired. fired.0) (firings before command)

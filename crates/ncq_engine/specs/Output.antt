@@ -1,13 +1,13 @@
 -- What is written for commands: the answer of each in turn.
 use Rattle.std.specs.Prelude.{ℕ, ◌+◌, Bool, true, false, not, nat_lt, List, []}
 use Rattle.std.specs.Prelude.{◌∷◌, ◌++◌, codes, Option, Some, None, decimal}
-use Rattle.std.specs.Option.{is_some, is_none}
+use Rattle.std.specs.Option.{is_some, is_none, option_and_then, option_or}
 use Rattle.std.specs.List.{flat_map, filter, list_any}
 use Rattle.ncq_callback.specs.declared.notice.Kind.{Kind}
 use Rattle.ncq_callback.specs.declared.notice.Kind.TheVariants.{Print, Count, MailTo}
-use Rattle.ncq_source.specs.Changes.{prepared, Trial}
-use Rattle.ncq_source.specs.Changes.Trial.{Good, NoKey, NotThere}
-use Rattle.ncq_source.specs.declared.change.Entry.{Entry}
+use Rattle.ncq_source.specs.Faults.{first_fault}
+use Rattle.ncq_source.specs.declared.change.ChangeError.{ChangeError}
+use Rattle.ncq_source.specs.declared.change.ChangeError.TheVariants as change
 use Rattle.ncq_pyx.specs.declared.item.Item.{Item}
 use Rattle.ncq_xmlql.specs.declared.model.Statement.{Statement}
 use Rattle.ncq_script.specs.Refusals.{refused_text}
@@ -17,31 +17,33 @@ use Rattle.ncq_script.specs.declared.command.Command.{Command}
 use Rattle.ncq_script.specs.declared.command.Command.TheVariants.{Declare, Delta, Create, Delete}
 use Rattle.ncq_script.specs.declared.command.Command.TheVariants.{Clock, Report, Malformed}
 use Rattle.ncq_event.specs.Instants.{is_past, is_expired}
-use Rattle.ncq_engine.specs.History.{History, Source, now, sources, source_in, Subscription}
+use Rattle.ncq_engine.specs.History.{History, Source, now, sources, source_in}
 use Rattle.ncq_engine.specs.History.{start_of, timing_of, is_named, live}
-use Rattle.ncq_engine.specs.Notices.{Language, kind_in, notice_at, told}
+use Rattle.ncq_engine.specs.Notices.{Language, kind_in, notice_at, firings_in_order}
 use Rattle.ncq_engine.specs.Reports.{summary}
 use Rattle.ncq_report.specs.Texts.{report_text}
-
--- the first of the refusals that stands
-abbrev pub or_else : Option Refusal → Option Refusal → Option Refusal
-or_else None next = next
-or_else (Some why) next = Some why
 
 abbrev pub refused_if : Bool → Refusal → Option Refusal
 refused_if true why = Some why
 refused_if false why = None
 
--- the refusal of items whose trial is this
-abbrev pub trial_refusal : Trial (List Entry) → Option Refusal
-trial_refusal (Good entries) = None
-trial_refusal (NoKey position) = Some (refusal.Key position)
-trial_refusal (NotThere position) = Some (refusal.NoKey position)
+-- what stands for a command that nothing refuses, and the first value for one that is refused
+abbrev pub unless_refused : {A : Type 0} → A → Option Refusal → A → A
+unless_refused none None value = value
+unless_refused none (Some why) value = none
+
+-- the refusal of a change that cannot be made; none where memory ran out
+abbrev pub change_refusal : ChangeError → Option Refusal
+change_refusal change.NoSource = Some refusal.NoSource
+change_refusal (change.BadKey position) = Some (refusal.Key position)
+change_refusal (change.NoSuchKey position) = Some (refusal.NoKey position)
+change_refusal change.OutOfMemory = None
 
 -- the refusal of a delta of this source: the first item that cannot be applied decides
 abbrev pub delta_refusal : List Item → Option Source → Option Refusal
 delta_refusal items None = Some refusal.NoSource
-delta_refusal items (Some source) = trial_refusal (prepared source.key 1 source.elements items)
+delta_refusal items (Some source) =
+    option_and_then change_refusal (first_fault source.key 1 source.elements items)
 
 -- whether the kind is at odds with the argument: `mailto` needs one, `print` and `count` have none
 abbrev pub is_at_odds : Option Kind → Option (List ℕ) → Bool
@@ -58,15 +60,20 @@ ends_early statement now = is_past statement.expire (start_of statement.start no
 abbrev pub is_taken : List ℕ → History → Bool
 is_taken name history = list_any (is_named name) (live history)
 
--- the line of a subscription that expires
-abbrev pub expired_line : Subscription → List ℕ
-expired_line s = codes "expired " ++ s.statement.name ++ codes "\n"
+-- the line that begins the answer to an accepted command
+abbrev pub ok_text : ℕ → List ℕ
+ok_text number = decimal number ++ codes " ok\n"
+
+-- the line of a subscription of this name that expires
+abbrev pub expired_line : List ℕ → List ℕ
+expired_line name = codes "expired " ++ name ++ codes "\n"
 
 -- the lines of the subscriptions that a command ends by their expiry, in the order of their install
 -- numbers
 abbrev pub expired_text : Command → History → List ℕ
 expired_text (Clock instant) history
-    = flat_map expired_line (filter (λ s. is_expired (timing_of s) instant) (live history))
+    = flat_map (λ s. expired_line s.statement.name)
+    (filter (λ s. is_expired (timing_of s) instant) (live history))
 expired_text command history = []
 
 -- the history with an accepted command; a refused one changes nothing
@@ -81,9 +88,9 @@ module _ (language : Language) where
       = refused_if (is_some (source_in name (sources history))) refusal.SourceExists
   first_refusal history (Delta name items) = delta_refusal items (source_in name (sources history))
   first_refusal history (Create statement) =
-      or_else (refused_if (is_taken statement.name history) refusal.NameTaken)
-      (or_else (language.binding statement.query (sources history))
-      (or_else (refused_if (is_at_odds
+      option_or (refused_if (is_taken statement.name history) refusal.NameTaken)
+      (option_or (language.binding statement.query (sources history))
+      (option_or (refused_if (is_at_odds
       (kind_in statement.action language.handlers) statement.argument) refusal.Action)
       (refused_if (ends_early statement (now history)) refusal.Times)))
   first_refusal history (Delete name) = refused_if (not (is_taken name history)) refusal.NoName
@@ -93,7 +100,8 @@ module _ (language : Language) where
 
   -- the notices of a command, by instant and then by install number
   abbrev pub notices : History → Command → List ℕ
-  notices history command = flat_map (notice_at language history command) (told history command)
+  notices history command =
+      flat_map (notice_at language history command) (firings_in_order history command)
 
   -- what stands behind the notices: the lines of those that a move of the clock ends, or the report
   abbrev pub closing_text : Command → History → List ℕ
@@ -104,7 +112,7 @@ module _ (language : Language) where
   -- the answer to an accepted command with this number
   abbrev pub accepted_text : History → ℕ → Command → List ℕ
   accepted_text history number command =
-      decimal number ++ codes " ok\n" ++ notices history command ++ closing_text command history
+      ok_text number ++ notices history command ++ closing_text command history
 
   abbrev pub answered : History → ℕ → Command → Option Refusal → List ℕ
   answered history number command None = accepted_text history number command

@@ -1,7 +1,8 @@
--- What a report tells of a history: how much there is, and the groups of the expressions of the
--- live queries.
-use Rattle.std.specs.Prelude.{◌++◌, List, [], ◌∷◌, length, if◌then◌else◌}
+-- What a report tells of a history: how much there is, and the groups of the parts of the live
+-- plans.
+use Rattle.std.specs.Prelude.{◌++◌, List, [], ◌∷◌, length, map, if◌then◌else◌}
 use Rattle.std.specs.List.{flat_map, list_any}
+use Rattle.ncq_plan.specs.ExprLists.{is_expr}
 use Rattle.ncq_plan.specs.declared.expr.Expr.{Expr}
 use Rattle.ncq_plan.specs.declared.expr.Expr.TheFolds.{para-Expr}
 use Rattle.ncq_plan.specs.declared.expr.Expr.TheOpen.{Expr-F}
@@ -12,8 +13,7 @@ use Rattle.ncq_plan.specs.declared.expr.Expr.TheOpen.Expr-F.{Join as JoinLayer}
 use Rattle.ncq_plan.specs.declared.expr.Expr.TheVariants.{Scan, EqSel, RangeSel, Join}
 use Rattle.ncq_report.specs.Lines.{group_lines}
 use Rattle.ncq_report.specs.declared.report.Summary.{Summary}
-use Rattle.ncq_shelf.specs.Indexed.{is_expr}
-use Rattle.ncq_engine.specs.History.{History, changes, live, sources}
+use Rattle.ncq_engine.specs.History.{History, Subscription, changes, live, sources}
 use Rattle.ncq_engine.specs.Notices.{Language}
 
 -- an expression and the parts of its inputs
@@ -36,10 +36,17 @@ distinct [] = []
 distinct (expr ∷ more) = with_expr expr (distinct more)
 
 module _ (language : Language) where
-  -- the expressions of the live queries, each once
+  -- the plan of a subscription
+  abbrev pub plan_for : Subscription → Expr
+  plan_for s = language.plan s.statement.query
+
+  -- the plans of the live subscriptions
+  abbrev pub live_plans : History → List Expr
+  live_plans history = map plan_for (live history)
+
+  -- the parts of the live plans, each once
   abbrev pub closure : History → List Expr
-  closure history =
-      distinct (flat_map (λ s. parts (language.plan s.statement.query)) (live history))
+  closure history = distinct (flat_map parts (live_plans history))
 
   -- what a report tells
   abbrev pub summary : History → Summary

@@ -3,7 +3,7 @@ use Rattle.std.specs.Prelude.{ℕ, ◌+◌, List, [], ◌∷◌, ◌++◌, lengt
 use Rattle.ncq_script.specs.declared.command.Command.{Command}
 use Rattle.ncq_engine.specs.declared.span.Span.{Span}
 use Rattle.ncq_engine.specs.History.{History}
-use Rattle.ncq_engine.specs.Notices.{Language, notice_at, told}
+use Rattle.ncq_engine.specs.Notices.{Language, notice_at, firings_in_order}
 
 -- the span of a text that is not empty, from this place on
 abbrev pub span_of : List ℕ → ℕ → List ℕ → List Span
@@ -22,4 +22,4 @@ spans_of name text from (x ∷ xs) =
 abbrev pub spans : Language → History → Command → ℕ → List Span
 spans language history command from =
     spans_of (λ fired. fired.1.statement.name) (notice_at language history command) from
-    (told history command)
+    (firings_in_order history command)

@@ -1,29 +1,32 @@
 -- The engine stands for a history.
-use Rattle.std.specs.Prelude.{◌≡◌, ◌≤◌, ℕ, List, [], Some, Ok, slice_get, map, refl}
+use Rattle.std.specs.Prelude.{◌≡◌, ◌≤◌, ◌*◌, ℕ, List, [], Some, IfSome, slice_get, map, refl}
+use Rattle.std.specs.Prelude.{true}
 use Rattle.std.specs.FinMap.{get}
 use Rattle.std.specs.Option.{option_map, unwrap_or}
 use Rattle.std.specs.Coded.{Coded, code_by, coded×, coded_ℕ, coded_list}
-use Rattle.ncq_bind.specs.Bindings.{Binds, Roots}
+use Rattle.ncq_bind.specs.Bound.{query_is_bound}
+use Rattle.ncq_bind.specs.NormalQueries.{normal_query}
 use Rattle.ncq_callback.specs.Labels.{Label}
 use Rattle.ncq_callback.specs.contracts.notice.Kind.{the_row as kind_row}
-use Rattle.ncq_book.specs.contracts.member.Member.{the_row as member_row}
-use Rattle.ncq_book.specs.declared.member.Member.{Member}
+use Rattle.ncq_book.specs.contracts.subscription.Subscription.{the_row as subscription_row}
+use Rattle.ncq_book.specs.declared.subscription.Subscription.{Subscription as Kept}
 use Rattle.ncq_midfile.specs.Content.{IsContent}
 use Rattle.ncq_plan.specs.Exprs.{rows_in}
 use Rattle.ncq_shelf.specs.KeptFiles.{KeptFile, Files}
+use Rattle.ncq_shelf.specs.Contents.{AreUpTo}
 use Rattle.ncq_group.specs.Tables.{TableState, table_code}
-use Rattle.ncq_roll.specs.Shares.{Shares}
+use Rattle.ncq_live.specs.Shares.{Shares}
 use Rattle.ncq_source.specs.Stores.{Source as Declared}
 use Rattle.ncq_source.specs.StoreStates.{StoreState, store_code}
 use Rattle.ncq_xmlql.specs.WellFormed.{IsWellFormed}
 use Rattle.ncq_engine.specs.contracts.span.Span.{the_row as span_row}
 use Rattle.ncq_engine.specs.declared.span.Span.{Span}
 use Rattle.ncq_engine.specs.Engines.{Pairwise, last_in}
-use Rattle.ncq_engine.specs.Firing.{sources_of}
+use Rattle.ncq_engine.specs.Firing.{mark, sources_of}
 use Rattle.ncq_engine.specs.History.{History, Source, Subscription, changes, creates, last_change}
 use Rattle.ncq_engine.specs.History.{live, now, sources, timing_of, up_to, world}
 use Rattle.ncq_engine.specs.Marks.{IsRising, noted}
-use Rattle.ncq_engine.specs.Notices.{kind_in}
+use Rattle.ncq_engine.specs.Notices.{kind_in, name_at}
 
 -- what contracts see of an engine: the store, the clock, how many commands were answered and how
 -- many creates accepted, the names and kinds of its handlers, the live subscriptions in the order
@@ -35,47 +38,47 @@ pub record EngineState : Type 0 where
   pub count : ℕ
   pub creates : ℕ
   pub labels : List Label
-  pub members : List Member
+  pub subscriptions : List Kept
   pub table : TableState
   pub spans : List Span
-
--- what of an engine stands for a history: all but where the notices of the last answer stand
-pub record EngineCore : Type 0 where
-  pub store : StoreState
-  pub clock : ℕ
-  pub count : ℕ
-  pub creates : ℕ
-  pub labels : List Label
-  pub members : List Member
-  pub table : TableState
-
-abbrev pub core_of : EngineState → EngineCore
-core_of engine = record {
-  store = engine.store;
-  clock = engine.clock;
-  count = engine.count;
-  creates = engine.creates;
-  labels = engine.labels;
-  members = engine.members;
-  table = engine.table;
-}
 
 -- how an engine is written as a value
 abbrev pub engine_code : Coded EngineState
 engine_code =
-    code_by (StoreState × (ℕ × (ℕ × (ℕ × (List Label × (List Member × (TableState × List Span)))))))
+    code_by (StoreState × (ℕ × (ℕ × (ℕ × (List Label × (List Kept × (TableState × List Span)))))))
     (coded× store_code (coded× coded_ℕ (coded× coded_ℕ (coded× coded_ℕ
     (coded× (coded_list (coded× (coded_list coded_ℕ) kind_row.coded))
-    (coded× (coded_list member_row.coded)
+    (coded× (coded_list subscription_row.coded)
     (coded× table_code (coded_list span_row.coded))))))))
-    (λ e. (e.store, (e.clock, (e.count, (e.creates, (e.labels, (e.members, (e.table, e.spans))))))))
+    (λ e. (
+      e.store,
+      (
+        e.clock,
+        (
+          e.count,
+          (
+            e.creates,
+            (
+              e.labels,
+              (
+                e.subscriptions,
+                (
+                  e.table,
+                  e.spans,
+                ),
+              ),
+            ),
+          ),
+        ),
+      ),
+    ))
     (λ p. record {
       store = p.0;
       clock = p.1.0;
       count = p.1.1.0;
       creates = p.1.1.1.0;
       labels = p.1.1.1.1.0;
-      members = p.1.1.1.1.1.0;
+      subscriptions = p.1.1.1.1.1.0;
       table = p.1.1.1.1.1.1.0;
       spans = p.1.1.1.1.1.1.1;
     })
@@ -90,18 +93,19 @@ content_of declared = record {
   elements = declared.elements;
 }
 
--- what is kept of a subscription is its own: its query is the normal query of its statement, and
--- what is written down of its mark is what its mark follows from
-pub record Keeps (labels : List Label) (history : History) (s : Subscription) (m : Member)
+-- what is kept of a subscription is its own: its query is the normal query of its statement, which
+-- is bound, and what is written down of its mark is what its mark follows from
+pub record Keeps (labels : List Label) (history : History) (s : Subscription) (m : Kept)
     : Type 0 where
   pub name : m.name ≡ s.statement.name
   pub sources : m.sources ≡ sources_of s.statement
   pub whole : IsWellFormed s.statement
-  pub roots : Roots
-  pub binds : Binds s.statement.query roots (Ok m.query)
+  pub bound : query_is_bound s.statement.query ≡ true
+  pub query : m.query ≡ normal_query s.statement.query
   pub timing : m.timing ≡ timing_of s
   pub kind : option_map (λ label. label.1) (slice_get labels m.action)
       ≡ kind_in s.statement.action labels
+  pub action : name_at labels m.action ≡ Some s.statement.action
   pub argument : m.argument ≡ unwrap_or s.statement.argument []
   pub install : m.install ≡ s.install
   pub marked : m.noted ≡ noted s history
@@ -116,17 +120,35 @@ AreContents files history =
 
 -- the store, the clock, the creates and the live subscriptions are those after the history, and the
 -- files tell the sources at each change
-pub record Follows (engine : EngineCore) (history : History) : Type 0 where
+pub record Follows (engine : EngineState) (history : History) : Type 0 where
   pub sources : map content_of engine.store.sources ≡ sources history
   pub last : (name : List ℕ) → last_in engine.store name ≡ last_change name history
   pub changes : engine.store.changes ≡ changes history
   pub clock : engine.clock ≡ now history
   pub creates : engine.creates ≡ creates history
-  pub members : Pairwise (Keeps engine.labels history) (live history) engine.members
+  pub subscriptions : Pairwise (Keeps engine.labels history) (live history) engine.subscriptions
   pub contents : AreContents engine.table.files history
   pub rising : IsRising history
 
--- the engine stands for the history, and its subscriptions share their files
+-- the file that it has was made at its mark or before
+abbrev pub IsMarked : Files → History → Subscription → Kept → Type 0
+IsMarked files history s m =
+    (file : KeptFile) → get files m.file.0 ≡ Some file
+    → IfSome (mark s history) (λ number. file.content.base ≤ number)
+
+-- the files stand at the last change: none was made later or has a later row, and none was made
+-- behind the mark of a subscription that has it; there are no more changes and creates than
+-- commands, and no more numbers of files were given than creates can take
+pub record IsBounded (engine : EngineState) (history : History) : Type 0 where
+  pub number : engine.table.number ≡ changes history
+  pub up_to : AreUpTo (changes history) engine.table.files
+  pub marks : Pairwise (IsMarked engine.table.files history) (live history) engine.subscriptions
+  pub few_changes : changes history ≤ engine.count
+  pub few_creates : creates history ≤ engine.count
+  pub few_files : engine.table.next_file ≤ 256 * creates history
+
+-- the engine stands for the history, its subscriptions share their files, and it is bounded
 pub record Stands (engine : EngineState) (history : History) : Type 0 where
-  pub follows : Follows (core_of engine) history
-  pub shares : Shares engine.members engine.table
+  pub follows : Follows engine history
+  pub bounded : IsBounded engine history
+  pub shares : Shares engine.subscriptions engine.table

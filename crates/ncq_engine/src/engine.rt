@@ -4,26 +4,26 @@ ghost use Rattle.std.specs.Prelude.{length, map};
 ghost use Rattle.std.specs.Prelude.{codes, decimal, IfOk, OnOk, OnErr, IfSome, IfNone, Err, None};
 ghost use Rattle.std.specs.Prelude.{Some, true, false};
 ghost use Rattle.std.specs.List.{flat_map, list_all};
-ghost use Rattle.std.specs.Option.{is_some};
+ghost use Rattle.std.specs.Option.{is_some, unwrap_or};
 ghost use Rattle.ncq_bind.specs.Bindings.{are_declared, roots_in};
 ghost use Rattle.ncq_callback.specs.Labels.{labels};
 ghost use Rattle.ncq_engine.specs.Firing.{source_of};
-ghost use Rattle.ncq_engine.specs.Stands.{EngineState, Stands, core_of};
+ghost use Rattle.ncq_engine.specs.Stands.{EngineState, Follows, Stands};
 ghost use Rattle.ncq_engine.specs.Summaries.{IsSummary};
 ghost use Rattle.ncq_engine.specs.Works.{IsWithinWork};
-ghost use Rattle.ncq_roll.specs.Shares.{Shares};
+ghost use Rattle.ncq_live.specs.Shares.{Shares};
 ghost use Rattle.ncq_engine.specs.Applies.{Applies, WritesNotices, IfAnswered, IfRefused, OfEach};
 ghost use Rattle.ncq_engine.specs.Applies.{AreSpans, kind_at};
 ghost use Rattle.ncq_engine.specs.Applies.{refused_change, change_refusal, refused_query};
 ghost use Rattle.ncq_engine.specs.Applies.{query_refusal};
-ghost use Rattle.ncq_engine.specs.Engines.{new_member};
-ghost use Rattle.ncq_engine.specs.History.{start_of};
-ghost use Rattle.ncq_engine.specs.Joins.{IsMemberOf};
+ghost use Rattle.ncq_engine.specs.Engines.{new_subscription};
+ghost use Rattle.ncq_engine.specs.History.{History, start_of};
+ghost use Rattle.ncq_engine.specs.Joins.{IsSubscriptionOf, OfStatement};
 ghost use Rattle.ncq_engine.specs.Languages.{language_of};
-ghost use Rattle.ncq_engine.specs.Notices.{kind_in};
+ghost use Rattle.ncq_engine.specs.Notices.{kind_in, name_at};
 ghost use Rattle.ncq_engine.specs.Output.{is_at_odds, first_refusal, accepted_text};
 ghost use Rattle.ncq_plan.specs.WellFormed.{IsWellFormed};
-ghost use Rattle.ncq_pyx.specs.Canonical.{item_is_proper};
+ghost use Rattle.ncq_pyx.specs.Items.{item_is_proper};
 ghost use Rattle.ncq_script.specs.Proper.{IsProperCommand};
 ghost use Rattle.ncq_source.specs.StoreStates.{found, IsDeclared};
 ghost use Rattle.ncq_xmlql.specs.declared.model.Statement.{Statement as a_statement};
@@ -35,13 +35,13 @@ use crate::telling::{Answered, answer_change, answer_create, note_all, tell, wri
 use crate::who::with_news;
 use ncq_base::{Bytes, Copied, FileId, Sequence, Steps};
 use ncq_bind::{BindError, bind};
-use ncq_book::Member;
+use ncq_book::Subscription;
 use ncq_callback::{Handlers, Kind};
 use ncq_event::{Timing, is_expired};
+use ncq_live::LiveTable;
 use ncq_plan::{NormalQuery, plan};
 use ncq_pyx::Items;
 use ncq_report::{Summary, write_report};
-use ncq_roll::Roll;
 use ncq_script::{Command, Refusal};
 use ncq_source::{ChangeError, DeclareError, Key, Store};
 use ncq_xmlql::{QueryItem, Statement};
@@ -89,7 +89,7 @@ impl From<AllocError> for ApplyError {
 #[derive(Drop)]
 pub struct Engine {
     store: Store,
-    roll: Roll,
+    live_table: LiveTable,
     count: u64,
     creates: u64,
     labels: Vec<(Bytes, Kind)>,
@@ -106,17 +106,18 @@ impl Model for Engine {
 
     ghost view = { λ e. record {
       store = e.store;
-      clock = e.roll.instant;
+      clock = e.live_table.instant;
       count = e.count;
       creates = e.creates;
       labels = e.labels.items;
-      members = e.roll.members;
-      table = e.roll.table;
+      subscriptions = e.live_table.subscriptions;
+      table = e.live_table.table;
       spans = e.spans;
     } };
 
     ghost invariant = { λ e.
-        IsEngine e.store e.count e.creates e.labels.items e.roll.members e.roll.table };
+        IsEngine e.store e.count e.creates e.labels.items e.live_table.subscriptions
+        e.live_table.table };
 }
 
 impl Engine {
@@ -125,18 +126,19 @@ impl Engine {
     pub fn new(alloc: Global, seed: RandomState, handlers: &Handlers) -> Result<Engine, AllocError>
         ensures stands { IfOk result (λ engine. Stands engine []) }
         ensures count { IfOk result (λ engine. engine.count ≡ 0) }
+        ensures no_spans { IfOk result (λ engine. engine.spans ≡ []) }
         ensures labels { IfOk result (λ engine. engine.labels
             ≡ (labels handlers.now.items.items (λ h. h.name) (λ h. h.kind))) }
     {
         let engine = Engine {
             store: Store::new(alloc, seed),
-            roll: Roll::new(alloc, seed),
+            live_table: LiveTable::new(alloc, seed),
             count: 0,
             creates: 0,
             labels: labels_of(alloc, handlers)?,
             spans: Spans::new(alloc),
         };
-        engine.shares();
+        engine.stands();
         Ok(engine)
     }
 
@@ -144,7 +146,7 @@ impl Engine {
     pub fn now(&self) -> u64
         ensures { result ≡ self.now.clock }
     {
-        self.roll.book().instant()
+        self.live_table.book().instant()
     }
 
     /// How many commands were answered: accepted ones and refused ones.
@@ -156,18 +158,18 @@ impl Engine {
 
     /// How many subscriptions are live.
     pub fn live(&self) -> usize
-        ensures { result ≡ length self.now.members }
+        ensures { result ≡ length self.now.subscriptions }
     {
-        self.roll.book().len()
+        self.live_table.book().len()
     }
 
     /// Answers a command. Ok appends the answer of an accepted one: the line `<k> ok` with its
     /// number, the notices by instant and then by install number, and a line for each subscription
     /// that expires, or the report. `Refused` comes exactly with the first refusal that the command
     /// meets; then `out` is as before, and the engine stands for what it stood for. Either counts
-    /// the command. Each row that is made is one step. Where memory runs out, `out` is cut back and
-    /// what the command had taken is given up, but no clause says so: the engine can only be
-    /// dropped.
+    /// the command. Each row that is made is at most one step. Where memory runs out, `out` is cut
+    /// back and what the command had taken is given up, but no clause says so: the engine can only
+    /// be dropped.
     ///
     /// The handlers are those that the engine was made for. The command is one that a
     /// `ScriptReader` gives: the elements that it puts are proper, and its statement is well
@@ -175,47 +177,47 @@ impl Engine {
     pub fn apply<L: Ledger>(
         &mut self,
         alloc: Global,
-        command: Command,
+        command: &Command,
         handlers: &Handlers,
         out: &mut Vec<u8>,
         steps: &mut Steps<L>,
     ) -> Result<Applied, ApplyError>
         requires few { self.old.count < 2 ^ 48 }
-        requires proper { IsProperCommand command }
+        requires proper { IsProperCommand command.now }
         requires handlers { self.old.labels
             ≡ (labels handlers.now.items.items (λ h. h.name) (λ h. h.kind)) }
 
         // An accepted command meets no refusal and joins the history; its answer is appended.
         ensures accepted { OnOk result (OfEach self.old (λ history.
-            first_refusal (language_of self.old.labels) history command ≡ None)) }
+            first_refusal (language_of self.old.labels) history command.now ≡ None)) }
         ensures joined { OnOk result (OfEach self.old (λ history.
-            Stands self.new (command ∷ history))) }
+            Stands self.new (command.now ∷ history))) }
         ensures answer { OnOk result (OfEach self.old (λ history. out.new.items
             ≡ out.old.items ++ accepted_text (language_of self.old.labels) history
-            (self.old.count + 1) command)) }
-        ensures notices { IfOk result (WritesNotices self.old command out.old.items) }
+            (self.old.count + 1) command.now)) }
+        ensures notices { IfOk result (WritesNotices self.old command.now out.old.items) }
         ensures spans { OnOk result (OfEach self.old (λ history.
-            AreSpans self.old history command out.old.items self.new.spans)) }
+            AreSpans self.old history command.now out.old.items self.new.spans)) }
         ensures no_spans { OnErr result (self.new.spans ≡ []) }
 
         // A refused one meets this refusal first; the history stays, and what was written.
         ensures refused { IfRefused result (λ why. OfEach self.old (λ history.
-            first_refusal (language_of self.old.labels) history command ≡ Some why)) }
+            first_refusal (language_of self.old.labels) history command.now ≡ Some why)) }
         ensures stays { IfRefused result (λ _. OfEach self.old (Stands self.new)) }
         ensures unwritten { IfRefused result (λ _. out.new.items ≡ out.old.items) }
 
-        // Either is counted, and the handlers' names and kinds stay.
+        // Either is counted; whatever is answered, the handlers' names and kinds stay.
         ensures counted { IfAnswered result (self.new.count ≡ self.old.count + 1) }
-        ensures labels { IfAnswered result (self.new.labels ≡ self.old.labels) }
+        ensures labels { self.new.labels ≡ self.old.labels }
 
-        // Each row that is made is one step: whatever is answered, they are within the work of the
-        // command.
-        ensures work { IsWithinWork self.old command steps.old steps.new }
+        // Each row that is made is at most one step: whatever is answered, they are within the work
+        // of the command.
+        ensures work { IsWithinWork self.old command.now steps.old steps.new }
     {
         let before = out.len();
         let result = self.answer(alloc, command, handlers, out, steps);
         self.spans = Spans::new(alloc);
-        self.shares();
+        self.stands();
         match result {
             Ok(answered) => Ok(self.keep(answered)),
             Err(ApplyError::Refused(refusal)) => Err(ApplyError::Refused(refusal)),
@@ -229,9 +231,17 @@ impl Engine {
     /// The files are those of the parts of the plans of the live subscriptions, one each: this call
     /// does nothing.
     pub fn shares(&self)
-        ensures { Shares self.now.members self.now.table }
+        ensures { Shares self.now.subscriptions self.now.table }
     {
-        self.roll.shares();
+        self.live_table.shares();
+    }
+
+    /// The engine stands for each history that it follows: this call does nothing.
+    fn stands(&self)
+        ensures { (history : History) → Follows self.now history
+            → Stands self.now history }
+    {
+        self.live_table.shares();
     }
 
     /// Where the notices of the last answer stand in the output that it was appended to, in their
@@ -271,29 +281,30 @@ impl Engine {
     fn answer<L: Ledger>(
         &mut self,
         alloc: Global,
-        command: Command,
+        command: &Command,
         handlers: &Handlers,
         out: &mut Vec<u8>,
         steps: &mut Steps<L>,
     ) -> Result<Answered, ApplyError>
         requires few { self.old.count < 2 ^ 48 }
-        requires proper { IsProperCommand command }
+        requires proper { IsProperCommand command.now }
         requires handlers { self.old.labels
             ≡ (labels handlers.now.items.items (λ h. h.name) (λ h. h.kind)) }
-        ensures applies { Applies (core_of self.old) command
-            out.old.items result (core_of self.new) out.new.items }
-        ensures work { IsWithinWork self.old command steps.old steps.new }
+        ensures applies { Applies self.old command.now
+            out.old.items result self.new out.new.items }
+        ensures labels { self.new.labels ≡ self.old.labels }
+        ensures work { IsWithinWork self.old command.now steps.old steps.new }
     {
         match command {
             Command::Declare { name, root, key } => self.declare(alloc, name, root, key, out),
             Command::Delta { source, items } => {
-                self.change(alloc, &source, items, handlers, out, steps)
+                self.change(alloc, source, items, handlers, out, steps)
             }
             Command::Create { statement } => self.create(alloc, statement, handlers, out, steps),
-            Command::Delete { name } => self.delete(alloc, &name, out),
-            Command::Clock { instant } => self.move_clock(alloc, instant, handlers, out),
+            Command::Delete { name } => self.delete(alloc, name, out),
+            Command::Clock { instant } => self.move_clock(alloc, *instant, handlers, out),
             Command::Report => self.report(alloc, out),
-            Command::Malformed { refusal } => self.refuse(refusal),
+            Command::Malformed { refusal } => self.refuse(*refusal),
         }
     }
 
@@ -301,18 +312,22 @@ impl Engine {
     fn declare(
         &mut self,
         alloc: Global,
-        name: Bytes,
-        root: Bytes,
-        key: Key,
+        name: &Bytes,
+        root: &Bytes,
+        key: &Key,
         out: &mut Vec<u8>,
     ) -> Result<Answered, ApplyError>
         requires few { self.old.count < 2 ^ 48 }
-        ensures applies { Applies (core_of self.old) (Command.Declare name root key)
-            out.old.items result (core_of self.new) out.new.items }
+        ensures applies { Applies self.old (Command.Declare name.now root.now key.now)
+            out.old.items result self.new out.new.items }
+        ensures labels { self.new.labels ≡ self.old.labels }
     {
         let before = out.len();
         let answered = write_accepted(alloc, self.count + 1, out)?;
-        match self.store.declare(alloc, name, root, key) {
+        let its_name = name.copy(alloc)?;
+        let its_root = root.copy(alloc)?;
+        let its_key = key.copy(alloc)?;
+        match self.store.declare(alloc, its_name, its_root, its_key) {
             Ok(_) => {
                 self.count += 1;
                 Ok(answered)
@@ -330,38 +345,46 @@ impl Engine {
         &mut self,
         alloc: Global,
         source: &Bytes,
-        items: Items,
+        items: &Items,
         handlers: &Handlers,
         out: &mut Vec<u8>,
         steps: &mut Steps<L>,
     ) -> Result<Answered, ApplyError>
         requires few { self.old.count < 2 ^ 48 }
-        requires proper { list_all item_is_proper items ≡ true }
+        requires proper { list_all item_is_proper items.now ≡ true }
         requires handlers { self.old.labels
             ≡ (labels handlers.now.items.items (λ h. h.name) (λ h. h.kind)) }
-        ensures applies { Applies (core_of self.old) (Command.Delta source.now items)
-            out.old.items result (core_of self.new) out.new.items }
-        ensures work { IsWithinWork self.old (Command.Delta source.now items) steps.old steps.new }
+        ensures applies { Applies self.old (Command.Delta source.now items.now)
+            out.old.items result self.new out.new.items }
+        ensures labels { self.new.labels ≡ self.old.labels }
+        ensures work { IsWithinWork self.old (Command.Delta source.now items.now) steps.old
+            steps.new }
     {
         let change = match self.store.prepare(alloc, source.as_slice(), items) {
             Ok(change) => change,
             Err(error) => return self.refuse_change(error),
         };
         self.store.reserve(&change)?;
-        self.roll.facts();
-        let mark = self.roll.mark();
-        let fed = self.roll.feed(alloc, &change, &self.store, steps)?;
-        self.roll.facts();
-        let number = self.count + 1;
-        let (roll, store) = (&self.roll, &self.store);
-        match answer_change(alloc, number, roll, fed.as_slice(), store, handlers, out) {
+        self.live_table.facts();
+        let mark = self.live_table.mark();
+        let fed = self.live_table.feed(alloc, &change, &self.store, steps)?;
+        self.live_table.facts();
+        match answer_change(
+            alloc,
+            self.count + 1,
+            &self.live_table,
+            fed.as_slice(),
+            &self.store,
+            handlers,
+            out,
+        ) {
             Ok(answered) => {
                 self.store.commit(change);
-                self.count = number;
+                self.count += 1;
                 Ok(answered)
             }
             Err(AllocError) => {
-                self.roll.roll_back(mark);
+                self.live_table.roll_back(mark);
                 Err(ApplyError::OutOfMemory)
             }
         }
@@ -371,35 +394,36 @@ impl Engine {
     fn create<L: Ledger>(
         &mut self,
         alloc: Global,
-        statement: Statement,
+        statement: &Statement,
         handlers: &Handlers,
         out: &mut Vec<u8>,
         steps: &mut Steps<L>,
     ) -> Result<Answered, ApplyError>
         requires few { self.old.count < 2 ^ 48 }
-        requires whole { StatementIsWellFormed statement }
+        requires whole { StatementIsWellFormed statement.now }
         requires handlers { self.old.labels
             ≡ (labels handlers.now.items.items (λ h. h.name) (λ h. h.kind)) }
-        ensures applies { Applies (core_of self.old) (Command.Create statement)
-            out.old.items result (core_of self.new) out.new.items }
-        ensures work { IsWithinWork self.old (Command.Create statement) steps.old steps.new }
+        ensures applies { Applies self.old (Command.Create statement.now)
+            out.old.items result self.new out.new.items }
+        ensures labels { self.new.labels ≡ self.old.labels }
+        ensures work { IsWithinWork self.old (Command.Create statement.now) steps.old steps.new }
     {
-        if self.roll.book().has(&statement.name) {
+        if self.live_table.book().has(&statement.name) {
             return self.refuse(Refusal::NameTaken);
         }
-        let query = match bind(alloc, &statement, &self.store) {
+        let query = match bind(alloc, statement, &self.store) {
             Ok(query) => query,
             Err(error) => return self.refuse_query(error),
         };
-        let Some(action) = action_of(handlers, &statement) else {
+        let Some(action) = action_of(handlers, statement) else {
             return self.refuse(Refusal::Action);
         };
-        let timing = timing_of(&statement, self.roll.book().instant());
+        let timing = timing_of(statement, self.live_table.book().instant());
         if is_expired(&timing, timing.start) {
             return self.refuse(Refusal::Times);
         }
-        let member = self.member(alloc, statement, query, action, timing)?;
-        self.join(alloc, member, handlers, out, steps)
+        let subscription = self.subscription(alloc, statement, query, action, timing)?;
+        self.join(alloc, subscription, handlers, out, steps)
     }
 
     /// Takes in a subscription that nothing refuses, and tells its owner the answer where it starts
@@ -407,7 +431,7 @@ impl Engine {
     fn join<L: Ledger>(
         &mut self,
         alloc: Global,
-        member: Member,
+        subscription: Subscription,
         handlers: &Handlers,
         out: &mut Vec<u8>,
         steps: &mut Steps<L>,
@@ -416,61 +440,63 @@ impl Engine {
         requires handlers { self.old.labels
             ≡ (labels handlers.now.items.items (λ h. h.name) (λ h. h.kind)) }
         requires some { (statement : a_statement)
-            × (IsMemberOf (core_of self.old) statement member) }
-        ensures applies { (statement : a_statement) → IsMemberOf (core_of self.old) statement member
-            → Applies (core_of self.old) (Command.Create statement)
-            out.old.items result (core_of self.new) out.new.items }
-        ensures work { (statement : a_statement) → IsMemberOf (core_of self.old) statement member
-            → IsWithinWork self.old (Command.Create statement) steps.old steps.new }
+            × (IsSubscriptionOf self.old statement subscription) }
+        ensures applies { OfStatement self.old subscription (λ statement.
+            Applies self.old (Command.Create statement) out.old.items result self.new
+            out.new.items) }
+        ensures labels { self.new.labels ≡ self.old.labels }
+        ensures work { OfStatement self.old subscription (λ statement.
+            IsWithinWork self.old (Command.Create statement) steps.old steps.new) }
     {
-        self.roll.facts();
-        let plan = plan(alloc, &member.query)?;
-        let mark = self.roll.mark();
+        self.live_table.facts();
+        let plan = plan(alloc, &subscription.query)?;
+        let mark = self.live_table.mark();
         let install = self.creates + 1;
-        self.roll.add(alloc, member, &plan, &self.store, steps)?;
-        self.roll.facts();
-        let number = self.count + 1;
+        self.live_table
+            .add(alloc, subscription, &plan, &self.store, steps)?;
+        self.live_table.facts();
         match answer_create(
             alloc,
-            number,
-            &self.roll,
+            self.count + 1,
+            &self.live_table,
             install,
             &self.store,
             handlers,
             out,
         ) {
             Ok((answered, firings)) => {
-                note_all(&mut self.roll, self.store.changes(), firings.as_slice());
+                let changes = self.store.changes();
+                note_all(&mut self.live_table, changes, firings.as_slice());
                 self.creates = install;
-                self.count = number;
+                self.count += 1;
                 Ok(answered)
             }
             Err(AllocError) => {
-                self.roll.remove(install);
-                self.roll.roll_back(mark);
+                self.live_table.remove(install);
+                self.live_table.roll_back(mark);
                 Err(ApplyError::OutOfMemory)
             }
         }
     }
 
     /// The subscription that a create makes, before its first firing.
-    fn member(
+    fn subscription(
         &self,
         alloc: Global,
-        statement: Statement,
+        statement: &Statement,
         query: NormalQuery,
         action: usize,
         timing: Timing,
-    ) -> Result<Member, AllocError>
+    ) -> Result<Subscription, AllocError>
         requires formed { IsWellFormed query }
         requires few { self.now.creates < 2 ^ 48 }
         ensures { IfOk result (λ m.
-            m ≡ new_member statement query timing action self.now.creates m.file) }
+            m ≡ new_subscription statement.now query timing action self.now.creates m.file) }
     {
         let sources = asked_by(alloc, statement.query.items.as_slice())?;
-        let argument = statement.argument.unwrap_or(Bytes::new(alloc));
-        Ok(Member {
-            name: statement.name,
+        let argument = argument_of(alloc, statement)?;
+        Ok(Subscription {
+            name: statement.name.copy(alloc)?,
             sources,
             query,
             file: FileId(0),
@@ -490,16 +516,17 @@ impl Engine {
         out: &mut Vec<u8>,
     ) -> Result<Answered, ApplyError>
         requires few { self.old.count < 2 ^ 48 }
-        ensures applies { Applies (core_of self.old) (Command.Delete name.now)
-            out.old.items result (core_of self.new) out.new.items }
+        ensures applies { Applies self.old (Command.Delete name.now)
+            out.old.items result self.new out.new.items }
+        ensures labels { self.new.labels ≡ self.old.labels }
     {
-        let Some(install) = self.roll.book().find(name) else {
+        let Some(install) = self.live_table.book().find(name) else {
             return self.refuse(Refusal::NoName);
         };
         let answered = write_accepted(alloc, self.count + 1, out)?;
-        self.roll.facts();
-        take_all(&mut self.roll, &[install]);
-        self.roll.facts();
+        self.live_table.facts();
+        take_all(&mut self.live_table, &[install]);
+        self.live_table.facts();
         self.count += 1;
         Ok(answered)
     }
@@ -515,31 +542,33 @@ impl Engine {
         requires few { self.old.count < 2 ^ 48 }
         requires handlers { self.old.labels
             ≡ (labels handlers.now.items.items (λ h. h.name) (λ h. h.kind)) }
-        ensures applies { Applies (core_of self.old) (Command.Clock instant)
-            out.old.items result (core_of self.new) out.new.items }
+        ensures applies { Applies self.old (Command.Clock instant)
+            out.old.items result self.new out.new.items }
+        ensures labels { self.new.labels ≡ self.old.labels }
     {
-        if instant < self.roll.book().instant() {
+        if instant < self.live_table.book().instant() {
             return self.refuse(Refusal::Clock);
         }
         let answered = write_accepted(alloc, self.count + 1, out)?;
-        let due = self.roll.book().due(alloc, instant)?;
-        let firings = with_news(alloc, self.roll.book(), &self.store, due.as_slice())?;
-        self.roll.facts();
+        let due = self.live_table.book().due(alloc, instant)?;
+        let firings = with_news(alloc, self.live_table.book(), &self.store, due.as_slice())?;
+        self.live_table.facts();
         let spans = tell(
             alloc,
-            &self.roll,
+            &self.live_table,
             firings.as_slice(),
             &self.store,
             handlers,
             out,
         )?;
         let answered = answered.with(spans, out);
-        let expired = self.roll.book().expired(alloc, instant)?;
-        write_expired(self.roll.book(), expired.as_slice(), out)?;
-        self.roll.move_to(alloc, instant)?;
-        note_all(&mut self.roll, self.store.changes(), firings.as_slice());
-        take_all(&mut self.roll, expired.as_slice());
-        self.roll.facts();
+        let expired = self.live_table.book().expired(alloc, instant)?;
+        write_expired(self.live_table.book(), expired.as_slice(), out)?;
+        self.live_table.move_to(alloc, instant)?;
+        let changes = self.store.changes();
+        note_all(&mut self.live_table, changes, firings.as_slice());
+        take_all(&mut self.live_table, expired.as_slice());
+        self.live_table.facts();
         self.count += 1;
         Ok(answered)
     }
@@ -547,11 +576,12 @@ impl Engine {
     /// Tells what is shared.
     fn report(&mut self, alloc: Global, out: &mut Vec<u8>) -> Result<Answered, ApplyError>
         requires few { self.old.count < 2 ^ 48 }
-        ensures applies { Applies (core_of self.old) Command.Report
-            out.old.items result (core_of self.new) out.new.items }
+        ensures applies { Applies self.old Command.Report
+            out.old.items result self.new out.new.items }
+        ensures labels { self.new.labels ≡ self.old.labels }
     {
         let answered = write_accepted(alloc, self.count + 1, out)?;
-        self.roll.shares();
+        self.live_table.shares();
         let summary = self.summary(alloc)?;
         write_report(&summary, out)?;
         self.count += 1;
@@ -560,14 +590,14 @@ impl Engine {
 
     /// How much there is, and the groups of the files.
     fn summary(&self, alloc: Global) -> Result<Summary, AllocError>
-        ensures { IfOk result (IsSummary (core_of self.now)) }
+        ensures { IfOk result (IsSummary self.now) }
     {
         Ok(Summary {
             queries: self.live() as u64,
             sources: self.store.count() as u64,
             changes: self.store.changes(),
-            files: self.roll.groups().files() as u64,
-            groups: self.roll.groups().groups(alloc)?,
+            files: self.live_table.groups().files() as u64,
+            groups: self.live_table.groups().groups(alloc)?,
         })
     }
 
@@ -575,8 +605,9 @@ impl Engine {
     fn refuse(&mut self, refusal: Refusal) -> Result<Answered, ApplyError>
         requires { self.old.count < 2 ^ 48 }
         ensures refused { result ≡ Err (ApplyError.Refused refusal) }
-        ensures counted { core_of self.new
-            ≡ record (core_of self.old) { count = self.old.count + 1 } }
+        ensures counted { self.new
+            ≡ record self.old { count = self.old.count + 1 } }
+        ensures labels { self.new.labels ≡ self.old.labels }
     {
         self.count += 1;
         Err(ApplyError::Refused(refusal))
@@ -586,7 +617,8 @@ impl Engine {
         requires { self.old.count < 2 ^ 48 }
         ensures refused { result ≡ Err (refused_change error) }
         ensures counted { IfSome (change_refusal error) (λ _.
-            core_of self.new ≡ record (core_of self.old) { count = self.old.count + 1 }) }
+            self.new ≡ record self.old { count = self.old.count + 1 }) }
+        ensures labels { self.new.labels ≡ self.old.labels }
     {
         match error {
             ChangeError::NoSource => self.refuse(Refusal::NoSource),
@@ -600,7 +632,8 @@ impl Engine {
         requires { self.old.count < 2 ^ 48 }
         ensures refused { result ≡ Err (refused_query error) }
         ensures counted { IfSome (query_refusal error) (λ _.
-            core_of self.new ≡ record (core_of self.old) { count = self.old.count + 1 }) }
+            self.new ≡ record self.old { count = self.old.count + 1 }) }
+        ensures labels { self.new.labels ≡ self.old.labels }
     {
         match error {
             BindError::NoSource => self.refuse(Refusal::NoSource),
@@ -620,6 +653,9 @@ fn action_of(handlers: &Handlers, statement: &Statement) -> Option<usize>
         (labels handlers.now.items.items (λ h. h.name) (λ h. h.kind)))
         × (is_at_odds (kind_at (labels handlers.now.items.items (λ h. h.name) (λ h. h.kind)) at)
         statement.now.argument ≡ false)) }
+    ensures named { IfSome result (λ at.
+        name_at (labels handlers.now.items.items (λ h. h.name) (λ h. h.kind)) at
+        ≡ Some statement.now.action) }
     ensures within { IfSome result
         (λ at. at < length (labels handlers.now.items.items (λ h. h.name) (λ h. h.kind))) }
     ensures none { IfNone result
@@ -657,6 +693,16 @@ fn timing_of(statement: &Statement, now: u64) -> Timing
         start,
         every: statement.every,
         expire: statement.expire,
+    }
+}
+
+/// What a statement hands to its handler: no bytes where it says nothing of that.
+fn argument_of(alloc: Global, statement: &Statement) -> Result<Bytes, AllocError>
+    ensures { IfOk result (λ argument. argument ≡ unwrap_or statement.now.argument []) }
+{
+    match &statement.argument {
+        Some(argument) => argument.copy(alloc),
+        None => Ok(Bytes::new(alloc)),
     }
 }
 

@@ -1,21 +1,21 @@
 //! Subscriptions that end.
 ghost use Rattle.std.specs.Prelude.{◌≡◌, ◌++◌, OnOk};
 ghost use Rattle.std.specs.List.{flat_map};
-ghost use Rattle.ncq_engine.specs.Applies.{expired_name};
+ghost use Rattle.ncq_engine.specs.Output.{expired_line};
 ghost use Rattle.ncq_engine.specs.Tellings.{expired_of, IsLeftBy};
 
 use ncq_book::Book;
-use ncq_roll::Roll;
+use ncq_live::LiveTable;
 use std::alloc::AllocError;
 
-/// Appends the lines of the members of these install numbers.
+/// Appends the lines of the subscriptions of these install numbers.
 pub(crate) fn write_expired(
     book: &Book,
     installs: &[u64],
     out: &mut Vec<u8>,
 ) -> Result<(), AllocError>
     ensures { OnOk result (out.new.items ≡ out.old.items
-        ++ flat_map (expired_of book.now.members) installs.now) }
+        ++ flat_map (expired_of book.now.subscriptions) installs.now) }
 {
     for install in installs {
         write_expired_one(book, *install, out)?;
@@ -23,19 +23,19 @@ pub(crate) fn write_expired(
     Ok(())
 }
 
-/// Appends the line of the member of this install number, where it is there.
+/// Appends the line of the subscription of this install number, where it is there.
 fn write_expired_one(book: &Book, install: u64, out: &mut Vec<u8>) -> Result<(), AllocError>
     ensures { OnOk result (out.new.items ≡ out.old.items
-        ++ expired_of book.now.members install) }
+        ++ expired_of book.now.subscriptions install) }
 {
     match book.get(install) {
-        Some(member) => write_expired_line(member.name.as_slice(), out),
+        Some(subscription) => write_expired_line(subscription.name.as_slice(), out),
         None => Ok(()),
     }
 }
 
 fn write_expired_line(name: &[u8], out: &mut Vec<u8>) -> Result<(), AllocError>
-    ensures { OnOk result (out.new.items ≡ out.old.items ++ expired_name name.now) }
+    ensures { OnOk result (out.new.items ≡ out.old.items ++ expired_line name.now) }
 {
     out.extend_from_slice(b"expired ")?;
     out.extend_from_slice(name)?;
@@ -43,12 +43,12 @@ fn write_expired_line(name: &[u8], out: &mut Vec<u8>) -> Result<(), AllocError>
     Ok(())
 }
 
-/// Takes the members of these install numbers away, and gives up their uses of their files. It
-/// takes no memory.
-pub(crate) fn take_all(roll: &mut Roll, installs: &[u64])
-    ensures { IsLeftBy installs.now roll.old roll.new }
+/// Takes the subscriptions of these install numbers away, and gives up their uses of their files.
+/// It takes no memory.
+pub(crate) fn take_all(live_table: &mut LiveTable, installs: &[u64])
+    ensures { IsLeftBy installs.now live_table.old live_table.new }
 {
     for install in installs {
-        roll.remove(*install);
+        live_table.remove(*install);
     }
 }

@@ -6,7 +6,7 @@ ghost use Rattle.ncq_engine.specs.Engines.{CanTell, news_of};
 ghost use Rattle.ncq_engine.specs.Tellings.{AskAlike, IsLatest};
 
 use crate::firing::mark_of;
-use ncq_book::Member;
+use ncq_book::Subscription;
 use ncq_callback::Entries;
 use ncq_group::GroupTable;
 use ncq_news::news;
@@ -14,55 +14,55 @@ use ncq_plan::{same_template, same_tests};
 use ncq_source::Store;
 use std::alloc::{AllocError, Global};
 
-/// What the answer of a member gained and lost since a mark.
+/// What the answer of a subscription gained and lost since a mark.
 #[derive(Drop)]
 pub(crate) struct Latest<'a> {
-    pub(crate) member: &'a Member,
+    pub(crate) subscription: &'a Subscription,
     pub(crate) mark: Option<u64>,
     pub(crate) entries: Entries,
 }
 
-/// What the answer of the member gained and lost since its mark. It is what was told last, where
-/// that was told of the same file, by the same tests and template, since the same mark.
+/// What the answer of the subscription gained and lost since its mark. It is what was told last,
+/// where that was told of the same file, by the same tests and template, since the same mark.
 pub(crate) fn news_for<'a>(
     alloc: Global,
-    member: &'a Member,
+    subscription: &'a Subscription,
     groups: &GroupTable,
     store: &Store,
     latest: Option<Latest<'a>>,
 ) -> Result<Latest<'a>, AllocError>
-    requires can { (labels : List Label) × CanTell labels store.now groups.now member.now }
+    requires can { (labels : List Label) × CanTell labels store.now groups.now subscription.now }
     requires latest { IfSome latest (IsLatest groups.now.files) }
     ensures entries { IfOk result (λ l. l.entries
-        ≡ entries_of member.now.query (news_of store.now groups.now.files member.now)) }
+        ≡ entries_of subscription.now.query (news_of store.now groups.now.files subscription.now)) }
     ensures latest { IfOk result (IsLatest groups.now.files) }
 {
-    let mark = mark_of(member, store);
+    let mark = mark_of(subscription, store);
     if let Some(latest) = latest {
-        if serves(&latest, member, mark) {
+        if serves(&latest, subscription, mark) {
             return Ok(latest);
         }
     }
     groups.facts();
-    let file = groups.file(member.file);
-    let entries = news(alloc, &member.query, file, mark, groups.number())?;
+    let file = groups.file(subscription.file);
+    let entries = news(alloc, &subscription.query, file, mark, groups.number())?;
     Ok(Latest {
-        member,
+        subscription,
         mark,
         entries,
     })
 }
 
-/// Whether it is what the member is told since this mark.
-fn serves(latest: &Latest<'_>, member: &Member, mark: Option<u64>) -> bool
-    ensures alike { IsTrue result → AskAlike latest.now.member.now member.now }
+/// Whether it is what the subscription is told since this mark.
+fn serves(latest: &Latest<'_>, subscription: &Subscription, mark: Option<u64>) -> bool
+    ensures alike { IsTrue result → AskAlike latest.now.subscription.now subscription.now }
     ensures mark { IsTrue result → (latest.now.mark ≡ mark) }
 {
-    same_mark(latest.mark, mark) && ask_alike(latest.member, member)
+    same_mark(latest.mark, mark) && ask_alike(latest.subscription, subscription)
 }
 
 /// Whether the two have one file, and ask the same of its rows.
-fn ask_alike(a: &Member, b: &Member) -> bool
+fn ask_alike(a: &Subscription, b: &Subscription) -> bool
     ensures { IsTrue result → AskAlike a.now b.now }
 {
     a.file.0 == b.file.0

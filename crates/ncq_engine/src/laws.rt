@@ -1,11 +1,15 @@
 //! Laws of histories: each function's contract is the law, and it does nothing.
-ghost use Rattle.std.specs.Prelude.{◌≡◌, ℕ, List, []};
+ghost use Rattle.std.specs.Prelude.{◌≡◌, ◌↔◌, ℕ, List, []};
+ghost use Rattle.ncq_plan.specs.declared.expr.Expr.{Expr};
+ghost use Rattle.ncq_plan.specs.ExprLists.{AreApart, IsIn};
 ghost use Rattle.ncq_script.specs.declared.command.Command.{Command};
+ghost use Rattle.ncq_shelf.specs.Parts.{IsPartOfOne};
 ghost use Rattle.ncq_engine.specs.Alone.{notes, only};
 ghost use Rattle.ncq_engine.specs.Firing.{mark};
 ghost use Rattle.ncq_engine.specs.History.{History, Subscription};
 ghost use Rattle.ncq_engine.specs.Marks.{IsRising, mark_from, noted};
 ghost use Rattle.ncq_engine.specs.Notices.{Language};
+ghost use Rattle.ncq_engine.specs.Reports.{closure, live_plans};
 
 /// The notices of one name are what they are without the creates and deletes of all others.
 pub fn subscribers_are_apart()
@@ -18,4 +22,12 @@ pub fn subscribers_are_apart()
 pub fn marks_follow()
     ensures { (s : Subscription) (history : History) → IsRising history
         → mark s history ≡ mark_from (noted s history) s history }
+{}
+
+/// The closure of a history has each part of a live plan, no other expression, and none twice.
+pub fn closures_are_the_parts()
+    ensures parts { (language : Language) (history : History) (expr : Expr)
+        → IsIn expr (closure language history) ↔ IsPartOfOne expr (live_plans language history) }
+    ensures once { (language : Language) (history : History)
+        → AreApart (closure language history) }
 {}

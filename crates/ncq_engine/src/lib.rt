@@ -19,5 +19,5 @@ mod telling;
 mod who;
 
 pub use engine::{Applied, ApplyError, Engine};
-pub use laws::{marks_follow, subscribers_are_apart};
+pub use laws::{closures_are_the_parts, marks_follow, subscribers_are_apart};
 pub use span::{Span, Spans};

@@ -1,14 +1,12 @@
 //! What those that fire are told.
 ghost use Rattle.std.specs.Prelude.{◌≡◌, ◌++◌, ◌∷◌, [], ◌<◌, ◌-◌, ◌^◌, length};
 ghost use Rattle.std.specs.Prelude.{IsSome, IfOk, IfSome, OnOk};
-ghost use Rattle.std.specs.List.{flat_map, AllByRecursion};
-ghost use Rattle.ncq_book.specs.Books.{member_of, watchers_of, InstallsRise};
+ghost use Rattle.std.specs.List.{AllByRecursion};
+ghost use Rattle.ncq_book.specs.Books.{subscription_of, watchers_of, InstallsRise};
 ghost use Rattle.ncq_callback.specs.Labels.{labels};
-ghost use Rattle.ncq_engine.specs.Engines.{CanTell};
-ghost use Rattle.ncq_engine.specs.Applies.{ok_text};
-ghost use Rattle.ncq_engine.specs.Spans.{spans_of};
-ghost use Rattle.ncq_engine.specs.Tellings.{firing_name, firing_text, noted_by, started_at};
-ghost use Rattle.ncq_engine.specs.Tellings.{IsAnswered, IsLatest};
+ghost use Rattle.ncq_engine.specs.Output.{ok_text};
+ghost use Rattle.ncq_engine.specs.Tellings.{firings_spans, firings_text, noted_by, started_at};
+ghost use Rattle.ncq_engine.specs.Tellings.{started_of, CanTellEach, IsAnswered, IsLatest};
 
 use crate::firing::fire;
 use crate::latest::Latest;
@@ -17,7 +15,7 @@ use crate::who::{started, starter};
 use ncq_base::write_decimal;
 use ncq_callback::Handlers;
 use ncq_event::{Firing, Firings};
-use ncq_roll::Roll;
+use ncq_live::LiveTable;
 use ncq_source::Store;
 use std::alloc::{AllocError, Global};
 
@@ -74,36 +72,34 @@ pub(crate) fn write_accepted(
 /// Appends the notices of firings, in their order, and tells where each stands.
 pub(crate) fn tell(
     alloc: Global,
-    roll: &Roll,
+    live_table: &LiveTable,
     firings: &[Firing],
     store: &Store,
     handlers: &Handlers,
     out: &mut Vec<u8>,
 ) -> Result<Spans, AllocError>
-    requires can { AllByRecursion (CanTell
-        (labels handlers.now.items.items (λ h. h.name) (λ h. h.kind)) store.now roll.now.table)
-        roll.now.members }
-    requires there { AllByRecursion (λ f. IsSome (member_of f.install roll.now.members))
-        firings.now }
+    requires can { CanTellEach (labels handlers.now.items.items (λ h. h.name) (λ h. h.kind))
+        store.now live_table.now }
+    requires there { AllByRecursion
+        (λ f. IsSome (subscription_of f.install live_table.now.subscriptions)) firings.now }
     ensures text { OnOk result (out.new.items ≡ out.old.items
-        ++ flat_map (firing_text (labels handlers.now.items.items (λ h. h.name) (λ h. h.kind))
-        store.now roll.now.table.files roll.now.members) firings.now) }
+        ++ firings_text (labels handlers.now.items.items (λ h. h.name) (λ h. h.kind)) store.now
+        live_table.now firings.now) }
     ensures spans { IfOk result (λ spans. spans
-        ≡ spans_of (firing_name roll.now.members)
-        (firing_text (labels handlers.now.items.items (λ h. h.name) (λ h. h.kind))
-        store.now roll.now.table.files roll.now.members) (length out.old.items) firings.now) }
+        ≡ firings_spans (labels handlers.now.items.items (λ h. h.name) (λ h. h.kind)) store.now
+        live_table.now (length out.old.items) firings.now) }
 {
     let mut spans = Spans::new(alloc);
     let mut latest = None;
     for firing in firings {
-        let Some(member) = roll.book().get(firing.install) else {
+        let Some(subscription) = live_table.book().get(firing.install) else {
             unreachable!();
         };
         let told = fire(
             alloc,
-            member,
+            subscription,
             firing.instant,
-            roll.groups(),
+            live_table.groups(),
             store,
             handlers,
             out,
@@ -115,44 +111,40 @@ pub(crate) fn tell(
     Ok(spans)
 }
 
-/// Appends the notices of those members of these install numbers that have started, each now, and
-/// tells where each stands.
+/// Appends the notices of those subscriptions of these install numbers that have started, each now,
+/// and tells where each stands.
 fn tell_started(
     alloc: Global,
-    roll: &Roll,
+    live_table: &LiveTable,
     installs: &[u64],
     store: &Store,
     handlers: &Handlers,
     out: &mut Vec<u8>,
 ) -> Result<Spans, AllocError>
-    requires can { AllByRecursion (CanTell
-        (labels handlers.now.items.items (λ h. h.name) (λ h. h.kind)) store.now roll.now.table)
-        roll.now.members }
+    requires can { CanTellEach (labels handlers.now.items.items (λ h. h.name) (λ h. h.kind))
+        store.now live_table.now }
     ensures text { OnOk result (out.new.items ≡ out.old.items
-        ++ flat_map (firing_text (labels handlers.now.items.items (λ h. h.name) (λ h. h.kind))
-        store.now roll.now.table.files roll.now.members)
-        (flat_map (started_at roll.now.instant roll.now.members) installs.now)) }
+        ++ firings_text (labels handlers.now.items.items (λ h. h.name) (λ h. h.kind)) store.now
+        live_table.now (started_of live_table.now installs.now)) }
     ensures spans { IfOk result (λ spans. spans
-        ≡ spans_of (firing_name roll.now.members)
-        (firing_text (labels handlers.now.items.items (λ h. h.name) (λ h. h.kind))
-        store.now roll.now.table.files roll.now.members) (length out.old.items)
-        (flat_map (started_at roll.now.instant roll.now.members) installs.now)) }
+        ≡ firings_spans (labels handlers.now.items.items (λ h. h.name) (λ h. h.kind)) store.now
+        live_table.now (length out.old.items) (started_of live_table.now installs.now)) }
 {
     let mut spans = Spans::new(alloc);
     let mut latest = None;
     for install in installs {
         latest = tell_one(
-            alloc, roll, *install, store, handlers, out, &mut spans, latest,
+            alloc, live_table, *install, store, handlers, out, &mut spans, latest,
         )?;
     }
     Ok(spans)
 }
 
-/// Appends the notice of the member of this install number now, if it has started, and adds where
-/// it stands. What was told last comes back.
+/// Appends the notice of the subscription of this install number now, if it has started, and adds
+/// where it stands. What was told last comes back.
 fn tell_one<'a>(
     alloc: Global,
-    roll: &'a Roll,
+    live_table: &'a LiveTable,
     install: u64,
     store: &Store,
     handlers: &Handlers,
@@ -160,29 +152,26 @@ fn tell_one<'a>(
     spans: &mut Spans,
     latest: Option<Latest<'a>>,
 ) -> Result<Option<Latest<'a>>, AllocError>
-    requires can { AllByRecursion (CanTell
-        (labels handlers.now.items.items (λ h. h.name) (λ h. h.kind)) store.now roll.now.table)
-        roll.now.members }
-    requires latest { IfSome latest (IsLatest roll.now.table.files) }
+    requires can { CanTellEach (labels handlers.now.items.items (λ h. h.name) (λ h. h.kind))
+        store.now live_table.now }
+    requires latest { IfSome latest (IsLatest live_table.now.table.files) }
     ensures text { OnOk result (out.new.items ≡ out.old.items
-        ++ flat_map (firing_text (labels handlers.now.items.items (λ h. h.name) (λ h. h.kind))
-        store.now roll.now.table.files roll.now.members)
-        (started_at roll.now.instant roll.now.members install)) }
+        ++ firings_text (labels handlers.now.items.items (λ h. h.name) (λ h. h.kind)) store.now
+        live_table.now (started_at live_table.now.instant live_table.now.subscriptions install)) }
     ensures spans { OnOk result (spans.new ≡ spans.old
-        ++ spans_of (firing_name roll.now.members)
-        (firing_text (labels handlers.now.items.items (λ h. h.name) (λ h. h.kind))
-        store.now roll.now.table.files roll.now.members) (length out.old.items)
-        (started_at roll.now.instant roll.now.members install)) }
-    ensures latest { IfOk result (λ told. IfSome told (IsLatest roll.now.table.files)) }
+        ++ firings_spans (labels handlers.now.items.items (λ h. h.name) (λ h. h.kind)) store.now
+        live_table.now (length out.old.items)
+        (started_at live_table.now.instant live_table.now.subscriptions install)) }
+    ensures latest { IfOk result (λ told. IfSome told (IsLatest live_table.now.table.files)) }
 {
-    let Some(member) = starter(roll.book(), install) else {
+    let Some(subscription) = starter(live_table.book(), install) else {
         return Ok(latest);
     };
     let told = fire(
         alloc,
-        member,
-        roll.book().instant(),
-        roll.groups(),
+        subscription,
+        live_table.book().instant(),
+        live_table.groups(),
         store,
         handlers,
         out,
@@ -197,62 +186,57 @@ fn tell_one<'a>(
 pub(crate) fn answer_change(
     alloc: Global,
     number: u64,
-    roll: &Roll,
+    live_table: &LiveTable,
     fed: &[u64],
     store: &Store,
     handlers: &Handlers,
     out: &mut Vec<u8>,
 ) -> Result<Answered, AllocError>
-    requires can { AllByRecursion (CanTell
-        (labels handlers.now.items.items (λ h. h.name) (λ h. h.kind)) store.now roll.now.table)
-        roll.now.members }
-    ensures told { IfOk result (IsAnswered number (firing_name roll.now.members)
-        (firing_text (labels handlers.now.items.items (λ h. h.name) (λ h. h.kind))
-        store.now roll.now.table.files roll.now.members)
-        (flat_map (started_at roll.now.instant roll.now.members)
-        (watchers_of fed.now roll.now.members)) out.old.items out.new.items) }
+    requires can { CanTellEach (labels handlers.now.items.items (λ h. h.name) (λ h. h.kind))
+        store.now live_table.now }
+    ensures told { IfOk result (IsAnswered number
+        (labels handlers.now.items.items (λ h. h.name) (λ h. h.kind)) store.now live_table.now
+        (started_of live_table.now (watchers_of fed.now live_table.now.subscriptions))
+        out.old.items out.new.items) }
 {
     let answered = write_accepted(alloc, number, out)?;
-    let watchers = roll.book().watchers(alloc, fed)?;
-    let spans = tell_started(alloc, roll, watchers.as_slice(), store, handlers, out)?;
+    let watchers = live_table.book().watchers(alloc, fed)?;
+    let spans = tell_started(alloc, live_table, watchers.as_slice(), store, handlers, out)?;
     Ok(answered.with(spans, out))
 }
 
-/// Appends the answer to an accepted create: its first line, and the first notice of the member of
-/// this install number, if it starts now. The answer tells its firing too.
+/// Appends the answer to an accepted create: its first line, and the first notice of the
+/// subscription of this install number, if it starts now. The answer tells its firing too.
 pub(crate) fn answer_create(
     alloc: Global,
     number: u64,
-    roll: &Roll,
+    live_table: &LiveTable,
     install: u64,
     store: &Store,
     handlers: &Handlers,
     out: &mut Vec<u8>,
 ) -> Result<(Answered, Firings), AllocError>
-    requires can { AllByRecursion (CanTell
-        (labels handlers.now.items.items (λ h. h.name) (λ h. h.kind)) store.now roll.now.table)
-        roll.now.members }
-    ensures told { IfOk result (λ told. IsAnswered number (firing_name roll.now.members)
-        (firing_text (labels handlers.now.items.items (λ h. h.name) (λ h. h.kind))
-        store.now roll.now.table.files roll.now.members)
+    requires can { CanTellEach (labels handlers.now.items.items (λ h. h.name) (λ h. h.kind))
+        store.now live_table.now }
+    ensures told { IfOk result (λ told. IsAnswered number
+        (labels handlers.now.items.items (λ h. h.name) (λ h. h.kind)) store.now live_table.now
         told.1 out.old.items out.new.items told.0) }
-    ensures firings { IfOk result (λ told. told.1
-        ≡ flat_map (started_at roll.now.instant roll.now.members) (install ∷ [])) }
+    ensures firings { IfOk result (λ told. told.1 ≡ started_of live_table.now (install ∷ [])) }
 {
     let answered = write_accepted(alloc, number, out)?;
-    let firings = started(alloc, roll.book(), &[install])?;
-    let spans = tell(alloc, roll, firings.as_slice(), store, handlers, out)?;
+    let firings = started(alloc, live_table.book(), &[install])?;
+    let spans = tell(alloc, live_table, firings.as_slice(), store, handlers, out)?;
     Ok((answered.with(spans, out), firings))
 }
 
-/// Writes down that the members of these firings fired at this number of changes. It takes no
+/// Writes down that the subscriptions of these firings fired at this number of changes. It takes no
 /// memory.
-pub(crate) fn note_all(roll: &mut Roll, number: u64, firings: &[Firing])
-    ensures { roll.new ≡ record roll.old {
-      members = noted_by number firings.now roll.old.members;
+pub(crate) fn note_all(live_table: &mut LiveTable, number: u64, firings: &[Firing])
+    ensures { live_table.new ≡ record live_table.old {
+      subscriptions = noted_by number firings.now live_table.old.subscriptions;
     } }
 {
     for firing in firings {
-        roll.note(firing.install, number);
+        live_table.note(firing.install, number);
     }
 }

@@ -1,21 +1,21 @@
 //! Who fires at a command.
 ghost use Rattle.std.specs.Prelude.{◌≡◌, ◌==◌, nat_lt, IfOk, IfSome, Some, is_some};
 ghost use Rattle.std.specs.List.{filter, flat_map, list_any};
-ghost use Rattle.ncq_book.specs.Books.{member_of};
+ghost use Rattle.ncq_book.specs.Books.{subscription_of};
 ghost use Rattle.ncq_engine.specs.Engines.{last_in, has_news_in, mark_in};
 ghost use Rattle.ncq_engine.specs.Tellings.{started_at, has_started, is_news_at};
 
 use crate::firing::mark_of;
 use ncq_base::Bytes;
-use ncq_book::{Book, Member};
+use ncq_book::{Book, Subscription};
 use ncq_event::{Firing, Firings};
 use ncq_source::Store;
 use std::alloc::{AllocError, Global};
 
-/// The firings now of those members of these install numbers that have started.
+/// The firings now of those subscriptions of these install numbers that have started.
 pub(crate) fn started(alloc: Global, book: &Book, installs: &[u64]) -> Result<Firings, AllocError>
     ensures { IfOk result (λ firings. firings
-        ≡ flat_map (started_at book.now.instant book.now.members) installs.now) }
+        ≡ flat_map (started_at book.now.instant book.now.subscriptions) installs.now) }
 {
     let now = book.instant();
     let mut firings = Firings::new(alloc);
@@ -30,28 +30,30 @@ pub(crate) fn started(alloc: Global, book: &Book, installs: &[u64]) -> Result<Fi
     Ok(firings)
 }
 
-/// Whether the member of this install number is there and has started.
+/// Whether the subscription of this install number is there and has started.
 fn has_started(book: &Book, install: u64) -> bool
-    ensures { result ≡ has_started book.now.instant (member_of install book.now.members) }
+    ensures { result
+        ≡ has_started book.now.instant (subscription_of install book.now.subscriptions) }
 {
     starter(book, install).is_some()
 }
 
-/// The member of this install number, if it is there and has started.
-pub(crate) fn starter(book: &Book, install: u64) -> Option<&Member>
-    ensures some { IfSome result (λ m. member_of install book.now.members ≡ Some m.now) }
+/// The subscription of this install number, if it is there and has started.
+pub(crate) fn starter(book: &Book, install: u64) -> Option<&Subscription>
+    ensures some { IfSome result
+        (λ m. subscription_of install book.now.subscriptions ≡ Some m.now) }
     ensures started { is_some result
-        ≡ has_started book.now.instant (member_of install book.now.members) }
+        ≡ has_started book.now.instant (subscription_of install book.now.subscriptions) }
 {
-    let member = book.get(install)?;
-    if member.timing.start <= book.instant() {
-        Some(member)
+    let subscription = book.get(install)?;
+    if subscription.timing.start <= book.instant() {
+        Some(subscription)
     } else {
         None
     }
 }
 
-/// Those firings whose members have not fired yet, or have a source that has changed since.
+/// Those firings whose subscriptions have not fired yet, or have a source that has changed since.
 pub(crate) fn with_news(
     alloc: Global,
     book: &Book,
@@ -59,7 +61,7 @@ pub(crate) fn with_news(
     firings: &[Firing],
 ) -> Result<Firings, AllocError>
     ensures { IfOk result (λ kept. kept
-        ≡ filter (is_news_at store.now book.now.members) firings.now) }
+        ≡ filter (is_news_at store.now book.now.subscriptions) firings.now) }
 {
     let mut kept = Firings::new(alloc);
     for firing in firings {
@@ -70,33 +72,34 @@ pub(crate) fn with_news(
     Ok(kept)
 }
 
-/// Whether the member of the firing is there, and has not fired yet or has a source that has
+/// Whether the subscription of the firing is there, and has not fired yet or has a source that has
 /// changed since.
 fn is_news(book: &Book, store: &Store, firing: &Firing) -> bool
-    ensures { result ≡ is_news_at store.now book.now.members firing.now }
+    ensures { result ≡ is_news_at store.now book.now.subscriptions firing.now }
 {
     match book.get(firing.install) {
-        Some(member) => has_news(member, store),
+        Some(subscription) => has_news(subscription, store),
         None => false,
     }
 }
 
-/// Whether the member has not fired yet, or a source of it has changed since.
-fn has_news(member: &Member, store: &Store) -> bool
-    ensures { result ≡ has_news_in store.now (mark_in store.now member.now) member.now.sources }
+/// Whether the subscription has not fired yet, or a source of it has changed since.
+fn has_news(subscription: &Subscription, store: &Store) -> bool
+    ensures { result ≡ has_news_in store.now (mark_in store.now subscription.now)
+        subscription.now.sources }
 {
-    match mark_of(member, store) {
-        Some(mark) => has_changed(member, store, mark),
+    match mark_of(subscription, store) {
+        Some(mark) => has_changed(subscription, store, mark),
         None => true,
     }
 }
 
-/// Whether a source of the member has a change above this number.
-fn has_changed(member: &Member, store: &Store, mark: u64) -> bool
+/// Whether a source of the subscription has a change above this number.
+fn has_changed(subscription: &Subscription, store: &Store, mark: u64) -> bool
     ensures { result ≡ list_any (λ source. nat_lt mark (last_in store.now source))
-        member.now.sources }
+        subscription.now.sources }
 {
-    member
+    subscription
         .sources
         .as_slice()
         .iter()

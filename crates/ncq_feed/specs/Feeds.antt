@@ -19,7 +19,7 @@ use Rattle.ncq_change.specs.Stores.{kept_in, world_in}
 use Rattle.ncq_midfile.specs.declared.signed.SignedRow.{SignedRow}
 use Rattle.ncq_midfile.specs.Content.{since}
 use Rattle.ncq_delta.specs.Leads.{unnumbered}
-use Rattle.ncq_shelf.specs.KeptFiles.{KeptFile, Files}
+use Rattle.ncq_shelf.specs.KeptFiles.{EachFile, Files, KeptFile}
 use Rattle.ncq_shelf.specs.Stands.{IsGrounded}
 use Rattle.ncq_shelf.specs.Contents.{AreFormed, AreWide, AreUpTo, Fits, with_more}
 
@@ -67,16 +67,15 @@ pub record IsFedFile (number : ℕ) (delta : List PlainRow) (old new : KeptFile)
 
 -- each file has the signed rows that the change makes of its expression, and no file came or went
 pub record AreFed (store : StoreState) (change : ChangeState) (old new : Files) : Type 0 where
-  pub each : (number : ℕ) (file : KeptFile) → get old number ≡ Some file
-      → (fed : KeptFile) × (get new number ≡ Some fed)
-      × IsFedFile (store.changes + 1) (delta_by store change file.expr) file fed
+  pub each : EachFile old (λ number file. (fed : KeptFile) × (get new number ≡ Some fed)
+      × IsFedFile (store.changes + 1) (delta_by store change file.expr) file fed)
   pub no_other : (number : ℕ) → get old number ≡ None → get new number ≡ None
 
 -- the list has the number of each file that has rows of a later change than this
 abbrev pub NamesTheFed : ℕ → Files → List ℕ → Type 0
 NamesTheFed now files numbers =
-    (number : ℕ) (file : KeptFile) → get files number ≡ Some file
-    → list_any (nat_eq number) numbers ≡ false → since now file.content.rows ≡ []
+    EachFile files (λ number file.
+    list_any (nat_eq number) numbers ≡ false → since now file.content.rows ≡ [])
 
 -- the signed rows that the change makes of the expressions of all files, together
 abbrev pub feed_work : StoreState → ChangeState → Files → ℕ

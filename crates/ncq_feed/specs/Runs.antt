@@ -16,7 +16,7 @@ use Rattle.ncq_change.specs.Stores.{world_in}
 use Rattle.ncq_midfile.specs.declared.signed.SignedRow.{SignedRow}
 use Rattle.ncq_midfile.specs.Content.{since, IsContent}
 use Rattle.ncq_delta.specs.Leads.{unnumbered}
-use Rattle.ncq_shelf.specs.KeptFiles.{KeptFile, Files}
+use Rattle.ncq_shelf.specs.KeptFiles.{AtFile, Files, KeptFile}
 use Rattle.ncq_shelf.specs.Stands.{Stands, IsThere}
 use Rattle.ncq_shelf.specs.Contents.{AreWide, with_more, sum_over}
 use Rattle.ncq_shelf.specs.Readers.{SelectsFrom, JoinsFrom, NoneAgree}
@@ -60,8 +60,7 @@ is_among number numbers = list_any (nat_eq number) numbers
 -- the signed row has the number of the change, and a value for each slot of the file's expression
 pub record IsFor (run : Run) (number : ℕ) (row : SignedRow) : Type 0 where
   pub stamped : row.number ≡ run.store.changes + 1
-  pub wide : (file : KeptFile) → get run.files number ≡ Some file
-      → length row.row ≡ expr_width file.expr
+  pub wide : AtFile run.files number (λ file. length row.row ≡ expr_width file.expr)
 
 -- one file got these rows more, and no other got any
 pub record IsGiven (run : Run) (number : ℕ) (rows : List SignedRow) (old new : Files)
@@ -73,8 +72,8 @@ pub record IsGiven (run : Run) (number : ℕ) (rows : List SignedRow) (old new :
 -- the signed rows are those that the change makes of the file's expression
 abbrev pub AreRight : Run → ℕ → List SignedRow → Type 0
 AreRight run number rows =
-    (file : KeptFile) → get run.files number ≡ Some file
-    → SameChanges (unnumbered rows) (delta_by run.store run.change file.expr)
+    AtFile run.files number (λ file.
+    SameChanges (unnumbered rows) (delta_by run.store run.change file.expr))
 
 -- the file is that of a scan
 pub record IsScanFile (files : Files) (number : ℕ) : Type 0 where

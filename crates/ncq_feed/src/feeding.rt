@@ -16,8 +16,9 @@ use std::collections::BTreeSet;
 use std::sync::ledger::Ledger;
 
 /// Gives each file the signed rows that the change makes of its expression, under the number of the
-/// change. The answer names each file that got rows. After an error the files are as before. Each
-/// signed row is one step, whatever it answers. The only error is that memory ran out.
+/// change. The answer names each file that got rows. After an error the files are as before. It
+/// takes at most one step for each signed row, whatever it answers. The only error is that memory
+/// ran out.
 pub fn feed<L: Ledger>(
     alloc: Global,
     shelf: &mut Shelf,

@@ -9,7 +9,7 @@ use ncq_row::Rows;
 use std::alloc::{AllocError, Global};
 use std::sync::ledger::Ledger;
 
-/// A copy of the row at each of the places. Each is one step.
+/// A copy of the row at each of the places. It takes at most one step for each.
 pub(crate) fn copies_at<L: Ledger>(
     alloc: Global,
     file: &MidFile,

@@ -24,8 +24,8 @@ use std::sync::ledger::Ledger;
 
 /// The rows of an expression over the sources as they stand, each as often, in an order of the
 /// files' own. The files are told by what slots their rows are to be found from now on; nothing
-/// that can be seen of them changes. Each row is one step, whatever it answers. The only error is
-/// that memory ran out.
+/// that can be seen of them changes. It takes at most one step for each row, whatever it answers.
+/// The only error is that memory ran out.
 pub fn first_rows<L: Ledger>(
     alloc: Global,
     shelf: &mut Shelf,
@@ -40,8 +40,7 @@ pub fn first_rows<L: Ledger>(
     requires up_to { AreUpTo store.now.changes shelf.old }
     requires fits { Fits store.now.changes (world_in store.now) shelf.old }
     ensures counts { IfOk result (λ rows. SameCounts rows (rows_in expr.now (world_in store.now))) }
-    ensures wide { IfOk result (λ rows.
-        AllByRecursion (λ row. length row ≡ expr_width expr.now) rows) }
+    ensures wide { IfOk result (AllByRecursion (λ row. length row ≡ expr_width expr.now)) }
     ensures same { shelf.new ≡ shelf.old }
     ensures cost { steps.new ≤ steps.old + length (rows_in expr.now (world_in store.now)) }
 {

@@ -39,7 +39,8 @@ pub(crate) fn within<L: Ledger>(
     Ok(rows)
 }
 
-/// Adds a copy of the row, if it has a number of the interval in the slot. The copy is one step.
+/// Adds a copy of the row, if it has a number of the interval in the slot. The copy is at most one
+/// step.
 fn add_within<L: Ledger>(
     alloc: Global,
     row: &Row,

@@ -1,9 +1,8 @@
 //! What finds the rows of the two sides of a join.
-ghost use Rattle.std.specs.Prelude.{◌≡◌, Some, IfOk};
-ghost use Rattle.std.specs.FinMap.{get};
+ghost use Rattle.std.specs.Prelude.{◌≡◌, IfOk};
 ghost use Rattle.ncq_midfile.specs.Matching.{HaveSlots};
 ghost use Rattle.ncq_delta.specs.Joins.{left_slots, right_slots};
-ghost use Rattle.ncq_shelf.specs.KeptFiles.{KeptFile};
+ghost use Rattle.ncq_shelf.specs.KeptFiles.{AtFile};
 ghost use Rattle.ncq_shelf.specs.Stands.{IsThere};
 
 use ncq_row::Pairs;
@@ -20,10 +19,10 @@ pub(crate) fn index_sides(
 ) -> Result<(), AllocError>
     requires left { IsThere shelf.old left }
     requires right { IsThere shelf.old right }
-    requires lefts { (file : KeptFile) → get shelf.old left ≡ Some file
-        → HaveSlots (left_slots pairs.now) file.content.rows }
-    requires rights { (file : KeptFile) → get shelf.old right ≡ Some file
-        → HaveSlots (right_slots pairs.now) file.content.rows }
+    requires lefts { AtFile shelf.old left (λ file.
+        HaveSlots (left_slots pairs.now) file.content.rows) }
+    requires rights { AtFile shelf.old right (λ file.
+        HaveSlots (right_slots pairs.now) file.content.rows) }
     ensures { shelf.new ≡ shelf.old }
 {
     let lefts = left_slots(alloc, pairs)?;

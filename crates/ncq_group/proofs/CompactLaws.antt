@@ -10,7 +10,7 @@ use Rattle.ncq_midfile.specs.Made.{gained_at}
 use Rattle.ncq_midfile.specs.declared.signed.SignedRow.{SignedRow}
 use Rattle.ncq_fill.proofs.FileLaws.{wide_same}
 use Rattle.ncq_shelf.specs.KeptFiles.{KeptFile, Files}
-use Rattle.ncq_shelf.specs.Contents.{IsUpTo, IsWide, IsCompacted}
+use Rattle.ncq_shelf.specs.Contents.{IsUpTo, IsWide, HoldsItsContent, IsCompacted}
 use Rattle.ncq_shelf.proofs.CallerLemmas.{put_same, put_other, one_value}
 use Rattle.ncq_group.specs.Tables.{TableState, Facts}
 use Rattle.ncq_group.proofs.Fresh.{fresh_wide}
@@ -32,14 +32,14 @@ made_last : (change : ℕ) (rows : List Row) → AllByRecursion (λ r. r.number 
 made_last change [] = tt
 made_last change (row ∷ rows) = (omega arith, made_last change rows)
 
-module _ (change now : ℕ) (old new : KeptFile) (is : IsCompacted change old new) where
+module _ (change now : ℕ) (old new : KeptFile) (is : IsCompacted change old new) (holds : HoldsItsContent change old new) where
   compact_wide : IsWide old → IsWide new
   compact_wide wide =
       let width = expr_width old.expr in
       let list = rows_of new.content.rows in
-      let all = wide_same width (list ++ losses (up_to change old.content.rows)) (gains (up_to change old.content.rows)) is.content (gains_wide width (up_to change old.content.rows) (wide_up_to change width old.content.rows wide)) in
+      let all = wide_same width (list ++ losses (up_to change old.content.rows)) (gains (up_to change old.content.rows)) holds.content (gains_wide width (up_to change old.content.rows) (wide_up_to change width old.content.rows wide)) in
       let made = fresh_wide change width list (front_wide width list (losses (up_to change old.content.rows)) all) in
-      subst (λ e. AllByRecursion (λ r. length r.row ≡ expr_width e) new.content.rows) (sym is.expr) (subst (λ rows. AllByRecursion (λ r. length r.row ≡ width) rows) (sym is.gains) made)
+      subst (λ e. AllByRecursion (λ r. length r.row ≡ expr_width e) new.content.rows) (sym is.expr) (subst (λ rows. AllByRecursion (λ r. length r.row ≡ width) rows) (sym holds.gains) made)
 
   at_most : (rows : List SignedRow) → AllByRecursion (λ r. r.number ≤ change) rows → change ≤ now → AllByRecursion (λ r. r.number ≤ now) rows
   at_most [] all less = tt
@@ -48,10 +48,10 @@ module _ (change now : ℕ) (old new : KeptFile) (is : IsCompacted change old ne
   compact_last : change ≤ now → IsUpTo now new.content
   compact_last less = record {
     base = let b = is.base in omega arith;
-    last = at_most new.content.rows (subst (λ rows. AllByRecursion (λ r. r.number ≤ change) rows) (sym is.gains) (made_last change (rows_of new.content.rows))) less;
+    last = at_most new.content.rows (subst (λ rows. AllByRecursion (λ r. r.number ≤ change) rows) (sym holds.gains) (made_last change (rows_of new.content.rows))) less;
   }
 
-module _ (table : TableState) (facts : Facts table) (number change : ℕ) (old next : KeptFile) (at : get table.files number ≡ Some old) (is : IsCompacted change old next) (less : change ≤ table.number)
+module _ (table : TableState) (facts : Facts table) (number change : ℕ) (old next : KeptFile) (at : get table.files number ≡ Some old) (is : IsCompacted change old next) (holds : HoldsItsContent change old next) (less : change ≤ table.number)
     (new : Files) (put : new ≡ insert table.files number next) where
   here : get new number ≡ Some next
   here = subst (λ f. get f number ≡ Some next) (sym put) (put_same table.files number next)
@@ -78,11 +78,11 @@ module _ (table : TableState) (facts : Facts table) (number change : ℕ) (old n
   pub facts_compacted : Facts (record { files = new; next_file = table.next_file; number = table.number })
   facts_compacted = facts_like table (record { files = new; next_file = table.next_file; number = table.number }) facts put_up put_back
       (λ other file after. elim (cases_eq other number) [
-        | inl same ↦ subst IsWide (sym (one_value after (subst (λ n. get new n ≡ Some next) (sym same) here))) (compact_wide change table.number old next is (facts.wide number old at))
+        | inl same ↦ subst IsWide (sym (one_value after (subst (λ n. get new n ≡ Some next) (sym same) here))) (compact_wide change table.number old next is holds (facts.wide number old at))
         | inr differs ↦ facts.wide other file (sym (others other differs) ∙ after)
       ])
       (λ other file after. elim (cases_eq other number) [
-        | inl same ↦ subst (λ f. IsUpTo table.number f.content) (sym (one_value after (subst (λ n. get new n ≡ Some next) (sym same) here))) (compact_last change table.number old next is less)
+        | inl same ↦ subst (λ f. IsUpTo table.number f.content) (sym (one_value after (subst (λ n. get new n ≡ Some next) (sym same) here))) (compact_last change table.number old next is holds less)
         | inr differs ↦ facts.up_to other file (sym (others other differs) ∙ after)
       ])
       facts.below

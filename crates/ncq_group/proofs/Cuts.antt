@@ -8,7 +8,7 @@ use Rattle.ncq_group.specs.Grown.{IsCut, IsDropped}
 use Rattle.ncq_shelf.proofs.CallerLemmas.{gone_same, gone_other, there}
 use Rattle.ncq_group.proofs.Collects.{grounded_rest}
 use Rattle.ncq_group.proofs.Closures.{reader_above}
-use Rattle.ncq_group.proofs.Grown.{AreBelow, absent_from}
+use Rattle.ncq_group.proofs.Added.{AreBelow, absent_from}
 
 pub dropped_rest : (old : Files) (number : ℕ) → IsGrounded old → IsIdle old number → IsDropped old number (remove old number)
 dropped_rest old number grounded idle = record {

@@ -9,8 +9,18 @@ use Rattle.ncq_shelf.specs.KeptFiles.{KeptFile, Files}
 use Rattle.ncq_shelf.specs.Stands.{IsReadIn}
 use Rattle.ncq_shelf.specs.Contents.{AreUpTo}
 use Rattle.ncq_shelf.proofs.CallerLemmas.{there, one_value}
+use Rattle.ncq_count.proofs.CallerLemmas.{HaveSameExprs, expr_at}
 use Rattle.ncq_feed.specs.Feeds.{AreReady, AreFed}
 use Rattle.ncq_group.specs.Tables.{TableState, Facts}
+
+-- each file keeps its expression
+pub all_fed : (store : StoreState) (change : ChangeState) (old new : Files) → AreFed store change old new → HaveSameExprs old new
+all_fed store change old new fed number = elim (get old number) as (λ o. get old number ≡ o → expr_at (get new number) ≡ expr_at o) [
+  | Some file ↦ λ at.
+      let f = fed.each number file at in
+      ap expr_at f.1 ∙ ap (λ (k : KeptFile). Some k.expr) f.2.behind
+  | None ↦ λ none. ap expr_at (fed.no_other number none)
+] refl
 
 -- a file of these had the same expression and uses before
 record WasThere (old : Files) (number : ℕ) (file : KeptFile) : Type 0 where

@@ -1,6 +1,6 @@
 -- Files that are added for the parts of an expression.
-use Rattle.std.proofs.Common.{◌≡◌, ◌≢◌, ℕ, ◌<◌, ◌≤◌, ◌+◌, Some, None, ◌⊎◌, inl, inr, refl, sym, ap, ◌∙◌, subst, arith}
-use Rattle.std.proofs.lemmas.Bool.{cases_eq, cases_lt}
+use Rattle.std.proofs.Common.{◌≡◌, ℕ, ◌≤◌, ◌+◌, Some, ◌⊎◌, inl, inr, refl, sym, ap, subst, arith}
+use Rattle.std.proofs.lemmas.Bool.{cases_lt}
 use Rattle.std.specs.FinMap.{get, insert}
 use Rattle.ncq_plan.specs.declared.expr.Expr.{Expr}
 use Rattle.ncq_plan.specs.Exprs.{World}
@@ -16,22 +16,10 @@ use Rattle.ncq_shelf.specs.Contents.{IsUpTo, IsWide}
 use Rattle.ncq_feed.specs.Feeds.{AreReady}
 use Rattle.ncq_shelf.specs.Inputs.{AreInputs}
 use Rattle.ncq_shelf.specs.declared.inputs.Inputs.{Inputs}
-use Rattle.ncq_shelf.specs.declared.inputs.Inputs.TheVariants.{Nothing, One, Two}
 use Rattle.ncq_group.specs.Installs.{IsFresh}
 use Rattle.ncq_group.specs.Grown.{IsGrown, OnlyUnread}
-use Rattle.ncq_shelf.proofs.CallerLemmas.{put_same, put_other, one_value, only_told, sides_told}
-use Rattle.ncq_count.proofs.CallerLemmas.{OneEach, distinct_added}
-use Rattle.ncq_group.proofs.Collects.{stands_more, read_more}
-
-abbrev pub AreBelow : Files → ℕ → Type 0
-AreBelow files high = (number : ℕ) (file : KeptFile) → get files number ≡ Some file → number < high
-
--- no file has a number from the bound on
-pub absent_from : (files : Files) (high number : ℕ) → AreBelow files high → high ≤ number → get files number ≡ None
-absent_from files high number below above = elim (get files number) as (λ o. get files number ≡ o → o ≡ None) [
-  | Some file ↦ λ at. let b = below number file at in absurd (omega arith)
-  | None ↦ λ at. refl
-] refl
+use Rattle.ncq_group.proofs.Collects.{read_more}
+use Rattle.ncq_group.proofs.Added.{AreBelow, at_number, stays_added, from_added, grounded_added}
 
 -- an input of a file has a file, so what has no file is read by none
 pub unread_if_absent : (files : Files) (expr : Expr) → IsGrounded files → ((number : ℕ) → Stands files expr number → ⊥) → IsReadIn files expr → ⊥
@@ -86,56 +74,26 @@ module _ (now : ℕ) (world : World) where
 
   module _ (whole : Expr) (old : Files) (low : ℕ) (mid : Files) (number : ℕ) (new : Files) (content : FileState) (is : new ≡ insert mid number (record { expr = whole; uses = 0; content = content }))
       (g : IsGrown whole now world old low mid number) (absent : (other : ℕ) → Stands mid whole other → ⊥) where
-    abbrev added : KeptFile
-    added = record { expr = whole; uses = 0; content = content }
-
-    at_number : get new number ≡ Some added
-    at_number = subst (λ f. get f number ≡ Some added) (sym is) (put_same mid number added)
-
-    at_other : (other : ℕ) → other ≢ number → get new other ≡ get mid other
-    at_other other differs = subst (λ f. get f other ≡ get mid other) (sym is) (put_other mid number added other differs)
+    abbrev file_added : KeptFile
+    file_added = record { expr = whole; uses = 0; content = content }
 
     pub stays_mid : (other : ℕ) (file : KeptFile) → get mid other ≡ Some file → get new other ≡ Some file
-    stays_mid other file at = let b = g.below other file at in at_other other (λ same. absurd (omega arith)) ∙ at
+    stays_mid = stays_added whole mid number new content is g.ready.grounded g.below absent
 
-    from_new : (other : ℕ) (file : KeptFile) → get new other ≡ Some file → ((other ≡ number) × (file ≡ added)) ⊎ (get mid other ≡ Some file)
-    from_new other file at = elim (cases_eq other number) [
-      | inl same ↦ inl (same, one_value (subst (λ n. get new n ≡ Some file) same at) at_number)
-      | inr differs ↦ inr (sym (at_other other differs) ∙ at)
-    ]
+    from_new : (other : ℕ) (file : KeptFile) → get new other ≡ Some file → ((other ≡ number) × (file ≡ file_added)) ⊎ (get mid other ≡ Some file)
+    from_new = from_added whole mid number new content is g.ready.grounded g.below absent
+
+    here_new : get new number ≡ Some file_added
+    here_new = at_number whole mid number new content is g.ready.grounded g.below absent
 
     pub stands_added : Stands new whole number
-    stands_added = record { file = added; at = at_number; of = refl }
-
-    distinct_new : OneEach new
-    distinct_new = subst OneEach (sym is) (distinct_added mid g.ready.grounded number added (absent_from mid number number g.below (omega arith)) absent)
+    stands_added = record { file = file_added; at = here_new; of = refl }
 
     module _ (inputs : Inputs) (are : AreInputs mid whole inputs) where
-      pub input_stands : (input : Expr) → IsInput input whole → (below : ℕ) × Stands mid input below
-      input_stands input reads = elim inputs as (λ i. AreInputs mid whole i → (below : ℕ) × Stands mid input below) [
-        | Nothing ↦ λ a. absurd (a input reads)
-        | One only ↦ λ a. (only, only_told mid whole only a input reads)
-        | Two left right ↦ λ a. elim (sides_told mid whole left right a input reads) [ inl s ↦ (left, s) | inr s ↦ (right, s) ]
-      ] are
-
-      grounded_new : IsGrounded new
-      grounded_new = record {
-        distinct = distinct_new;
-        inputs = λ other file input at reads. elim (from_new other file at) [
-          | inl here ↦
-              let s = input_stands input (subst (λ f. IsInput input f.expr) here.1 reads) in
-              let b = g.below s.0 s.1.file s.1.at in
-              (s.0, subst (λ n. s.0 < n) (sym here.0) b, stands_more stays_mid s.1)
-          | inr before ↦
-              let b = g.ready.grounded.inputs other file input before reads in
-              (b.0, b.1, stands_more stays_mid b.2)
-        ];
-      }
-
-      module _ (formed : IsWellFormedExpr whole) (wide : IsWide added) (upto : IsUpTo now content) (holds : IsContent now content.rows (rows_in whole world)) where
+      module _ (formed : IsWellFormedExpr whole) (wide : IsWide file_added) (upto : IsUpTo now content) (holds : IsContent now content.rows (rows_in whole world)) where
         ready_new : AreReady now world new
         ready_new = record {
-          grounded = grounded_new;
+          grounded = grounded_added whole mid number new content is g.ready.grounded g.below absent inputs are;
           formed = λ other file at. elim (from_new other file at) [
             | inl here ↦ subst (λ f. IsWellFormedExpr f.expr) (sym here.1) formed
             | inr before ↦ g.ready.formed other file before
@@ -172,7 +130,7 @@ module _ (now : ℕ) (world : World) where
           ];
           dense = λ other above under. elim (cases_lt other number) [
             | inl less ↦ let d = g.dense other above less in (d.0, stays_mid other d.0 d.1)
-            | inr over ↦ let same : number ≡ other = omega arith in (added, subst (λ n. get new n ≡ Some added) same at_number)
+            | inr over ↦ let same : number ≡ other = omega arith in (file_added, subst (λ n. get new n ≡ Some file_added) same here_new)
           ];
           order = let o = g.order in omega arith;
           room = room;
@@ -182,7 +140,7 @@ module _ (now : ℕ) (world : World) where
     unread_add only other file at above = elim (from_new other file at) [
       | inl here ↦ inl (ap (λ f. f.expr) here.1)
       | inr before ↦ elim (only other file before above) [
-        | inl reads ↦ inr (record { reader = number; file = added; at = at_number; reads = reads })
+        | inl reads ↦ inr (record { reader = number; file = file_added; at = here_new; reads = reads })
         | inr r ↦ inr (read_more stays_mid r)
       ]
     ]

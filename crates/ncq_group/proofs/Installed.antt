@@ -18,7 +18,7 @@ use Rattle.ncq_group.specs.Grown.{IsGrown, OnlyUnread, IsCut}
 use Rattle.ncq_shelf.proofs.CallerLemmas.{put_same, put_other, one_value, there}
 use Rattle.ncq_shelf.proofs.CallerLemmas.{HasAll, stands_alike, read_alike, grounded_alike, uses_there, uses_back, wide_alike}
 use Rattle.ncq_group.proofs.Collects.{read_more}
-use Rattle.ncq_group.proofs.Grown.{absent_from}
+use Rattle.ncq_group.proofs.Added.{absent_from}
 
 module _ (expr : Expr) (world : World) (old : TableState) (facts : Facts old) (mid : Files) (high : ℕ) (g : IsGrown expr old.number world old.files old.next_file mid high) where
   -- the count of uses of a file has room for one more

@@ -2,6 +2,7 @@ pub mod Closures
 pub mod Collects
 pub mod Released
 pub mod Empty
+pub mod Added
 pub mod Grown
 pub mod Fresh
 pub mod Made

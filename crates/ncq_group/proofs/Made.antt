@@ -1,16 +1,18 @@
 -- The rows that are made for the parts of an expression without files.
-use Rattle.std.proofs.Common.{◌≡◌, ◌≢◌, ℕ, ◌+◌, ◌≤◌, List, [], ◌∷◌, ◌++◌, length, inl, inr, Some, sym, ap, ◌∙◌, subst, arith}
+use Rattle.std.proofs.Common.{◌≡◌, ◌≢◌, ℕ, ◌+◌, ◌≤◌, List, [], ◌∷◌, ◌++◌, length, inl, inr, Some, subst, arith}
 use Rattle.std.specs.List.{AllByRecursion}
 use Rattle.std.specs.FinMap.{get}
+use Rattle.ncq_plan.specs.ExprLists.{AreApart, IsIn}
 use Rattle.ncq_plan.specs.declared.expr.Expr.{Expr}
+use Rattle.ncq_plan.proofs.ExprListLaws.{in_either, without_one}
 use Rattle.ncq_plan.specs.Exprs.{World, rows_in}
 use Rattle.ncq_shelf.specs.Parts.{IsPart}
 use Rattle.ncq_shelf.specs.Parts.IsPart.{itself}
 use Rattle.ncq_shelf.specs.KeptFiles.{KeptFile, Files}
 use Rattle.ncq_shelf.specs.Stands.{Stands}
 use Rattle.ncq_group.specs.Closure.{IsKept}
-use Rattle.ncq_group.specs.Installs.{IsNamed, NamesTheMissing, rows_of_all}
-use Rattle.ncq_group.specs.Grown.{AreApart, HasMade}
+use Rattle.ncq_group.specs.Installs.{NamesTheMissing, rows_of_all}
+use Rattle.ncq_group.specs.Grown.{HasMade}
 use Rattle.ncq_group.proofs.Collects.{stands_more}
 
 all_map : {A : Type 0} (P Q : A → Type 0) → ((x : A) → P x → Q x) → (xs : List A) → AllByRecursion P xs → AllByRecursion Q xs
@@ -31,13 +33,20 @@ pub all_kept_more : (less more : Files) → ((number : ℕ) (file : KeptFile) �
 all_kept_more less more stays list all = all_map (IsKept less) (IsKept more) (kept_more less more stays) list all
 
 -- an expression with a file is none that has no file
-apart_one : (files : Files) (expr : Expr) (list : List Expr) → IsKept files expr → AllByRecursion (λ e. IsKept files e → ⊥) list → AllByRecursion (λ other. expr ≢ other) list
-apart_one files expr list kept unknown = all_map (λ e. IsKept files e → ⊥) (λ other. expr ≢ other) (λ other none same. none (subst (IsKept files) same kept)) list unknown
+apart_one : (files : Files) (expr : Expr) (list : List Expr) → IsKept files expr → AllByRecursion (λ e. IsKept files e → ⊥) list → IsIn expr list → ⊥
+apart_one files expr [] kept unknown is = is
+apart_one files expr (e ∷ list) kept unknown (inl same) = unknown.0 (subst (IsKept files) same kept)
+apart_one files expr (e ∷ list) kept unknown (inr more) = apart_one files expr list kept unknown.1 more
 
 apart_append : (files : Files) (list more : List Expr) → AreApart list → AllByRecursion (IsKept files) list → AreApart more → AllByRecursion (λ e. IsKept files e → ⊥) more → AreApart (list ++ more)
 apart_append files [] more apart kept others unknown = others
-apart_append files (e ∷ list) more apart kept others unknown =
-    (all_append (λ other. e ≢ other) list more apart.0 (apart_one files e more kept.0 unknown), apart_append files list more apart.1 kept.1 others unknown)
+apart_append files (e ∷ list) more apart kept others unknown = (
+  λ is. elim (in_either e list more is) [
+    | inl here ↦ apart.0 here
+    | inr there ↦ apart_one files e more kept.0 unknown there
+  ],
+  apart_append files list more apart.1 kept.1 others unknown,
+)
 
 total_append : (world : World) (list more : List Expr) → rows_of_all world (list ++ more) ≡ rows_of_all world list + rows_of_all world more
 total_append world [] more = omega arith
@@ -72,7 +81,7 @@ module _ (world : World) where
   -- the rows of one expression were made
   pub made_one : (whole : Expr) (old : Files) (before after : ℕ) → ((number : ℕ) → Stands old whole number → ⊥) → after ≤ before + length (rows_in whole world) → HasMade whole world old (whole ∷ []) before after
   made_one whole old before after none cost = record {
-    apart = (tt, tt);
+    apart = (λ is. is, tt);
     parts = (itself, tt);
     unknown = (λ kept. none kept.0 kept.1, tt);
     cost = omega arith;
@@ -84,43 +93,19 @@ module _ (world : World) where
       → HasMade whole world old (made ++ whole ∷ []) before after
   made_whole whole old mid made before middle after stays h kept none cost = made_then whole old mid made (whole ∷ []) before middle after stays h kept (made_one whole mid middle after none cost)
 
-  -- the list without the first of the expression's places
-  named_total : (expr : Expr) (list : List Expr) → IsNamed expr list
-      → (rest : List Expr) × (rows_of_all world list ≡ length (rows_in expr world) + rows_of_all world rest) × ((other : Expr) → IsNamed other list → expr ≢ other → IsNamed other rest)
-  named_total expr [] named = absurd named
-  named_total expr (e ∷ list) named = elim named [
-    | inl same ↦ (
-      list,
-      ap (λ x. length (rows_in x world) + rows_of_all world list) (sym same),
-      λ other is differs. elim is [
-        | inl e_is ↦ absurd (differs (same ∙ sym e_is))
-        | inr in_list ↦ in_list
-      ],
-    )
-    | inr in_list ↦
-        let below = named_total expr list in_list in (
-          e ∷ below.0,
-          (let h = below.1 in omega arith),
-          λ other is differs. elim is [
-            | inl here ↦ inl here
-            | inr there ↦ inr (below.2 other there differs)
-          ],
-        )
-  ]
-
-  all_named : (expr : Expr) (made list rest : List Expr) → ((other : Expr) → IsNamed other list → expr ≢ other → IsNamed other rest) → AllByRecursion (λ other. expr ≢ other) made → AllByRecursion (λ e. IsNamed e list) made → AllByRecursion (λ e. IsNamed e rest) made
+  all_named : (expr : Expr) (made list rest : List Expr) → ((other : Expr) → IsIn other list → expr ≢ other → IsIn other rest) → (IsIn expr made → ⊥) → AllByRecursion (λ e. IsIn e list) made → AllByRecursion (λ e. IsIn e rest) made
   all_named expr [] list rest less apart all = tt
-  all_named expr (e ∷ made) list rest less apart all = (less e all.0 apart.0, all_named expr made list rest less apart.1 all.1)
+  all_named expr (e ∷ made) list rest less apart all = (less e all.0 (λ same. apart (inl same)), all_named expr made list rest less (λ is. apart (inr is)) all.1)
 
-  apart_total : (made list : List Expr) → AreApart made → AllByRecursion (λ e. IsNamed e list) made → rows_of_all world made ≤ rows_of_all world list
+  apart_total : (made list : List Expr) → AreApart made → AllByRecursion (λ e. IsIn e list) made → rows_of_all world made ≤ rows_of_all world list
   apart_total [] list apart all = omega arith
   apart_total (e ∷ made) list apart all =
-      let split = named_total e list all.0 in
+      let split = without_one (λ expr. length (rows_in expr world)) e list all.0 in
       let below = apart_total made split.0 apart.1 (all_named e made list split.0 split.2 apart.0 all.1) in
       let total = split.1 in
       omega arith
 
-  named : (whole : Expr) (old : Files) (missing made : List Expr) → NamesTheMissing old whole missing → AllByRecursion (λ part. IsPart part whole) made → AllByRecursion (λ part. IsKept old part → ⊥) made → AllByRecursion (λ e. IsNamed e missing) made
+  named : (whole : Expr) (old : Files) (missing made : List Expr) → NamesTheMissing old whole missing → AllByRecursion (λ part. IsPart part whole) made → AllByRecursion (λ part. IsKept old part → ⊥) made → AllByRecursion (λ e. IsIn e missing) made
   named whole old missing [] names parts unknown = tt
   named whole old missing (e ∷ made) names parts unknown = (names e parts.0 unknown.0, named whole old missing made names parts.1 unknown.1)
 

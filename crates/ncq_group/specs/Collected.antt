@@ -1,7 +1,7 @@
 -- What is taken away below a file. Only the crate's private clauses cite it.
 use Rattle.std.specs.Prelude.{◌≡◌, ℕ, Some}
 use Rattle.std.specs.FinMap.{get}
-use Rattle.ncq_shelf.specs.KeptFiles.{KeptFile, Files}
+use Rattle.ncq_shelf.specs.KeptFiles.{AtFile, EachFile, Files}
 use Rattle.ncq_shelf.specs.Stands.{IsReadIn}
 use Rattle.ncq_group.specs.Closure.{IsNeeded}
 
@@ -9,10 +9,9 @@ use Rattle.ncq_group.specs.Closure.{IsNeeded}
 -- that some file read is still read, and the file of this number is used or read, if it is still
 -- there
 pub record IsCollected (old : Files) (number : ℕ) (new : Files) : Type 0 where
-  pub stays : (other : ℕ) (file : KeptFile) → get new other ≡ Some file → get old other ≡ Some file
+  pub stays : EachFile new (λ other file. get old other ≡ Some file)
   pub kept : (other : ℕ) → IsNeeded old other
       → IsNeeded new other × (get new other ≡ get old other)
-  pub read : (other : ℕ) (file : KeptFile) → get new other ≡ Some file → file.uses ≡ 0
-      → IsReadIn old file.expr → IsReadIn new file.expr
-  pub done : (file : KeptFile) → get new number ≡ Some file → file.uses ≡ 0
-      → IsReadIn new file.expr
+  pub read : EachFile new (λ other file.
+      file.uses ≡ 0 → IsReadIn old file.expr → IsReadIn new file.expr)
+  pub done : AtFile new number (λ file. file.uses ≡ 0 → IsReadIn new file.expr)

@@ -1,13 +1,14 @@
 -- Files that were added for parts of an expression. Only the crate's private clauses cite it.
-use Rattle.std.specs.Prelude.{◌≡◌, ◌≢◌, ◌⊎◌, ℕ, ◌+◌, ◌<◌, ◌≤◌, List, [], ◌∷◌, map, Some, None}
+use Rattle.std.specs.Prelude.{◌≡◌, ◌≢◌, ◌⊎◌, ℕ, ◌+◌, ◌<◌, ◌≤◌, List, map, Some, None}
 use Rattle.std.specs.FinMap.{get, insert}
 use Rattle.std.specs.List.{AllByRecursion}
+use Rattle.ncq_plan.specs.ExprLists.{AreApart}
 use Rattle.ncq_plan.specs.declared.expr.Expr.{Expr}
 use Rattle.ncq_plan.specs.Exprs.{World, operators}
 use Rattle.ncq_row.specs.Embeddings.{Row}
 use Rattle.ncq_midfile.specs.Made.{gained_at}
 use Rattle.ncq_shelf.specs.Parts.{IsPart}
-use Rattle.ncq_shelf.specs.KeptFiles.{KeptFile, Files}
+use Rattle.ncq_shelf.specs.KeptFiles.{AtFile, EachFile, Files, KeptFile}
 use Rattle.ncq_shelf.specs.Stands.{IsReadIn, IsGrounded}
 use Rattle.ncq_feed.specs.Feeds.{AreReady}
 use Rattle.ncq_group.specs.Closure.{IsKept}
@@ -19,13 +20,11 @@ use Rattle.ncq_group.specs.declared.filed.Filed.{Filed}
 pub record IsGrown (whole : Expr) (now : ℕ) (world : World) (old : Files) (low : ℕ) (new : Files)
     (high : ℕ) : Type 0 where
   pub ready : AreReady now world new
-  pub stays : (number : ℕ) (file : KeptFile) → get old number ≡ Some file
-      → get new number ≡ Some file
-  pub before : (number : ℕ) (file : KeptFile) → get new number ≡ Some file → number < low
-      → get old number ≡ Some file
-  pub fresh : (number : ℕ) (file : KeptFile) → get new number ≡ Some file → low ≤ number
-      → (file.uses ≡ 0) × IsFresh whole now file
-  pub below : (number : ℕ) (file : KeptFile) → get new number ≡ Some file → number < high
+  pub stays : EachFile old (λ number file. get new number ≡ Some file)
+  pub before : EachFile new (λ number file. number < low → get old number ≡ Some file)
+  pub fresh : EachFile new (λ number file.
+      low ≤ number → (file.uses ≡ 0) × IsFresh whole now file)
+  pub below : EachFile new (λ number file. number < high)
   pub dense : (number : ℕ) → low ≤ number → number < high
       → (file : KeptFile) × (get new number ≡ Some file)
   pub order : low ≤ high
@@ -34,13 +33,7 @@ pub record IsGrown (whole : Expr) (now : ℕ) (world : World) (old : Files) (low
 -- the new files that no file reads are those of such expressions
 abbrev pub OnlyUnread : (Expr → Type 0) → ℕ → Files → Type 0
 OnlyUnread Such low new =
-    (number : ℕ) (file : KeptFile) → get new number ≡ Some file → low ≤ number
-    → Such file.expr ⊎ IsReadIn new file.expr
-
--- no expression stands twice in the list
-abbrev pub AreApart : List Expr → Type 0
-AreApart [] = Unit {0}
-AreApart (expr ∷ list) = AllByRecursion (λ other. expr ≢ other) list × AreApart list
+    EachFile new (λ number file. low ≤ number → Such file.expr ⊎ IsReadIn new file.expr)
 
 -- the rows of these parts of the expression were made, none of which had a file
 pub record HasMade (whole : Expr) (world : World) (old : Files) (made : List Expr)
@@ -74,6 +67,5 @@ pub record IsCut (old : Files) (low : ℕ) (new : Files) : Type 0 where
 pub record IsDropped (old : Files) (number : ℕ) (new : Files) : Type 0 where
   pub grounded : IsGrounded new
   pub others : (other : ℕ) → other ≢ number → get new other ≡ get old other
-  pub here : (file : KeptFile) → get new number ≡ Some file → get old number ≡ Some file
-  pub read : (file : KeptFile) → get new number ≡ Some file → file.uses ≡ 0
-      → IsReadIn new file.expr
+  pub here : AtFile new number (λ file. get old number ≡ Some file)
+  pub read : AtFile new number (λ file. file.uses ≡ 0 → IsReadIn new file.expr)

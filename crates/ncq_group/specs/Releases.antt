@@ -1,7 +1,7 @@
 -- What a release leaves.
 use Rattle.std.specs.Prelude.{◌≡◌, ℕ, ◌<◌, ◌-◌, Some}
 use Rattle.std.specs.FinMap.{get, insert}
-use Rattle.ncq_shelf.specs.KeptFiles.{KeptFile, Files}
+use Rattle.ncq_shelf.specs.KeptFiles.{EachFile, Files, KeptFile}
 use Rattle.ncq_group.specs.Closure.{IsNeeded}
 
 -- the file of this number has a use
@@ -21,6 +21,6 @@ pub record IsReleased (old : Files) (number : ℕ) (new : Files) : Type 0 where
   pub at : get old number ≡ Some file
   pub kept : (other : ℕ) → IsNeeded (with_use_less old number file) other
       → get new other ≡ get (with_use_less old number file) other
-  pub stays : (other : ℕ) (state : KeptFile) → get new other ≡ Some state
-      → get (with_use_less old number file) other ≡ Some state
-      × IsNeeded (with_use_less old number file) other
+  pub stays : EachFile new (λ other state.
+      get (with_use_less old number file) other ≡ Some state
+      × IsNeeded (with_use_less old number file) other)

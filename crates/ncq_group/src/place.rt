@@ -1,22 +1,23 @@
 //! Files for an expression and its parts, bottom up.
-ghost use Rattle.std.specs.Prelude.{◌≡◌, ℕ, ◌+◌, ◌<◌, ◌≤◌, ◌^◌, List, length};
-ghost use Rattle.std.specs.Prelude.{OnOk, OnErr, IfOk, Some, None};
-ghost use Rattle.std.specs.FinMap.{get};
+ghost use Rattle.std.specs.Prelude.{◌≡◌, ℕ, ◌+◌, ◌<◌, ◌≤◌, ◌^◌, List};
+ghost use Rattle.std.specs.Prelude.{OnOk, OnErr, IfOk, Some};
 ghost use Rattle.std.specs.List.{AllByRecursion};
 ghost use Rattle.ncq_change.specs.Stores.{world_in};
 ghost use Rattle.ncq_plan.specs.declared.expr.Expr.{Expr as an_expr};
 ghost use Rattle.ncq_plan.specs.Exprs.{operators};
 ghost use Rattle.ncq_plan.specs.WellFormed.{IsWellFormedExpr};
-ghost use Rattle.ncq_shelf.specs.KeptFiles.{KeptFile};
+ghost use Rattle.ncq_shelf.specs.KeptFiles.{EachFile};
 ghost use Rattle.ncq_shelf.specs.Parts.{IsInput};
 ghost use Rattle.ncq_shelf.specs.Stands.{IsGrounded, Stands};
 ghost use Rattle.ncq_shelf.specs.Inputs.{AreInputs};
 ghost use Rattle.ncq_feed.specs.Feeds.{AreReady};
+ghost use Rattle.ncq_count.specs.Counted.{AreCounted};
 ghost use Rattle.ncq_group.specs.Closure.{IsKept};
 ghost use Rattle.ncq_group.specs.Grown.{HasMade, IsGrown, IsPut, OnlyUnread};
 
 use crate::filed::Filed;
 use ncq_base::Steps;
+use ncq_fill::first_rows;
 use ncq_midfile::MidFile;
 use ncq_plan::Expr;
 use ncq_row::Rows;
@@ -36,12 +37,13 @@ pub(crate) fn place<L: Ledger>(
     steps: &mut Steps<L>,
 ) -> Result<u64, AllocError>
     requires ready { AreReady store.now.changes (world_in store.now) filed.old.shelf }
-    requires below { (number : ℕ) (file : KeptFile) → get filed.old.shelf number ≡ Some file
-        → number < filed.old.next }
+    requires counted { AreCounted filed.old.shelf filed.old.groups }
+    requires below { EachFile filed.old.shelf (λ number file. number < filed.old.next) }
     requires formed { IsWellFormedExpr expr.now }
     requires room { filed.old.next + operators expr.now < 2 ^ 64 }
     ensures grown { IsGrown expr.now store.now.changes (world_in store.now)
         filed.old.shelf filed.old.next filed.new.shelf filed.new.next }
+    ensures counted { AreCounted filed.new.shelf filed.new.groups }
     ensures stands { IfOk result (λ number. Stands filed.new.shelf expr.now number) }
     ensures unread { OnOk result (OnlyUnread (λ e. e ≡ expr.now) filed.old.next filed.new.shelf) }
     ensures cost { (made : List an_expr)
@@ -52,7 +54,7 @@ pub(crate) fn place<L: Ledger>(
     if let Some(number) = filed.shelf.find(expr) {
         return Ok(number);
     }
-    let rows = filed.shelf.first_rows(alloc, expr, inputs, store, steps)?;
+    let rows = first_rows(alloc, &mut filed.shelf, expr, inputs, store, steps)?;
     let number = put(alloc, filed, expr, inputs, store.changes(), rows)?;
     Ok(number)
 }
@@ -67,12 +69,13 @@ fn place_inputs<L: Ledger>(
     steps: &mut Steps<L>,
 ) -> Result<Inputs, AllocError>
     requires ready { AreReady store.now.changes (world_in store.now) filed.old.shelf }
-    requires below { (number : ℕ) (file : KeptFile) → get filed.old.shelf number ≡ Some file
-        → number < filed.old.next }
+    requires counted { AreCounted filed.old.shelf filed.old.groups }
+    requires below { EachFile filed.old.shelf (λ number file. number < filed.old.next) }
     requires formed { IsWellFormedExpr expr.now }
     requires room { filed.old.next + operators expr.now < 2 ^ 64 }
     ensures grown { IsGrown expr.now store.now.changes (world_in store.now)
         filed.old.shelf filed.old.next filed.new.shelf filed.new.next }
+    ensures counted { AreCounted filed.new.shelf filed.new.groups }
     ensures room { filed.new.next + 1 ≤ filed.old.next + operators expr.now }
     ensures inputs { IfOk result (λ inputs. AreInputs filed.new.shelf expr.now inputs) }
     ensures unread { OnOk result (OnlyUnread (λ e. IsInput e expr.now)
@@ -109,16 +112,22 @@ fn put(
     rows: Rows,
 ) -> Result<u64, AllocError>
     requires grounded { IsGrounded filed.old.shelf }
-    requires absent { get filed.old.shelf filed.old.next ≡ None }
+    requires counted { AreCounted filed.old.shelf filed.old.groups }
+    requires below { EachFile filed.old.shelf (λ number file. number < filed.old.next) }
     requires new { (number : ℕ) → Stands filed.old.shelf expr.now number → ⊥ }
     requires inputs { AreInputs filed.old.shelf expr.now inputs }
     requires room { filed.old.next + 1 < 2 ^ 64 }
     ensures ok { IfOk result (λ number. IsPut filed.old number expr.now now rows filed.new) }
     ensures err { OnErr result (filed.new ≡ filed.old) }
+    ensures counted { AreCounted filed.new.shelf filed.new.groups }
 {
     let content = MidFile::new(alloc, now, rows)?;
     let number = filed.next;
     filed.shelf.add(alloc, number, expr, inputs, content)?;
+    if let Err(refused) = filed.groups.count_in(&filed.shelf, number) {
+        let _inputs = filed.shelf.remove(number);
+        return Err(refused);
+    }
     filed.next = number + 1;
     Ok(number)
 }

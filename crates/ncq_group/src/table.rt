@@ -1,5 +1,5 @@
 //! The table of shared files.
-ghost use Rattle.std.specs.Prelude.{◌≡◌, ℕ, ◌+◌, ◌-◌, ◌<◌, ◌≤◌, ◌^◌, List, Some, IfOk, OnOk, OnErr};
+ghost use Rattle.std.specs.Prelude.{◌≡◌, ℕ, ◌+◌, ◌-◌, ◌<◌, ◌≤◌, ◌^◌, List, IfOk, OnOk, OnErr};
 ghost use Rattle.std.specs.FinMap.{empty, get, insert, len};
 ghost use Rattle.std.specs.List.{AllByRecursion};
 ghost use Rattle.std.specs.Option.{option_map};
@@ -8,14 +8,14 @@ ghost use Rattle.ncq_plan.specs.WellFormed.{IsWellFormedExpr};
 ghost use Rattle.ncq_midfile.specs.Content.{IsSoundAt};
 ghost use Rattle.ncq_change.specs.Stores.{world_in};
 ghost use Rattle.ncq_signature.specs.Groups.{AreGroupLines};
-ghost use Rattle.ncq_shelf.specs.KeptFiles.{KeptFile};
+ghost use Rattle.ncq_shelf.specs.KeptFiles.{AtFile, EachFile, KeptFile};
 ghost use Rattle.ncq_shelf.specs.Stands.{IsThere};
-ghost use Rattle.ncq_shelf.specs.Contents.{Fits, IsCompacted, cut_to};
+ghost use Rattle.ncq_shelf.specs.Contents.{Fits, HoldsItsContent, IsCompacted, cut_to};
 ghost use Rattle.ncq_feed.specs.Feeds.{IsPreparedFrom, AreFed, NamesTheFed, world_after, feed_work};
 ghost use Rattle.ncq_count.specs.FileExprs.{exprs_of};
 ghost use Rattle.ncq_group.specs.Installs.{IsInstalled, NamesTheMissing, rows_of_all};
 ghost use Rattle.ncq_group.specs.Releases.{HasUse, IsReleased};
-ghost use Rattle.ncq_group.specs.Tables.{Facts};
+ghost use Rattle.ncq_group.specs.Tables.{Facts, mark_of};
 
 use crate::collect::collect;
 use crate::filed::Filed;
@@ -23,9 +23,10 @@ use crate::mark::GroupMark;
 use crate::place::place;
 use crate::undo::cut;
 use ncq_base::{FileId, Sequence, Steps};
-use ncq_count::CountedShelf;
+use ncq_count::Groups;
 use ncq_midfile::MidFile;
 use ncq_plan::Expr;
+use ncq_shelf::Shelf;
 use ncq_signature::GroupLines;
 use ncq_source::{Change, Store};
 use std::alloc::{AllocError, Global};
@@ -41,23 +42,16 @@ pub struct GroupTable {
 }
 
 impl Model for GroupTable {
-    ghost use Rattle.ncq_group.specs.Tables.{TableState, table_code, Facts};
+    ghost use Rattle.ncq_group.specs.Tables.{TableState, table_code};
+    ghost use Rattle.ncq_group.specs.Inside.{IsInOrder, table_of};
 
     ghost Value = { TableState };
 
     ghost coded = { table_code };
 
-    ghost view = { λ t. record {
-      files = t.filed.shelf;
-      next_file = t.filed.next;
-      number = t.number;
-    } };
+    ghost view = { λ t. table_of t.filed t.number };
 
-    ghost invariant = { λ t. Facts (record {
-      files = t.filed.shelf;
-      next_file = t.filed.next;
-      number = t.number;
-    }) };
+    ghost invariant = { λ t. IsInOrder t.filed t.number };
 }
 
 impl GroupTable {
@@ -69,7 +63,8 @@ impl GroupTable {
     {
         GroupTable {
             filed: Filed {
-                shelf: CountedShelf::new(alloc),
+                shelf: Shelf::new(alloc),
+                groups: Groups::new(alloc),
                 next: 0,
             },
             number: 0,
@@ -80,7 +75,8 @@ impl GroupTable {
     pub fn facts(&self)
         ensures { Facts self.now }
     {
-        let _filed = &self.filed;
+        // A look at a field is what gives a proof the invariant.
+        let _ = &self.filed;
     }
 
     /// The change up to which the files stand.
@@ -107,8 +103,7 @@ impl GroupTable {
     /// The rows of a file. It takes no memory.
     pub fn file(&self, file: FileId) -> &MidFile
         requires { IsThere self.now.files file.0 }
-        ensures { (kept : KeptFile) → get self.now.files file.0 ≡ Some kept
-            → result.now ≡ kept.content }
+        ensures { AtFile self.now.files file.0 (λ kept. result.now ≡ kept.content) }
     {
         self.filed.shelf.content(file.0)
     }
@@ -118,19 +113,23 @@ impl GroupTable {
     pub fn groups(&self, alloc: Global) -> Result<GroupLines, AllocError>
         ensures { IfOk result (AreGroupLines (exprs_of self.now.files)) }
     {
-        self.filed.shelf.groups(alloc)
+        self.filed.groups.lines(alloc, &self.filed.shelf)
     }
 
     /// How far the table is now. It takes no memory.
     pub fn mark(&self) -> GroupMark
-        ensures { result ≡ (self.now.number, self.now.next_file) }
+        ensures { result ≡ mark_of self.now }
     {
-        GroupMark::new(self.number, self.filed.next)
+        GroupMark {
+            number: self.number,
+            next_file: self.filed.next,
+        }
     }
 
     /// One more use of the expression. The answer is the number of its file; those of its parts
-    /// that have no file get one, with the rows of now. After an error the table is as it was. Each
-    /// row of a new file is one step, whatever it answers. The only error is that memory ran out.
+    /// that have no file get one, with the rows of now. After an error the table is as it was. It
+    /// takes at most one step for each row of a new file, whatever it answers. The only error is
+    /// that memory ran out.
     pub fn install<L: Ledger>(
         &mut self,
         alloc: Global,
@@ -141,8 +140,7 @@ impl GroupTable {
         requires formed { IsWellFormedExpr expr.now }
         requires number { store.now.changes ≡ self.old.number }
         requires fits { Fits self.old.number (world_in store.now) self.old.files }
-        requires uses { (number : ℕ) (file : KeptFile) → get self.old.files number ≡ Some file
-            → file.uses < 2 ^ 64 - 1 }
+        requires uses { EachFile self.old.files (λ number file. file.uses < 2 ^ 64 - 1) }
         requires room { self.old.next_file ≤ 2 ^ 64 - 257 }
         ensures ok { IfOk result (λ file. IsInstalled expr.now self.old self.new file.0) }
         ensures fits { Fits self.old.number (world_in store.now) self.new.files }
@@ -161,8 +159,7 @@ impl GroupTable {
                 Ok(FileId(number))
             }
             Err(refused) => {
-                cut(&mut self.filed.shelf, low, self.filed.next);
-                self.filed.next = low;
+                cut(&mut self.filed, low);
                 Err(refused)
             }
         }
@@ -178,13 +175,13 @@ impl GroupTable {
     {
         let uses = self.filed.shelf.uses(file.0);
         self.filed.shelf.set_uses(file.0, uses - 1);
-        collect(&mut self.filed.shelf, file.0);
+        collect(&mut self.filed, file.0);
     }
 
     /// Gives each file the signed rows that the change makes of its expression, under the number of
-    /// the change. The answer names each file that got rows. After an error the table is as it
-    /// was. Each signed row is one step, whatever it answers. The only error is that memory ran
-    /// out.
+    /// the change. The answer names each file that got rows. After an error the table is as it was.
+    /// It takes at most one step for each signed row, whatever it answers. The only error is that
+    /// memory ran out.
     pub fn feed<L: Ledger>(
         &mut self,
         alloc: Global,
@@ -205,7 +202,7 @@ impl GroupTable {
         ensures err { OnErr result (self.new ≡ self.old) }
         ensures cost { steps.new ≤ steps.old + feed_work store.now change.now self.old.files }
     {
-        let numbers = self.filed.shelf.feed(alloc, change, store, steps)?;
+        let numbers = ncq_feed::feed(alloc, &mut self.filed.shelf, change, store, steps)?;
         self.number += 1;
         Ok(numbers)
     }
@@ -213,37 +210,35 @@ impl GroupTable {
     /// Takes the signed rows of the changes after the mark away, and makes both numbers those of
     /// the mark, at which each file of now stood. It takes no memory.
     pub fn roll_back(&mut self, mark: GroupMark)
-        requires number { mark.0 ≤ self.old.number }
-        requires next_file { mark.1 ≤ self.old.next_file }
-        requires base { (number : ℕ) (file : KeptFile) → get self.old.files number ≡ Some file
-            → file.content.base ≤ mark.0 }
-        requires below { (number : ℕ) (file : KeptFile) → get self.old.files number ≡ Some file
-            → number < mark.1 }
-        ensures number { self.new.number ≡ mark.0 }
-        ensures next_file { self.new.next_file ≡ mark.1 }
-        ensures files { (number : ℕ)
-            → get self.new.files number ≡ option_map (cut_to mark.0) (get self.old.files number) }
+        requires number { mark.number ≤ self.old.number }
+        requires next_file { mark.next_file ≤ self.old.next_file }
+        requires base { EachFile self.old.files (λ number file. file.content.base ≤ mark.number) }
+        requires below { EachFile self.old.files (λ number file. number < mark.next_file) }
+        ensures number { self.new.number ≡ mark.number }
+        ensures next_file { self.new.next_file ≡ mark.next_file }
+        ensures files { (number : ℕ) → get self.new.files number
+            ≡ option_map (cut_to mark.number) (get self.old.files number) }
     {
-        self.filed.shelf.roll_back(mark.number());
-        self.filed.next = mark.next();
-        self.number = mark.number();
+        self.filed.shelf.roll_back(mark.number);
+        self.filed.next = mark.next_file;
+        self.number = mark.number;
     }
 
     /// Makes a change the base of a file: it has then the rows that are left there, each as one
-    /// that is there from the base on. After an error the table is as it was. The only error is that
-    /// memory ran out.
+    /// that is there from the base on. After an error the table is as it was. The only error is
+    /// that memory ran out.
     pub fn compact(&mut self, alloc: Global, file: FileId, change: u64) -> Result<(), AllocError>
         requires there { IsThere self.old.files file.0 }
-        requires base { (kept : KeptFile) → get self.old.files file.0 ≡ Some kept
-            → kept.content.base ≤ change }
-        requires last { (kept : KeptFile) → get self.old.files file.0 ≡ Some kept
-            → AllByRecursion (λ r. r.number ≤ change) kept.content.rows }
-        requires sound { (kept : KeptFile) → get self.old.files file.0 ≡ Some kept
-            → IsSoundAt change kept.content.rows }
+        requires base { AtFile self.old.files file.0 (λ kept. kept.content.base ≤ change) }
+        requires last { AtFile self.old.files file.0 (λ kept.
+            AllByRecursion (λ r. r.number ≤ change) kept.content.rows) }
+        requires sound { AtFile self.old.files file.0 (λ kept. IsSoundAt change kept.content.rows) }
         requires number { change ≤ self.old.number }
-        ensures ok { OnOk result ((kept : KeptFile) → get self.old.files file.0 ≡ Some kept
-            → (next : KeptFile) × (self.new.files ≡ insert self.old.files file.0 next)
-            × IsCompacted change kept next) }
+        ensures ok { OnOk result (AtFile self.old.files file.0 (λ kept.
+            (next : KeptFile) × (self.new.files ≡ insert self.old.files file.0 next)
+            × IsCompacted change kept next)) }
+        ensures rows { OnOk result (AtFile self.old.files file.0 (λ kept.
+            AtFile self.new.files file.0 (λ next. HoldsItsContent change kept next))) }
         ensures err { OnErr result (self.new ≡ self.old) }
         ensures next_file { self.new.next_file ≡ self.old.next_file }
         ensures number { self.new.number ≡ self.old.number }

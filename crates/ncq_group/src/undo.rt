@@ -1,36 +1,41 @@
 //! Giving up new files.
-ghost use Rattle.std.specs.Prelude.{◌≡◌, ℕ, ◌<◌, ◌≤◌, Some};
-ghost use Rattle.std.specs.FinMap.{get};
-ghost use Rattle.ncq_shelf.specs.KeptFiles.{KeptFile};
+ghost use Rattle.std.specs.Prelude.{◌≡◌, ◌<◌, ◌≤◌};
+ghost use Rattle.ncq_shelf.specs.KeptFiles.{EachFile};
 ghost use Rattle.ncq_shelf.specs.Stands.{IsGrounded};
+ghost use Rattle.ncq_count.specs.Counted.{AreCounted};
 ghost use Rattle.ncq_group.specs.Grown.{IsCut, IsDropped};
 
-use ncq_count::CountedShelf;
+use crate::filed::{Filed, take_out};
 
-/// Takes away the files from this number on, none of which has a use. It takes no memory.
-pub(crate) fn cut(shelf: &mut CountedShelf, low: u64, high: u64)
-    requires grounded { IsGrounded shelf.old }
-    requires below { (number : ℕ) (file : KeptFile) → get shelf.old number ≡ Some file
-        → number < high }
-    requires unused { (number : ℕ) (file : KeptFile) → get shelf.old number ≡ Some file
-        → low ≤ number → file.uses ≡ 0 }
-    requires order { low ≤ high }
-    ensures { IsCut shelf.old low shelf.new }
+/// Takes away the files from this number on, none of which has a use; it is the next again. It
+/// takes no memory.
+pub(crate) fn cut(filed: &mut Filed, low: u64)
+    requires grounded { IsGrounded filed.old.shelf }
+    requires counted { AreCounted filed.old.shelf filed.old.groups }
+    requires below { EachFile filed.old.shelf (λ number file. number < filed.old.next) }
+    requires unused { EachFile filed.old.shelf (λ number file. low ≤ number → file.uses ≡ 0) }
+    requires order { low ≤ filed.old.next }
+    ensures cut { IsCut filed.old.shelf low filed.new.shelf }
+    ensures counted { AreCounted filed.new.shelf filed.new.groups }
+    ensures next { filed.new.next ≡ low }
 {
-    let mut next = high;
-    while low < next {
-        next -= 1;
-        drop_idle(shelf, next);
+    while low < filed.next {
+        let last = filed.next - 1;
+        drop_idle(filed, last);
+        filed.next = last;
     }
 }
 
 /// Takes the file away if it is idle.
-fn drop_idle(shelf: &mut CountedShelf, number: u64)
-    requires { IsGrounded shelf.old }
-    ensures { IsDropped shelf.old number shelf.new }
+fn drop_idle(filed: &mut Filed, number: u64)
+    requires grounded { IsGrounded filed.old.shelf }
+    requires counted { AreCounted filed.old.shelf filed.old.groups }
+    ensures dropped { IsDropped filed.old.shelf number filed.new.shelf }
+    ensures counted { AreCounted filed.new.shelf filed.new.groups }
+    ensures next { filed.new.next ≡ filed.old.next }
 {
-    if !shelf.is_idle(number) {
+    if !filed.shelf.is_idle(number) {
         return;
     }
-    let _inputs = shelf.remove(number);
+    let _inputs = take_out(filed, number);
 }

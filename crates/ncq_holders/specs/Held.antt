@@ -23,12 +23,14 @@ is_holder held atom number =
 -- the file has had the atom, too; all else is as before
 abbrev pub Notes : Held → Atom → ℕ → Held → Type 0
 Notes old atom number new =
-    (a : Atom) (n : ℕ) → is_holder new a n ≡ (is_holder old a n || (same_atom atom a && nat_eq number n))
+    (a : Atom) (n : ℕ) → is_holder new a n ≡ (is_holder old a n || (same_atom atom a && nat_eq
+    number n))
 
 -- the file has not had the atom; all else is as before
 abbrev pub Forgets : Held → Atom → ℕ → Held → Type 0
 Forgets old atom number new =
-    (a : Atom) (n : ℕ) → is_holder new a n ≡ (is_holder old a n && not (same_atom atom a && nat_eq number n))
+    (a : Atom) (n : ℕ) → is_holder new a n ≡ (is_holder old a n && not (same_atom atom a && nat_eq
+    number n))
 
 -- the same files have had the same atoms
 abbrev pub HaveSame : Held → Held → Type 0

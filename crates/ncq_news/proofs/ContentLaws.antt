@@ -1,15 +1,14 @@
--- The signed rows of a file lead from nothing to its content, and those behind a number from the content there.
-use Rattle.std.proofs.Common.{◌≡◌, ℕ, ◌+◌, ◌≤◌, Bool, true, false, cond, not, nat_le, nat_lt, List, [], ◌∷◌, refl, sym, ◌∙◌, ap, arith}
+-- The signed rows of a file lead from nothing to its content.
+use Rattle.std.proofs.Common.{◌≡◌, ℕ, ◌+◌, ◌≤◌, Bool, true, false, cond, not, List, [], ◌∷◌, refl, sym, ◌∙◌, ap, arith}
 use Rattle.std.specs.List.{filter, AllByRecursion}
 use Rattle.std.proofs.lemmas.Bool.{le-leb}
-use Rattle.std.proofs.lemmas.Bool.Decides.{nat_tests}
 use Rattle.ncq_base.specs.Counts.{total_by}
-use Rattle.ncq_base.proofs.CountLaws.{total_by-append, total_by-add, total_by-congr, total_by-filter, total_by-map}
+use Rattle.ncq_base.proofs.CountLaws.{total_by-append, total_by-congr, total_by-filter, total_by-map}
 use Rattle.ncq_row.specs.Embeddings.{Row}
 use Rattle.ncq_plan.specs.Totals.{plus_total, minus_total, LeadsTo}
-use Rattle.ncq_midfile.specs.Content.{gains, losses, up_to, since, IsContent}
+use Rattle.ncq_midfile.specs.Content.{gains, losses, up_to, IsContent}
 use Rattle.ncq_midfile.specs.declared.signed.SignedRow.{SignedRow}
-use Rattle.ncq_news.specs.News.{unnumbered}
+use Rattle.ncq_delta.specs.Leads.{unnumbered}
 
 -- what a row that came in weighs, and what one that went out weighs
 module _ (f : Row → ℕ) where
@@ -40,16 +39,6 @@ module _ (f : Row → ℕ) where
       turned true n = refl
       turned false n = refl
 
--- what rows weigh is what those up to a number and those behind it weigh
-one_apart : (k n w : ℕ) → w ≡ cond (nat_le k n) w 0 + cond (nat_lt n k) w 0
-one_apart k n w = grind (arith, nat_tests)
-
-apart : (w : SignedRow → ℕ) (n : ℕ) (rows : List SignedRow) → total_by w rows ≡ total_by w (up_to n rows) + total_by w (since n rows)
-apart w n rows =
-    total_by-congr w (λ r. cond (nat_le r.number n) (w r) 0 + cond (nat_lt n r.number) (w r) 0) (λ r. one_apart r.number n (w r)) rows
-    ∙ total_by-add (λ (r : SignedRow). cond (nat_le r.number n) (w r) 0) (λ (r : SignedRow). cond (nat_lt n r.number) (w r) 0) rows
-    ∙ (λ i. sym (total_by-filter w (λ (r : SignedRow). nat_le r.number n) rows) i + sym (total_by-filter w (λ (r : SignedRow). nat_lt n r.number) rows) i)
-
 -- where no number exceeds this one, the rows up to it are all
 up_to_last : (last : ℕ) (rows : List SignedRow) → AllByRecursion (λ r. r.number ≤ last) rows → up_to last rows ≡ rows
 up_to_last last [] all = refl
@@ -78,15 +67,3 @@ pub all_lead : (last : ℕ) (rows : List SignedRow) (now : List Row) → AllByRe
 all_lead last rows now all content f =
     (λ i. total_by f now + minus_is f rows i) ∙ last_weighs f last rows now all content ∙ sym (plus_is f rows)
     ∙ let here : plus_total f (unnumbered rows) ≡ 0 + plus_total f (unnumbered rows) = omega arith in here
-
--- those behind a number lead there from the content at the number
-pub since_lead : (mark last : ℕ) (rows : List SignedRow) (before now : List Row) → AllByRecursion (λ r. r.number ≤ last) rows → IsContent mark rows before → IsContent last rows now
-    → LeadsTo before (unnumbered (since mark rows)) now
-since_lead mark last rows before now all was content f =
-    let p = plus_is f (since mark rows) in
-    let m = minus_is f (since mark rows) in
-    let a = content_weighs f mark rows before was in
-    let b = last_weighs f last rows now all content in
-    let g = apart (came f) mark rows in
-    let l = apart (went f) mark rows in
-    omega (arith, p, m, a, b, g, l)

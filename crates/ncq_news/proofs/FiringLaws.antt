@@ -17,9 +17,11 @@ use Rattle.ncq_midfile.specs.Content.{since, rows_at, signed_at, IsContent}
 use Rattle.ncq_midfile.specs.declared.signed.SignedRow.{SignedRow}
 use Rattle.ncq_callback.specs.Gathered.{answer_of, counts_after, with_row}
 use Rattle.ncq_callback.proofs.TellLaws.{counts_tell}
-use Rattle.ncq_news.specs.News.{answers_in, entries_of, unnumbered}
+use Rattle.ncq_delta.specs.Leads.{unnumbered}
+use Rattle.ncq_delta.proofs.LeadLaws.{file_leads}
+use Rattle.ncq_news.specs.News.{answers_in, entries_of}
 use Rattle.ncq_news.specs.Laws.{NewsTellTheDifference}
-use Rattle.ncq_news.proofs.ContentLaws.{all_lead, since_lead}
+use Rattle.ncq_news.proofs.ContentLaws.{all_lead}
 
 module _ (query : NormalQuery) where
   -- the entries of rows that come and go, one after the other
@@ -38,7 +40,8 @@ module _ (query : NormalQuery) where
   pub since_tell : (mark last : ℕ) (rows : List SignedRow) (before now : List Row) → AllByRecursion (λ r. r.number ≤ last) rows
       → IsContent mark rows before → IsContent last rows now
       → entries_of query (since mark rows) ≡ difference (answers_in query now) (answers_in query before)
-  since_tell mark last rows before now all was content = told_is before now (unnumbered (since mark rows)) (since_lead mark last rows before now all was content)
+  since_tell mark last rows before now all was content =
+      told_is before now (unnumbered (since mark rows)) (file_leads mark last rows before now (record { last = all; content_before = was; content_after = content }))
 
   -- the rows of the content, as they come, tell what all rows tell
   pub content_tells : (last : ℕ) (rows : List SignedRow) (now : List Row) → AllByRecursion (λ r. r.number ≤ last) rows → IsContent last rows now

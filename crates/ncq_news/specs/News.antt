@@ -1,24 +1,20 @@
 -- What a subscriber is told of the signed rows of its file.
-use Rattle.std.specs.Prelude.{ℕ, List, map, Option, Some, None}
+use Rattle.std.specs.Prelude.{ℕ, List, Option, Some, None}
 use Rattle.std.specs.FinMap.{empty}
 use Rattle.ncq_bag.specs.Bags.{differences}
 use Rattle.ncq_bag.specs.declared.bag.Difference.{Difference}
 use Rattle.ncq_row.specs.Embeddings.{Row}
 use Rattle.ncq_plan.specs.declared.query.NormalQuery.{NormalQuery}
 use Rattle.ncq_plan.specs.Residuals.{passes}
-use Rattle.ncq_plan.specs.Totals.{SignedRow as PlainRow}
 use Rattle.ncq_midfile.specs.Content.{since}
 use Rattle.ncq_midfile.specs.declared.signed.SignedRow.{SignedRow}
+use Rattle.ncq_delta.specs.Leads.{unnumbered}
 use Rattle.ncq_callback.specs.Gathered.{answer_of, answers, counts_after}
 
 -- the signed rows behind a mark; all of them where there is none
 abbrev pub since_mark : Option ℕ → List SignedRow → List SignedRow
 since_mark None rows = rows
 since_mark (Some number) rows = since number rows
-
--- the signed rows without their numbers
-abbrev pub unnumbered : List SignedRow → List PlainRow
-unnumbered rows = map (λ r. record { plus = r.plus; row = r.row }) rows
 
 -- what the answer of a query gains and loses by signed rows
 abbrev pub entries_of : NormalQuery → List SignedRow → List Difference

@@ -22,7 +22,8 @@ use Rattle.ncq_pyx.specs.declared.item.Item.{Item}
 use Rattle.ncq_pyx.specs.declared.error.PyxError.{PyxError}
 use Rattle.ncq_pyx.specs.LineKinds.{turn_at, begin_of, give_of, say_of, finish_of, erase_of, is_skipped, name_part, value_part, same}
 use Rattle.ncq_pyx.specs.Spells.{Place, Rest, Content, outside, turn, fits, one_more, moved, with_attribute, with_node, first_content, other_contents, element_of, put, begun, told, spell_end, spell_turn, spell, Spells, Reads}
-use Rattle.ncq_pyx.specs.Canonical.{are_good, is_good, is_named, has_good_name, text_is_named, element_is_named, is_proper, item_is_proper}
+use Rattle.ncq_pyx.specs.Canonical.{are_good, is_good, is_named, has_good_name, text_is_named, element_is_named, is_proper}
+use Rattle.ncq_pyx.specs.Items.{item_is_proper}
 use Rattle.ncq_pyx.proofs.CanonicalLaws.{good_element, good_text}
 use Rattle.ncq_pyx.proofs.Proper.{named_element}
 

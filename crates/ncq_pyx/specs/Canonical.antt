@@ -5,8 +5,6 @@ use Rattle.ncq_tree.specs.declared.model.Attribute.{Attribute}
 use Rattle.ncq_tree.specs.declared.model.Element.{Element}
 use Rattle.ncq_tree.specs.declared.model.Node.{Node}
 use Rattle.ncq_tree.specs.declared.model.Node.TheVariants.{Element as element_node}
-use Rattle.ncq_pyx.specs.declared.item.Item.{Item}
-use Rattle.ncq_pyx.specs.declared.item.Item.TheVariants.{Put, Remove}
 use Rattle.ncq_tree.specs.Nodes.{by_nodes}
 pub use Rattle.ncq_base.specs.Lines.{ended, text_of as bytes_of_lines}
 use Rattle.ncq_base.specs.Escapes.{escaped}
@@ -99,8 +97,3 @@ is_named = by_nodes text_is_named element_is_named
 -- proper: normal, and all names are PYX names
 abbrev pub is_proper : List Node → Bool
 is_proper forest = is_normal forest && list_all is_named forest
-
--- an element that is put is proper
-abbrev pub item_is_proper : Item → Bool
-item_is_proper (Put e) = node_is_normal (element_node e) && is_named (element_node e)
-item_is_proper (Remove key) = true

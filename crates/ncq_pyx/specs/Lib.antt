@@ -4,3 +4,4 @@ pub mod Spells
 pub mod Answers
 pub mod Reading
 pub mod Canonical
+pub mod Items

@@ -71,7 +71,8 @@ pub record Places (old new : Reader) (element : Element) : Type 0 where
   pub names : names_of (frames_of new) ≡ names_of (frames_of old)
   pub whole : (rest : Rest) → whole_of new rest
       ≡ whole_of old (begun (names_of (frames_of old)) element.name (record {
-        contents = record { attributes = element.attributes; nodes = element.children } ∷ rest.contents;
+        contents = record { attributes = element.attributes; nodes = element.children } ∷
+            rest.contents;
         items = rest.items;
       }))
 

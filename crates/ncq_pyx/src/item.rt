@@ -1,12 +1,13 @@
 //! What a block asks for.
 
-use ncq_base::{Bytes, Sequence};
-use ncq_tree::Element;
+use crate::written::Written;
+use ncq_base::{Bytes, Sequence, Shared};
 
-/// To put an element, which is in normal form, or to remove the element of a key.
+/// To put an element, which is in normal form, or to remove the element of a key. Who keeps the
+/// element shares it. Contracts see the element.
 #[derive(Drop)]
 pub enum Item {
-    Put(Element),
+    Put(Shared<Written>),
     Remove(Bytes),
 }
 

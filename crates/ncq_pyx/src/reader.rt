@@ -2,7 +2,7 @@
 ghost use Rattle.std.specs.Prelude.{◌≡◌, ◌≤◌, ◌<◌, ◌+◌, ◌^◌, [], ◌∷◌, ◌++◌, IfOk, OnOk, vec_len};
 ghost use Rattle.std.specs.Option.{option_copied};
 ghost use Rattle.std.specs.List.{list_all};
-ghost use Rattle.ncq_pyx.specs.Canonical.{item_is_proper};
+ghost use Rattle.ncq_pyx.specs.Items.{item_is_proper};
 ghost use Rattle.ncq_pyx.specs.Faults.{block_of, max_nesting};
 ghost use Rattle.ncq_pyx.specs.Spells.{innermost, fits, Reads, IsAnswer, Gives};
 ghost use Rattle.std.specs.Prelude.{List, Result, true};
@@ -16,7 +16,8 @@ use crate::error::PyxError;
 use crate::item::{Item, Items};
 use crate::tag::TagAttributes;
 use crate::turns::{Stop, Turn, turn_of};
-use ncq_base::{Bytes, Lines, first_line};
+use crate::written::Written;
+use ncq_base::{Bytes, Lines, Shared, first_line};
 use ncq_tree::{Attribute, Element, Forest, Node, normal_element};
 use std::alloc::{AllocError, Global};
 
@@ -106,7 +107,9 @@ impl Reader {
             }
             None => {
                 let element = normal_element(self.alloc, element)?;
-                self.items.push(Item::Put(element))?;
+                let written = Written::new(self.alloc, element)?;
+                self.items
+                    .push(Item::Put(Shared::new(self.alloc, written)?))?;
             }
         }
         Ok(())

@@ -1,5 +1,6 @@
 //! Writing the canonical lines of a forest.
 ghost use Rattle.std.specs.Prelude.{◌≡◌, ◌++◌, ◌∷◌, [], OnOk, OnErr, length, take, map};
+ghost use Rattle.std.specs.Io.{StartsWith};
 ghost use Rattle.ncq_base.specs.Escapes.{escaped};
 ghost use Rattle.ncq_tree.specs.declared.model.Node.TheVariants.{Element as element_node};
 ghost use Rattle.ncq_pyx.specs.Canonical.{ended, attribute_line, bytes_of_lines, node_lines, pyx};
@@ -44,7 +45,7 @@ pub fn write_element(element: &Element, out: &mut Vec<u8>) -> Result<(), AllocEr
 #[tactic(auto, using(crate::proofs::LineLaws::lines_are))]
 fn write_nodes(forest: &Forest, out: &mut Vec<u8>) -> Result<(), AllocError>
     ensures ok { OnOk result (out.new.items ≡ out.old.items ++ pyx forest.now) }
-    ensures front { take (length out.old.items) out.new.items ≡ out.old.items }
+    ensures front { StartsWith out.new.items out.old.items }
 {
     for node in forest.as_slice() {
         write_node(node, out)?;
@@ -58,7 +59,7 @@ fn write_nodes(forest: &Forest, out: &mut Vec<u8>) -> Result<(), AllocError>
 fn write_node(node: &Node, out: &mut Vec<u8>) -> Result<(), AllocError>
     ensures ok { OnOk result (out.new.items ≡ out.old.items
         ++ bytes_of_lines (node_lines node.now)) }
-    ensures front { take (length out.old.items) out.new.items ≡ out.old.items }
+    ensures front { StartsWith out.new.items out.old.items }
 {
     match node {
         Node::Text(text) => write_text(text.as_slice(), out),
@@ -72,7 +73,7 @@ fn write_node(node: &Node, out: &mut Vec<u8>) -> Result<(), AllocError>
 fn write_lines(element: &Element, out: &mut Vec<u8>) -> Result<(), AllocError>
     ensures ok { OnOk result
         (out.new.items ≡ out.old.items ++ bytes_of_lines (node_lines (element_node element.now))) }
-    ensures front { take (length out.old.items) out.new.items ≡ out.old.items }
+    ensures front { StartsWith out.new.items out.old.items }
 {
     write_name(b'(', element.name.as_slice(), out)?;
     write_attributes(element.attributes.as_slice(), out)?;
@@ -83,7 +84,7 @@ fn write_lines(element: &Element, out: &mut Vec<u8>) -> Result<(), AllocError>
 /// Appends the line of a text; what was there stays in front.
 pub fn write_text(text: &[u8], out: &mut Vec<u8>) -> Result<(), AllocError>
     ensures ok { OnOk result (out.new.items ≡ out.old.items ++ ended (45 ∷ escaped text.now)) }
-    ensures front { take (length out.old.items) out.new.items ≡ out.old.items }
+    ensures front { StartsWith out.new.items out.old.items }
 {
     out.push(b'-')?;
     write_escaped(text, out)?;
@@ -94,7 +95,7 @@ pub fn write_text(text: &[u8], out: &mut Vec<u8>) -> Result<(), AllocError>
 /// Appends an opening or a closing line; what was there stays in front.
 pub fn write_name(mark: u8, name: &[u8], out: &mut Vec<u8>) -> Result<(), AllocError>
     ensures ok { OnOk result (out.new.items ≡ out.old.items ++ ended (mark ∷ name.now)) }
-    ensures front { take (length out.old.items) out.new.items ≡ out.old.items }
+    ensures front { StartsWith out.new.items out.old.items }
 {
     out.push(mark)?;
     out.extend_from_slice(name)?;
@@ -107,7 +108,7 @@ pub fn write_name(mark: u8, name: &[u8], out: &mut Vec<u8>) -> Result<(), AllocE
 pub fn write_attributes(attributes: &[Attribute], out: &mut Vec<u8>) -> Result<(), AllocError>
     ensures ok { OnOk result (out.new.items ≡ out.old.items
         ++ bytes_of_lines (map attribute_line attributes.now)) }
-    ensures front { take (length out.old.items) out.new.items ≡ out.old.items }
+    ensures front { StartsWith out.new.items out.old.items }
 {
     for attribute in attributes {
         write_attribute(attribute, out)?;
@@ -119,7 +120,7 @@ pub fn write_attributes(attributes: &[Attribute], out: &mut Vec<u8>) -> Result<(
 fn write_attribute(attribute: &Attribute, out: &mut Vec<u8>) -> Result<(), AllocError>
     ensures ok { OnOk result (out.new.items ≡ out.old.items
         ++ ended (attribute_line attribute.now)) }
-    ensures front { take (length out.old.items) out.new.items ≡ out.old.items }
+    ensures front { StartsWith out.new.items out.old.items }
 {
     out.push(b'A')?;
     out.extend_from_slice(attribute.name.as_slice())?;

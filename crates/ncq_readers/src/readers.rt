@@ -145,8 +145,8 @@ impl Readers {
         self.joins.as_slice()
     }
 
-    /// A parcel of each row for each selection that takes it. Each parcel is one step. The only
-    /// error is that memory ran out.
+    /// A parcel of each row for each selection that takes it. It takes at most one step for each
+    /// parcel. The only error is that memory ran out.
     pub fn parcels<L: Ledger>(
         &self,
         alloc: Global,

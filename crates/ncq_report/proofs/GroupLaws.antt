@@ -1,10 +1,12 @@
 -- Expressions that are the same in another order have the same signatures, and as many of each.
-use Rattle.std.proofs.Common.{◌≡◌, Bool, true, false, cond, ◌||◌, List, [], ◌∷◌, map, inl, inr, refl, sym, ap, ◌∙◌, subst}
+use Rattle.std.proofs.Common.{◌≡◌, Bool, true, cond, ◌||◌, List, [], ◌∷◌, map, refl, sym, ap, ◌∙◌, subst}
 use Rattle.std.specs.List.{IsDistinct, list_any}
-use Rattle.std.proofs.lemmas.Bool.{or_left, or_right, false≢true, false_from_ne_true}
+use Rattle.std.proofs.lemmas.Bool.{false_from_ne_true}
 use Rattle.ncq_base.specs.Counts.{SameCounts, total_by}
-use Rattle.ncq_base.specs.Exact.{exact, exact_is, exact_itself}
+use Rattle.ncq_base.specs.Exact.{exact_is, exact_itself}
 use Rattle.ncq_base.proofs.CountLaws.{counts-filter, counts-length, counts-map}
+use Rattle.ncq_plan.proofs.ExprListLaws.{any_in, in_any}
+use Rattle.ncq_plan.specs.ExprLists.{AreApart, is_expr}
 use Rattle.ncq_plan.specs.declared.expr.Expr.{Expr}
 use Rattle.ncq_plan.specs.contracts.expr.Expr.{the_row as expr_row}
 use Rattle.ncq_signature.specs.declared.signature.Signature.{Signature}
@@ -12,11 +14,8 @@ use Rattle.ncq_signature.specs.contracts.signature.Signature.{the_row as signatu
 use Rattle.ncq_signature.specs.Groups.{is_signature, is_of_selections, count_of, line_of, AreSignaturesOf}
 use Rattle.ncq_signature.specs.Signatures.{signature_of}
 use Rattle.ncq_signature.specs.SignatureTexts.{signature_text}
-use Rattle.ncq_report.specs.Lines.{AreApart, AreTheSame, IsIn, signatures_in}
+use Rattle.ncq_report.specs.Lines.{AreTheSame, signatures_in}
 use Rattle.ncq_report.proofs.DistinctLaws.{alike, each_fails, one_passes, any_counts, distinct_counts, distinct_with, any_with}
-
-abbrev is_expr : Expr → Expr → Bool
-is_expr = exact expr_row.coded
 
 expr_is : (a b : Expr) → is_expr a b ≡ true → a ≡ b
 expr_is = exact_is expr_row.coded
@@ -30,31 +29,18 @@ signature_is = exact_is signature_row.coded
 signature_itself : (s : Signature) → is_signature s s ≡ true
 signature_itself = exact_itself signature_row.coded
 
--- a test finds what stands in a list
-found : (expr : Expr) (list : List Expr) → IsIn expr list → list_any (is_expr expr) list ≡ true
-found expr [] there = absurd there
-found expr (other ∷ list) (inl same) = or_left _ _ (subst (λ e. is_expr expr e ≡ true) same (expr_itself expr))
-found expr (other ∷ list) (inr there) = or_right (is_expr expr other) _ (found expr list there)
-
-stands : (expr : Expr) (list : List Expr) → list_any (is_expr expr) list ≡ true → IsIn expr list
-stands expr [] some = absurd (false≢true some)
-stands expr (other ∷ list) some = elim (is_expr expr other) as (λ t. is_expr expr other ≡ t → (t || list_any (is_expr expr) list) ≡ true → IsIn expr (other ∷ list)) [
-  | true ↦ λ same some. inl (expr_is expr other same)
-  | false ↦ λ differs some. inr (stands expr list some)
-] refl some
-
 distinct : (list : List Expr) → AreApart list → IsDistinct is_expr list
 unfolding IsDistinct
 distinct [] apart = tt
 distinct (expr ∷ list) apart =
-    (each_fails (is_expr expr) list (false_from_ne_true _ (λ some. apart.0 (stands expr list some))), distinct list apart.1)
+    (each_fails (is_expr expr) list (false_from_ne_true _ (λ some. apart.0 (in_any expr list some))), distinct list apart.1)
 
 -- the two lists are the same in another order
 pub same_exprs : (exprs others : List Expr) → AreTheSame exprs others → SameCounts exprs others
 same_exprs exprs others same = distinct_counts is_expr expr_is expr_itself exprs others (distinct exprs same.apart) (distinct others same.others_apart) (λ expr.
     alike _ _
-    (λ some. found expr others (same.there expr (stands expr exprs some)))
-    (λ some. found expr exprs (same.back expr (stands expr others some))))
+    (λ some. any_in expr others (same.there expr (in_any expr exprs some)))
+    (λ some. any_in expr exprs (same.back expr (in_any expr others some))))
 
 -- whether an expression has the signature
 abbrev has : Signature → Expr → Bool

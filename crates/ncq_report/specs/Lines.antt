@@ -1,7 +1,8 @@
 -- The lines of the groups of expressions, as a function of the expressions.
-use Rattle.std.specs.Prelude.{◌≡◌, ◌⊎◌, if◌then◌else◌, List, [], ◌∷◌, map}
+use Rattle.std.specs.Prelude.{if◌then◌else◌, List, [], ◌∷◌, map}
 use Rattle.std.specs.List.{list_any}
 use Rattle.std.specs.Ordering.{is_lt}
+use Rattle.ncq_plan.specs.ExprLists.{AreApart, IsIn}
 use Rattle.ncq_plan.specs.declared.expr.Expr.{Expr}
 use Rattle.ncq_signature.specs.Groups.{is_signature, line_cmp, line_of}
 use Rattle.ncq_signature.specs.Signatures.{signature_of}
@@ -30,16 +31,6 @@ in_order (line ∷ lines) = placed line (in_order lines)
 -- the lines of the groups of expressions, in the order of a report
 abbrev pub group_lines : List Expr → List GroupLine
 group_lines exprs = in_order (map (line_of exprs) (signatures_in exprs))
-
--- the expression stands in the list
-abbrev pub IsIn : Expr → List Expr → Type 0
-IsIn expr [] = ⊥
-IsIn expr (other ∷ list) = (expr ≡ other) ⊎ IsIn expr list
-
--- no expression stands twice in the list
-abbrev pub AreApart : List Expr → Type 0
-AreApart [] = Unit {0}
-AreApart (expr ∷ list) = (IsIn expr list → ⊥) × AreApart list
 
 -- the lists have the same expressions, each once
 pub record AreTheSame (some others : List Expr) : Type 0 where

@@ -1,6 +1,7 @@
 //! The commands of a load.
 ghost use Rattle.std.specs.Prelude.{◌≡◌, ◌+◌, ◌*◌, ◌<◌, ◌≤◌, ◌++◌, length, take, decimal};
 ghost use Rattle.std.specs.Prelude.{OnOk, OnErr};
+ghost use Rattle.std.specs.Io.{StartsWith};
 ghost use Rattle.ncq_report.specs.Loads.{area_create, companies_text, company, create_text};
 ghost use Rattle.ncq_report.specs.Loads.{part_text, price_create, quote_text, symbol_create};
 
@@ -26,7 +27,7 @@ fn write_part(n: u64, part: u64, out: &mut Vec<u8>) -> Result<(), AllocError>
     requires few { n ≤ 2000 }
     requires part { part < 2 * n + 4 }
     ensures ok { OnOk result (out.new.items ≡ out.old.items ++ part_text n part) }
-    ensures front { take (length out.old.items) out.new.items ≡ out.old.items }
+    ensures front { StartsWith out.new.items out.old.items }
 {
     if part == 0 {
         return out.extend_from_slice(b"source quotes root Quotes key Symbol\n");
@@ -50,7 +51,7 @@ fn write_part(n: u64, part: u64, out: &mut Vec<u8>) -> Result<(), AllocError>
 fn write_create(i: u64, out: &mut Vec<u8>) -> Result<(), AllocError>
     requires { i < 2000 }
     ensures ok { OnOk result (out.new.items ≡ out.old.items ++ create_text i) }
-    ensures front { take (length out.old.items) out.new.items ≡ out.old.items }
+    ensures front { StartsWith out.new.items out.old.items }
 {
     match i % 3 {
         0 => write_symbol_create(i, out),
@@ -62,7 +63,7 @@ fn write_create(i: u64, out: &mut Vec<u8>) -> Result<(), AllocError>
 /// Appends the create that asks for one symbol; what was there stays in front.
 fn write_symbol_create(i: u64, out: &mut Vec<u8>) -> Result<(), AllocError>
     ensures ok { OnOk result (out.new.items ≡ out.old.items ++ symbol_create i) }
-    ensures front { take (length out.old.items) out.new.items ≡ out.old.items }
+    ensures front { StartsWith out.new.items out.old.items }
 {
     write_filled(
         b"create q",
@@ -78,7 +79,7 @@ fn write_symbol_create(i: u64, out: &mut Vec<u8>) -> Result<(), AllocError>
 fn write_price_create(i: u64, out: &mut Vec<u8>) -> Result<(), AllocError>
     requires { i < 2000 }
     ensures ok { OnOk result (out.new.items ≡ out.old.items ++ price_create i) }
-    ensures front { take (length out.old.items) out.new.items ≡ out.old.items }
+    ensures front { StartsWith out.new.items out.old.items }
 {
     write_filled(
         b"create q",
@@ -93,7 +94,7 @@ fn write_price_create(i: u64, out: &mut Vec<u8>) -> Result<(), AllocError>
 /// Appends the create that asks for the companies of one area; what was there stays in front.
 fn write_area_create(i: u64, out: &mut Vec<u8>) -> Result<(), AllocError>
     ensures ok { OnOk result (out.new.items ≡ out.old.items ++ area_create i) }
-    ensures front { take (length out.old.items) out.new.items ≡ out.old.items }
+    ensures front { StartsWith out.new.items out.old.items }
 {
     write_filled(
         b"create q",
@@ -109,7 +110,7 @@ fn write_area_create(i: u64, out: &mut Vec<u8>) -> Result<(), AllocError>
 /// Appends the delta of the companies; what was there stays in front.
 fn write_companies(out: &mut Vec<u8>) -> Result<(), AllocError>
     ensures ok { OnOk result (out.new.items ≡ out.old.items ++ companies_text) }
-    ensures front { take (length out.old.items) out.new.items ≡ out.old.items }
+    ensures front { StartsWith out.new.items out.old.items }
 {
     out.extend_from_slice(b"delta companies\n")?;
     for j in 0..100 {
@@ -121,7 +122,7 @@ fn write_companies(out: &mut Vec<u8>) -> Result<(), AllocError>
 /// Appends a company; what was there stays in front.
 fn write_company(j: u64, out: &mut Vec<u8>) -> Result<(), AllocError>
     ensures ok { OnOk result (out.new.items ≡ out.old.items ++ company j) }
-    ensures front { take (length out.old.items) out.new.items ≡ out.old.items }
+    ensures front { StartsWith out.new.items out.old.items }
 {
     write_filled(
         b"(Company\n(Symbol\n-S",
@@ -137,7 +138,7 @@ fn write_company(j: u64, out: &mut Vec<u8>) -> Result<(), AllocError>
 fn write_quote(j: u64, out: &mut Vec<u8>) -> Result<(), AllocError>
     requires { j < 2000 }
     ensures ok { OnOk result (out.new.items ≡ out.old.items ++ quote_text j) }
-    ensures front { take (length out.old.items) out.new.items ≡ out.old.items }
+    ensures front { StartsWith out.new.items out.old.items }
 {
     write_filled(
         b"delta quotes\n(Quote\n(Symbol\n-S",
@@ -160,7 +161,7 @@ fn write_filled(
 ) -> Result<(), AllocError>
     ensures ok { OnOk result (out.new.items ≡ out.old.items
         ++ (first.now ++ decimal number ++ second.now ++ decimal other ++ third.now)) }
-    ensures front { take (length out.old.items) out.new.items ≡ out.old.items }
+    ensures front { StartsWith out.new.items out.old.items }
 {
     write_numbered(first, number, out)?;
     write_numbered(second, other, out)?;

@@ -1,6 +1,7 @@
 //! The text of a report.
 ghost use Rattle.std.specs.Prelude.{◌≡◌, ◌++◌, length, take, OnOk, OnErr};
 ghost use Rattle.std.specs.List.{flat_map};
+ghost use Rattle.std.specs.Io.{StartsWith};
 ghost use Rattle.ncq_report.specs.Texts.{group_text, report_text};
 
 use crate::texts::{finish, write_counted, write_numbered};
@@ -35,7 +36,7 @@ pub fn write_report(summary: &Summary, out: &mut Vec<u8>) -> Result<(), AllocErr
 /// Appends the lines of the report; what was there stays in front.
 fn write_lines(summary: &Summary, out: &mut Vec<u8>) -> Result<(), AllocError>
     ensures ok { OnOk result (out.new.items ≡ out.old.items ++ report_text summary.now) }
-    ensures front { take (length out.old.items) out.new.items ≡ out.old.items }
+    ensures front { StartsWith out.new.items out.old.items }
 {
     let groups = summary.groups.as_slice();
     write_counted(b"queries", u128::from(summary.queries), out)?;
@@ -50,7 +51,7 @@ fn write_lines(summary: &Summary, out: &mut Vec<u8>) -> Result<(), AllocError>
 /// Appends the lines of the groups; what was there stays in front.
 fn write_groups(groups: &[GroupLine], out: &mut Vec<u8>) -> Result<(), AllocError>
     ensures ok { OnOk result (out.new.items ≡ out.old.items ++ flat_map group_text groups.now) }
-    ensures front { take (length out.old.items) out.new.items ≡ out.old.items }
+    ensures front { StartsWith out.new.items out.old.items }
 {
     for group in groups {
         write_group(group, out)?;
@@ -61,7 +62,7 @@ fn write_groups(groups: &[GroupLine], out: &mut Vec<u8>) -> Result<(), AllocErro
 /// Appends the line of a group; what was there stays in front.
 fn write_group(group: &GroupLine, out: &mut Vec<u8>) -> Result<(), AllocError>
     ensures ok { OnOk result (out.new.items ≡ out.old.items ++ group_text group.now) }
-    ensures front { take (length out.old.items) out.new.items ≡ out.old.items }
+    ensures front { StartsWith out.new.items out.old.items }
 {
     write_numbered(b"group ", group.constants, out)?;
     out.push(b' ')?;

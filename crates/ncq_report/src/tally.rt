@@ -1,5 +1,6 @@
 //! The tally of a load.
 ghost use Rattle.std.specs.Prelude.{◌≡◌, ◌++◌, length, take, OnOk, OnErr};
+ghost use Rattle.std.specs.Io.{StartsWith};
 ghost use Rattle.ncq_report.specs.Texts.{tally_text};
 
 use crate::texts::{finish, write_counted};
@@ -31,7 +32,7 @@ pub fn write_tally(tally: &Tally, out: &mut Vec<u8>) -> Result<(), AllocError>
 /// Appends the lines of the tally; what was there stays in front.
 fn write_counts(tally: &Tally, out: &mut Vec<u8>) -> Result<(), AllocError>
     ensures ok { OnOk result (out.new.items ≡ out.old.items ++ tally_text tally.now) }
-    ensures front { take (length out.old.items) out.new.items ≡ out.old.items }
+    ensures front { StartsWith out.new.items out.old.items }
 {
     write_counted(b"commands", u128::from(tally.commands), out)?;
     write_counted(b"refused", u128::from(tally.refused), out)?;

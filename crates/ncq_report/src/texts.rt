@@ -1,5 +1,6 @@
 //! What the texts of this crate have in common.
 ghost use Rattle.std.specs.Prelude.{◌≡◌, ◌≤◌, ◌++◌, length, take, decimal, OnOk, OnErr};
+ghost use Rattle.std.specs.Io.{StartsWith};
 ghost use Rattle.ncq_report.specs.Texts.{counted_line};
 
 use itoa::Buffer;
@@ -26,7 +27,7 @@ pub(crate) fn finish(
 /// Appends a text and a number behind it; what was there stays in front.
 pub(crate) fn write_numbered(text: &[u8], number: u64, out: &mut Vec<u8>) -> Result<(), AllocError>
     ensures ok { OnOk result (out.new.items ≡ out.old.items ++ text.now ++ decimal number) }
-    ensures front { take (length out.old.items) out.new.items ≡ out.old.items }
+    ensures front { StartsWith out.new.items out.old.items }
 {
     out.extend_from_slice(text)?;
     write_decimal(number, out)
@@ -35,7 +36,7 @@ pub(crate) fn write_numbered(text: &[u8], number: u64, out: &mut Vec<u8>) -> Res
 /// Appends a line of a word and a number; what was there stays in front.
 pub(crate) fn write_counted(word: &[u8], number: u128, out: &mut Vec<u8>) -> Result<(), AllocError>
     ensures ok { OnOk result (out.new.items ≡ out.old.items ++ counted_line word.now number) }
-    ensures front { take (length out.old.items) out.new.items ≡ out.old.items }
+    ensures front { StartsWith out.new.items out.old.items }
 {
     let mut buffer = Buffer::new();
     out.extend_from_slice(word)?;

@@ -1,8 +1,8 @@
 //! Shapes of elements, and rows of the values that an element has at the places of a shape.
 //! A shape and an element come in; a row for each embedding of the shape in the element goes out.
 //! Only `match_shape`, `match_written`, `Row::join` and `Row::copy` give rows, and each counts one
-//! step for each. A value keeps its atom, which was made with it, and a row of a shared element that
-//! takes the whole element shares it.
+//! step for each. A value keeps its atom, which was made with it, and a row of a shared element
+//! that takes the whole element shares it.
 #![tactic(auto)]
 
 mod attributes;

@@ -1,17 +1,19 @@
 -- The answer to a command, from what the engine says of it.
 use Rattle.std.proofs.Common.{◌≡◌, ◌+◌, ◌++◌, ◌∷◌, ℕ, List, [], length, arith, ap, sym, ◌∙◌, subst}
-use Rattle.std.specs.Prelude.{None, Some}
+use Rattle.std.specs.Prelude.{None, Some, Result, Ok, Err}
 use Rattle.ncq_script.specs.Refusals.{refused_text}
 use Rattle.ncq_script.specs.declared.command.Command.{Command}
 use Rattle.ncq_script.specs.declared.refusal.Refusal.{Refusal}
-use Rattle.ncq_engine.specs.Applies.{AreSpans, OfEach, ok_text}
+use Rattle.ncq_engine.specs.Applies.{AreSpans, OfEach}
 use Rattle.ncq_engine.specs.History.{History}
 use Rattle.ncq_engine.specs.Languages.{language_of}
 use Rattle.ncq_engine.specs.Notices.{Language}
-use Rattle.ncq_engine.specs.Output.{output, after, first_refusal, answered, with_accepted, accepted_text}
+use Rattle.ncq_engine.specs.Output.{output, after, first_refusal, answered, with_accepted, accepted_text, ok_text, unless_refused}
 use Rattle.ncq_engine.specs.Spans.{spans}
 use Rattle.ncq_engine.specs.Stands.{EngineState, Stands}
-use Rattle.ncq_run.specs.Shown.{answer_spans, spans_unless}
+use Rattle.ncq_engine.specs.Works.{IsWithinWork}
+use Rattle.ncq_run.specs.Session.{Asks}
+use Rattle.ncq_run.specs.Shown.{answer_spans}
 
 module _ (language : Language) (history : History) (command : Command) where
   accepted_output : (number : ℕ) → first_refusal language history command ≡ None → output language history number command ≡ accepted_text language history number command
@@ -71,11 +73,23 @@ spans_accepted old command out new empty accepted told history stands =
     let language = language_of old.labels in
     let none : length out + length (ok_text (old.count + 1)) ≡ length (ok_text (old.count + 1)) = omega (arith, ap length empty) in
     told history stands ∙ ap (spans language history command) none
-    ∙ sym (ap (λ o. spans_unless o (spans language history command (length (ok_text (old.count + 1))))) (accepted history stands))
+    ∙ sym (ap (λ o. unless_refused [] o (spans language history command (length (ok_text (old.count + 1))))) (accepted history stands))
 
 -- and if it was refused
 pub spans_refused : (old : EngineState) (command : Command) (why : Refusal) (new : EngineState) → new.spans ≡ []
     → OfEach old (λ history. first_refusal (language_of old.labels) history command ≡ Some why)
     → OfEach old (λ history. new.spans ≡ answer_spans (language_of old.labels) history (old.count + 1) command)
 spans_refused old command why new none refused history stands =
-    none ∙ sym (ap (λ o. spans_unless o (spans (language_of old.labels) history command (length (ok_text (old.count + 1))))) (refused history stands))
+    none ∙ sym (ap (λ o. unless_refused [] o (spans (language_of old.labels) history command (length (ok_text (old.count + 1))))) (refused history stands))
+
+-- it did not answer
+pub asks_failed : {T E : Type 0} (engine : EngineState) (command : Command) (steps : ℕ) (engine' : EngineState) (steps' : ℕ) (result : Result T E) (error : E) → result ≡ Err error
+    → engine'.labels ≡ engine.labels → IsWithinWork engine command steps steps' → Asks {T = T} {E = E} engine command steps engine' steps' result
+asks_failed {T = T} {E = E} engine command steps engine' steps' result error is labels work =
+    subst (λ (r : Result T E). Asks {T = T} {E = E} engine command steps engine' steps' r) (sym is) (record { stands = tt; counted = tt; labels = labels; work = work })
+
+-- it answered; what came after may have failed
+pub asks_after : {T E T' E' : Type 0} {engine : EngineState} {command : Command} {steps : ℕ} {engine' : EngineState} {steps' : ℕ} (done : T) → Asks {T = T} {E = E} engine command steps engine' steps' (Ok done)
+    → (later : Result T' E') → Asks {T = T'} {E = E'} engine command steps engine' steps' later
+asks_after done asks (Ok x) = record { stands = asks.stands; counted = asks.counted; labels = asks.labels; work = asks.work }
+asks_after done asks (Err e) = record { stands = tt; counted = tt; labels = asks.labels; work = asks.work }

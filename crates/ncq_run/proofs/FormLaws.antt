@@ -12,7 +12,7 @@ use Rattle.ncq_script.specs.Script.{script}
 use Rattle.ncq_words.specs.Forms.{Form, form_of, form_of_value, in_range, is_plain, load_form, load_number}
 use Rattle.ncq_words.specs.Forms.Form.{run, alone, load}
 use Rattle.ncq_run.specs.Output.{load_output}
-use Rattle.ncq_run.specs.Status.{Ended, EndedAs, Loaded, StandsAs, StandsForThe, Told, WorksAs, is_load, told}
+use Rattle.ncq_run.specs.Status.{Ended, EndedAs, Loaded, StandsAs, StandsForThe, Outside, WorksAs, is_load, outside}
 use Rattle.ncq_run.specs.declared.session.Status.{Status}
 use Rattle.ncq_run.specs.declared.session.Status.TheVariants.{Done, NoMemory, ReadFault, ScriptTooLong, Usage, WriteFault}
 use Rattle.ncq_run.proofs.Turns.{nothing_written}
@@ -77,7 +77,7 @@ load_is (mode ∷ value ∷ []) n e = value_is mode value n e
 load_is (mode ∷ value ∷ word ∷ more) n e = absurd cc
 
 -- where memory runs out before the form is found, nothing was written and no row made
-pub nothing_yet : (form : Form) (language : Language) (limit most : ℕ) (left held : Option (List ℕ)) (given rf wf : ℕ) → EndedAs form language limit most (told left held given rf wf) (told left held given rf wf) NoMemory
+pub nothing_yet : (form : Form) (language : Language) (limit most : ℕ) (left held : Option (List ℕ)) (given rf wf : ℕ) → EndedAs form language limit most (outside left held given rf wf) (outside left held given rf wf) NoMemory
 nothing_yet run language limit most left held given rf wf = record { written = nothing_written language None left held limit }
 nothing_yet (alone name) language limit most left held given rf wf = record { written = nothing_written language (Some name) left held limit }
 nothing_yet (load n) language limit most left held given rf wf = ([], load_output language limit n, refl, Appends-nil held)
@@ -103,20 +103,20 @@ load_stands language limit most n left left' engine NoMemory stands = tt
 load_stands language limit most n left left' engine ScriptTooLong stands = tt
 
 -- no session ends with usage
-pub not_usage : (language : Language) (whose : Option (List ℕ)) (limit most : ℕ) (old new : Told) (status : Status) → Ended language whose limit most old new status → status ≡ Usage → ⊥
+pub not_usage : (language : Language) (whose : Option (List ℕ)) (limit most : ℕ) (old new : Outside) (status : Status) → Ended language whose limit most old new status → status ≡ Usage → ⊥
 not_usage language whose limit most old new status ended is = subst (Ended language whose limit most old new) is ended
 
-pub not_usage_load : (language : Language) (limit n : ℕ) (old new : Told) (status : Status) → Loaded language limit n old new status → status ≡ Usage → ⊥
+pub not_usage_load : (language : Language) (limit n : ℕ) (old new : Outside) (status : Status) → Loaded language limit n old new status → status ≡ Usage → ⊥
 not_usage_load language limit n old new status ended is = subst (Loaded language limit n old new) is ended
 
-not_read : (language : Language) (limit n : ℕ) (old new : Told) (status : Status) → Loaded language limit n old new status → status ≡ ReadFault → ⊥
+not_read : (language : Language) (limit n : ℕ) (old new : Outside) (status : Status) → Loaded language limit n old new status → status ≡ ReadFault → ⊥
 not_read language limit n old new status ended is = subst (Loaded language limit n old new) is ended
 
-pub load_never_reads : (language : Language) (limit n : ℕ) (old new : Told) (status : Status) (sure : Bool) → Loaded language limit n old new status → status ≡ ReadFault → sure ≡ true → ⊥
+pub load_never_reads : (language : Language) (limit n : ℕ) (old new : Outside) (status : Status) (sure : Bool) → Loaded language limit n old new status → status ≡ ReadFault → sure ≡ true → ⊥
 load_never_reads language limit n old new status sure ended is _ = not_read language limit n old new status ended is
 
 -- the name of the one subscriber, as the words have it
-pub ended_for : (language : Language) (name own : List ℕ) (limit most : ℕ) (old new : Told) (status : Status) → own ≡ name → Ended language (Some own) limit most old new status → EndedAs (alone name) language limit most old new status
+pub ended_for : (language : Language) (name own : List ℕ) (limit most : ℕ) (old new : Outside) (status : Status) → own ≡ name → Ended language (Some own) limit most old new status → EndedAs (alone name) language limit most old new status
 ended_for language name own limit most old new status e ended = subst (λ (w : List ℕ). Ended language (Some w) limit most old new status) e ended
 
 pub reads : (form : Form) → is_load form ≡ false → (P : Type 0) → is_load form ≡ true → P

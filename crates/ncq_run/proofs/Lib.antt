@@ -5,5 +5,7 @@ pub mod Outputs
 pub mod FormLaws
 pub mod TallyLaws
 pub mod Turns
+pub mod SinkLaws
 pub mod WorkLaws
+pub mod Answered
 pub mod ClockLaws

@@ -11,13 +11,12 @@ use Rattle.ncq_engine.proofs.Lists.{filter_append, flat_map_append}
 use Rattle.ncq_script.specs.declared.command.Command.{Command}
 use Rattle.ncq_script.specs.declared.refusal.Refusal.{Refusal}
 use Rattle.ncq_engine.specs.declared.span.Span.{Span}
-use Rattle.ncq_engine.specs.Alone.{notices_of, unless_refused}
-use Rattle.ncq_engine.specs.Applies.{ok_text}
+use Rattle.ncq_engine.specs.Alone.{notices_of}
 use Rattle.ncq_engine.specs.History.{History}
-use Rattle.ncq_engine.specs.Notices.{Language, notice_at, told}
-use Rattle.ncq_engine.specs.Output.{accepted_text, answered, closing_text, first_refusal, notices, output}
+use Rattle.ncq_engine.specs.Notices.{Language, notice_at, firings_in_order}
+use Rattle.ncq_engine.specs.Output.{accepted_text, answered, closing_text, first_refusal, notices, ok_text, output, unless_refused}
 use Rattle.ncq_engine.specs.Spans.{span_of, spans, spans_of}
-use Rattle.ncq_run.specs.Shown.{answer_spans, has_name, piece_of, shown_answer, spans_unless, IsWithin}
+use Rattle.ncq_run.specs.Shown.{answer_spans, has_name, piece_of, shown_answer, IsWithin}
 
 drop_front : (front rest : List ℕ) → drop (length front) (front ++ rest) ≡ rest
 drop_front [] rest = refl
@@ -90,13 +89,13 @@ module _ (language : Language) (name : List ℕ) (history : History) (number : �
   abbrev IsOwn : List ℕ → List Span → List ℕ → Type 0
   IsOwn text places own = (pieces name text places ≡ own) × AllByRecursion (IsWithin text) places
 
-  by_refusal : (o : Option Refusal) → IsOwn (answered language history number command o) (spans_unless o (spans language history command (length (ok_text number)))) (unless_refused o (notices_of language name history command))
+  by_refusal : (o : Option Refusal) → IsOwn (answered language history number command o) (unless_refused [] o (spans language history command (length (ok_text number)))) (unless_refused [] o (notices_of language name history command))
   by_refusal (Some why) = (refl, tt)
   by_refusal None =
       let whole : accepted_text language history number command ≡ ok_text number ++ (notices language history command ++ closing_text language command history) =
       append_assoc (ok_text number) (notices language history command) (closing_text language command history) in (
-        own_pieces name (accepted_text language history number command) (λ fired. fired.1.statement.name) (notice_at language history command) (ok_text number) (closing_text language command history) (told history command) (length (ok_text number)) refl whole,
-        all_within name (accepted_text language history number command) (λ fired. fired.1.statement.name) (notice_at language history command) (ok_text number) (closing_text language command history) (told history command) (length (ok_text number)) refl whole,
+        own_pieces name (accepted_text language history number command) (λ fired. fired.1.statement.name) (notice_at language history command) (ok_text number) (closing_text language command history) (firings_in_order history command) (length (ok_text number)) refl whole,
+        all_within name (accepted_text language history number command) (λ fired. fired.1.statement.name) (notice_at language history command) (ok_text number) (closing_text language command history) (firings_in_order history command) (length (ok_text number)) refl whole,
       )
 
   own_answer : IsOwn (output language history number command) (answer_spans language history number command) (shown_answer language (Some name) history number command)

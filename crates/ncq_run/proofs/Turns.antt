@@ -1,26 +1,33 @@
 -- One turn of a session.
-use Rattle.std.proofs.Common.{◌≡◌, ◌+◌, ◌-◌, ◌<◌, ◌≤◌, ◌++◌, ℕ, List, [], length, take, drop, min, arith, sym, ◌∙◌, ap, refl, subst, append_assoc, length-append}
-use Rattle.std.specs.Prelude.{Option, None, Some, IfSome}
+use Rattle.std.proofs.Common.{◌≡◌, ◌+◌, ◌-◌, ◌<◌, ◌≤◌, ◌++◌, ℕ, List, [], length, take, drop, min, arith, sym, ◌∙◌, ap, refl, subst, append_assoc, length-append, true, false}
+use Rattle.std.specs.Prelude.{Option, None, Some, IfSome, Result, Ok, Err, OnOk}
 use Rattle.std.specs.Io.KnownBytes.{Appends, Consumes, Keeps, IsAtEnd}
 use Rattle.std.proofs.KnownBytes.{Consumes-nil, Appends-nil, Consumes-trans, Consumes-kept, Consumes-whole}
-use Rattle.std.proofs.lemmas.List.{take-append-drop, take-take, length-take, append-nil, append_cancel_right}
+use Rattle.std.proofs.lemmas.List.{take-append-drop, take-take, length-take, append-nil, append_cancel_right, take_all}
 use Rattle.std.proofs.Math.Seq.{take-append_seam}
 use Rattle.ncq_outside.specs.Causes.{Rose, RoseBy}
 use Rattle.ncq_outside.proofs.CallerLemmas.{RoseBy-at_least, RoseBy-at_most}
+use Rattle.ncq_script.specs.declared.command.Command.{Command}
 use Rattle.ncq_script.specs.Script.{script, whole_script}
-use Rattle.ncq_script.specs.ScriptReading.{ScriptState, FollowsScript, limit_of}
+use Rattle.ncq_script.specs.ScriptReading.{ScriptState, FollowsScript, is_finished, limit_of}
 use Rattle.ncq_script.proofs.CallerLemmas.{whole_script-nil}
 use Rattle.ncq_callback.specs.Labels.{Label}
 use Rattle.ncq_engine.specs.Languages.{language_of}
 use Rattle.ncq_engine.specs.Notices.{Language}
 use Rattle.ncq_engine.specs.Output.{history_of}
 use Rattle.ncq_engine.specs.Stands.{EngineState, Stands}
-use Rattle.ncq_run.proofs.Outputs.{nothing_whole, nothing_happened}
-use Rattle.ncq_run.proofs.WorkLaws.{all_work}
-use Rattle.ncq_run.specs.Output.{output_of, output_of_whole, history_of_whole, AreWithinWork}
-use Rattle.ncq_run.specs.Status.{Told, told, Ended, StandsForAll, StandsForFront, StandsForRead, StandsForThe, StandsAfter, IsDone, IsReadFault, IsWriteFault, IsTooLong, IsOutOfMemory, AppendsPrefix, AppendsProperPrefix}
-use Rattle.ncq_run.specs.Session.{SoFar}
+use Rattle.ncq_run.proofs.Outputs.{known_closed, known_open, prefix_of_all, proper_of_all, shown_is}
+use Rattle.ncq_run.proofs.WorkLaws.{all_work, no_step}
+use Rattle.ncq_run.specs.declared.answer.Stop.{Stop}
+use Rattle.ncq_run.specs.declared.answer.Stop.TheVariants as stop
 use Rattle.ncq_run.specs.declared.session.Status.{Status}
+use Rattle.ncq_run.specs.declared.session.Status.TheVariants as status
+use Rattle.ncq_run.specs.Output.{output_of, output_of_whole, shown, AreWithinWork}
+use Rattle.ncq_run.specs.Session.{IsAnswered, IsOver, IsThrough, IsUpTo, SoFar, Writes, answered_in, commands_in, status_of}
+use Rattle.ncq_run.specs.Status.{Outside, outside, StandsForThe, StandsAfter, IsDone, IsReadFault, IsWriteFault, IsTooLong, IsOutOfMemory, AppendsPrefix, AppendsProperPrefix}
+
+abbrev Script : Type 0
+Script = List Command
 
 with_rest : (a b : Option (List ℕ)) (bs : List ℕ) (P : List ℕ → Type 0) → Consumes a b bs → ((rest : List ℕ) → P (bs ++ rest)) → IfSome a P
 with_rest None b bs P h p = tt
@@ -40,123 +47,6 @@ taken_are a b bs bytes rest read e f =
     let now : Consumes (Some (bytes ++ rest)) (Some rest) bs = subst (λ (x : Option (List ℕ)). Consumes x (Some rest) bs) e (subst (λ (y : Option (List ℕ)). Consumes a y bs) f read) in
     append_cancel_right bs bytes rest (sym now)
 
--- the engine that stands for what is whole stands for those commands
-whole_stands : (language : Language) (limit : ℕ) (bytes : List ℕ) (engine : EngineState) → Stands engine (history_of_whole language limit bytes) → engine.count ≡ length (whole_script limit bytes)
-    → StandsForThe language (whole_script limit bytes) engine
-unfolding history_of_whole
-whole_stands language limit bytes engine stands counted = (stands, counted)
-
-rose_later : (a b c : ℕ) → a ≤ b → Rose b c → Rose a c
-rose_later a b c le rose = omega arith
-
-module _ (language : Language) (whose : Option (List ℕ)) (reader : ScriptState) (engine : EngineState) (taken most : ℕ) (start : Told) (left held : Option (List ℕ)) (given rf wf begun steps : ℕ) (so : SoFar language whose reader engine taken start (told left held given rf wf) begun steps) (within : taken ≤ most)
-    (left' held' : Option (List ℕ)) (given' rf' wf' : ℕ) where
-  pub turn_read_fault : Keeps left left' → Rose rf rf' → IsReadFault language whose (limit_of reader) start (told left' held given' rf' wf)
-  turn_read_fault kept rose = record { rose = rose_later _ _ _ so.read_later rose; bytes = so.bytes; read = Consumes-kept _ _ _ _ so.read kept; written = so.written }
-
-  pub turn_fault_stands : Keeps left left' → StandsForRead language (limit_of reader) start.left left' engine
-  turn_fault_stands kept bytes rest e f =
-      let same : so.bytes ≡ bytes = taken_are start.left left' so.bytes bytes rest (Consumes-kept _ _ _ _ so.read kept) e f in
-      subst (λ (bs : List ℕ). StandsForThe language (whole_script (limit_of reader) bs) engine) same (whole_stands language (limit_of reader) so.bytes engine so.stands so.counted)
-
-  pub turn_fault_work : IfSome start.left (λ bytes. AreWithinWork language (script (limit_of reader) bytes) begun steps)
-  turn_fault_work = with_rest start.left left so.bytes (λ bytes. AreWithinWork language (script (limit_of reader) bytes) begun steps) so.read
-      (λ rest. all_work language (limit_of reader) so.bytes begun rest steps so.work)
-
-  module _ (buffer : List ℕ) (n : ℕ) (read : Consumes left left' (take n buffer)) where
-    all_read : n ≡ 0 → Consumes start.left left' so.bytes
-    all_read none =
-        let e : so.bytes ++ take n buffer ≡ so.bytes = ap (λ (k : ℕ). so.bytes ++ take k buffer) none ∙ append-nil so.bytes in
-        subst (λ (bs : List ℕ). Consumes start.left left' bs) e (Consumes-trans _ _ _ _ _ so.read read)
-
-    pub turn_done : n ≡ 0 → IsAtEnd left' → RoseBy given n given' → Appends start.held held' (output_of language whose (limit_of reader) so.bytes) → IsDone language whose (limit_of reader) most start (told left' held' given' rf' wf')
-    turn_done none end rose written = record {
-      at_end = end;
-      written = Consumes-whole start.left left' so.bytes (λ script. Appends start.held held' (output_of language whose (limit_of reader) script)) (all_read none) end written;
-      within = omega (arith, so.given.at_most, RoseBy-at_most _ _ _ rose);
-    }
-
-    pub turn_stands : n ≡ 0 → IsAtEnd left' → (engine' : EngineState) → Stands engine' (history_of language [] (script (limit_of reader) so.bytes)) → engine'.count ≡ length (script (limit_of reader) so.bytes)
-        → StandsForAll language (limit_of reader) start.left engine'
-    turn_stands none end engine' stands counted =
-        Consumes-whole start.left left' so.bytes (λ bytes. Stands engine' (history_of language [] (script (limit_of reader) bytes)) × (engine'.count ≡ length (script (limit_of reader) bytes)))
-        (all_read none) end (stands, counted)
-
-    pub end_work : n ≡ 0 → IsAtEnd left' → (steps' : ℕ) → AreWithinWork language (script (limit_of reader) so.bytes) begun steps'
-        → IfSome start.left (λ bytes. AreWithinWork language (script (limit_of reader) bytes) begun steps')
-    end_work none end steps' work =
-        Consumes-whole start.left left' so.bytes (λ bytes. AreWithinWork language (script (limit_of reader) bytes) begun steps') (all_read none) end work
-
-    pub end_out_of_memory : n ≡ 0 → IsAtEnd left' → AppendsPrefix start.held held' (output_of language whose (limit_of reader) so.bytes) → IsOutOfMemory language whose (limit_of reader) start (told left' held' given' rf' wf')
-    end_out_of_memory none end written = record {
-      written = Consumes-whole start.left left' so.bytes (λ script. AppendsPrefix start.held held' (output_of language whose (limit_of reader) script)) (all_read none) end written;
-    }
-
-    pub end_write_fault : n ≡ 0 → IsAtEnd left' → Rose wf wf' → AppendsProperPrefix start.held held' (output_of language whose (limit_of reader) so.bytes) → IsWriteFault language whose (limit_of reader) start (told left' held' given' rf' wf')
-    end_write_fault none end rose written = record {
-      rose = rose_later _ _ _ so.write_later rose;
-      written = Consumes-whole start.left left' so.bytes (λ script. AppendsProperPrefix start.held held' (output_of language whose (limit_of reader) script)) (all_read none) end written;
-    }
-
-    module _ (inside : ℕ) (le : inside ≤ n) where
-      over_rest : (P : List ℕ → Type 0) → ((more : List ℕ) → P ((so.bytes ++ take inside buffer) ++ more)) → IfSome start.left P
-      over_rest P p = with_rest start.left left' (so.bytes ++ take n buffer) P (Consumes-trans _ _ _ _ _ so.read read)
-          (λ rest. subst P (sym (split_piece so.bytes buffer rest inside n le)) (p (drop inside (take n buffer) ++ rest)))
-
-      pub turn_work : (steps' : ℕ) → AreWithinWork language (whole_script (limit_of reader) (so.bytes ++ take inside buffer)) begun steps'
-          → IfSome start.left (λ bytes. AreWithinWork language (script (limit_of reader) bytes) begun steps')
-      turn_work steps' work = over_rest (λ bytes. AreWithinWork language (script (limit_of reader) bytes) begun steps')
-          (λ more. all_work language (limit_of reader) (so.bytes ++ take inside buffer) begun more steps' work)
-
-      pub turn_out_of_memory : ((more : List ℕ) → AppendsPrefix start.held held' (output_of language whose (limit_of reader) ((so.bytes ++ take inside buffer) ++ more))) → IsOutOfMemory language whose (limit_of reader) start (told left' held' given' rf' wf')
-      turn_out_of_memory p = record { written = over_rest (λ script. AppendsPrefix start.held held' (output_of language whose (limit_of reader) script)) p }
-
-      pub turn_write_fault : Rose wf wf' → ((more : List ℕ) → AppendsProperPrefix start.held held' (output_of language whose (limit_of reader) ((so.bytes ++ take inside buffer) ++ more))) → IsWriteFault language whose (limit_of reader) start (told left' held' given' rf' wf')
-      turn_write_fault rose p = record { rose = rose_later _ _ _ so.write_later rose; written = over_rest (λ script. AppendsProperPrefix start.held held' (output_of language whose (limit_of reader) script)) p }
-
-      -- a piece that ends at the limit
-      module _ (room : n ≤ length buffer) (small : inside ≡ min n (most - taken)) (long : most - taken < n) where
-        -- what is within the limit is what was read, and the piece up to it
-        front_is : (more : List ℕ) → take most ((so.bytes ++ take inside buffer) ++ more) ≡ so.bytes ++ take inside buffer
-        front_is more =
-            let full : most ≡ length (so.bytes ++ take inside buffer) = omega (arith, length-append so.bytes (take inside buffer), length-take inside buffer, so.long) in
-            ap (λ (k : ℕ). take k ((so.bytes ++ take inside buffer) ++ more)) full ∙ take-append_seam (so.bytes ++ take inside buffer) more
-
-        pub turn_too_long : RoseBy given n given' → Appends start.held held' (output_of_whole language whose (limit_of reader) (so.bytes ++ take inside buffer)) → IsTooLong language whose (limit_of reader) most start (told left' held' given' rf' wf')
-        turn_too_long rose written = record {
-          more = omega (arith, so.given.at_least, RoseBy-at_least _ _ _ rose);
-          long = with_rest start.left left' (so.bytes ++ take n buffer) (λ script. most < length script) (Consumes-trans _ _ _ _ _ so.read read)
-              (λ rest. omega (arith, length-append (so.bytes ++ take n buffer) rest, length-append so.bytes (take n buffer), length-take n buffer, so.long));
-          written = over_rest (λ script. Appends start.held held' (output_of_whole language whose (limit_of reader) (take most script)))
-              (λ more. subst (λ (bs : List ℕ). Appends start.held held' (output_of_whole language whose (limit_of reader) bs)) (sym (front_is more)) written);
-        }
-
-        pub turn_front_stands : (engine' : EngineState) → Stands engine' (history_of_whole language (limit_of reader) (so.bytes ++ take inside buffer)) → engine'.count ≡ length (whole_script (limit_of reader) (so.bytes ++ take inside buffer))
-            → StandsForFront language (limit_of reader) most start.left engine'
-        turn_front_stands engine' stands counted = over_rest (λ script. StandsForThe language (whole_script (limit_of reader) (take most script)) engine')
-            (λ more. subst (λ (bs : List ℕ). StandsForThe language (whole_script (limit_of reader) bs) engine') (sym (front_is more))
-            (whole_stands language (limit_of reader) (so.bytes ++ take inside buffer) engine' stands counted))
-
-    pub turn_goes_on : (reader' : ScriptState) (engine' : EngineState) (inside steps' : ℕ) → inside ≡ n → n ≤ length buffer → RoseBy given n given' → rf ≤ rf' → wf ≤ wf' → (limit_of reader') ≡ (limit_of reader)
-        → FollowsScript reader' (so.bytes ++ take inside buffer) engine'.count → engine'.count ≡ length (whole_script (limit_of reader) (so.bytes ++ take inside buffer))
-        → Stands engine' (history_of_whole language (limit_of reader) (so.bytes ++ take inside buffer))
-        → Appends start.held held' (output_of_whole language whose (limit_of reader) (so.bytes ++ take inside buffer))
-        → AreWithinWork language (whole_script (limit_of reader) (so.bytes ++ take inside buffer)) begun steps'
-        → SoFar language whose reader' engine' (taken + n) start (told left' held' given' rf' wf') begun steps'
-    turn_goes_on reader' engine' inside steps' same room rose later later' e follows counted stands written work = record {
-      bytes = so.bytes ++ take inside buffer;
-      follows = follows;
-      long = omega (arith, length-append so.bytes (take inside buffer), length-take inside buffer, so.long);
-      counted = counted ∙ ap (λ (l : ℕ). length (whole_script l (so.bytes ++ take inside buffer))) (sym e);
-      stands = subst (λ (l : ℕ). Stands engine' (history_of_whole language l (so.bytes ++ take inside buffer))) (sym e) stands;
-      read = subst (λ (k : ℕ). Consumes start.left left' (so.bytes ++ take k buffer)) (sym same) (Consumes-trans _ _ _ _ _ so.read read);
-      written = subst (λ (l : ℕ). Appends start.held held' (output_of_whole language whose l (so.bytes ++ take inside buffer))) (sym e) written;
-      work = subst (λ (l : ℕ). AreWithinWork language (whole_script l (so.bytes ++ take inside buffer)) begun steps') (sym e) work;
-      given = record { at_least = omega (arith, so.given.at_least, RoseBy-at_least _ _ _ rose); at_most = omega (arith, so.given.at_most, RoseBy-at_most _ _ _ rose) };
-      read_later = omega (arith, so.read_later, later);
-      write_later = omega (arith, so.write_later, later');
-    }
-
 -- the front of what was written back is that of the piece read
 pub written_front : (inside len : ℕ) (new items all front : List ℕ) → front ≡ take inside all → all ≡ take len (new ++ drop (length new) items) → length new ≡ len → front ≡ take inside new
 written_front inside len new items all front e written same =
@@ -167,35 +57,256 @@ pub nothing_written : (language : Language) (whose : Option (List ℕ)) (left he
 nothing_written language whose None held limit = tt
 nothing_written language whose (Some script) held limit = ([], output_of language whose limit script, refl, Appends-nil held)
 
-pub at_start : (language : Language) (whose : Option (List ℕ)) (reader : ScriptState) (engine : EngineState) (left held : Option (List ℕ)) (given rf wf steps : ℕ) → FollowsScript reader [] engine.count → engine.count ≡ 0 → Stands engine []
-    → SoFar language whose reader engine 0 (told left held given rf wf) (told left held given rf wf) steps steps
-at_start language whose reader engine left held given rf wf steps follows none stands = record {
-  bytes = [];
-  follows = follows;
-  long = refl;
-  counted = none ∙ sym (ap length (whole_script-nil (limit_of reader)));
-  stands = rw (nothing_happened language (limit_of reader)) stands;
-  read = Consumes-nil left;
-  written = rw (nothing_whole language whose (limit_of reader)) (Appends-nil held);
-  work = λ bound works. omega arith;
-  given = record { at_least = omega arith; at_most = omega arith };
-  read_later = omega arith;
-  write_later = omega arith;
-}
+rose_later : (a b c : ℕ) → a ≤ b → Rose b c → Rose a c
+rose_later a b c le rose = omega arith
+
+-- what a call says of commands that it was to answer, in one language
+record Said {T : Type 0} (language : Language) (whose : Option (List ℕ)) (commands : Script) (engine : EngineState) (before held : Option (List ℕ)) (begun steps : ℕ) (result : Result T Stop) : Type 0 where
+  stands : OnOk result (StandsForThe language commands engine)
+  written : Writes before held (shown language whose commands) result
+  work : AreWithinWork language commands begun steps
+
+module _ {T : Type 0} (labels : List Label) (whose : Option (List ℕ)) (bytes : List ℕ) (reader : ScriptState) (engine : EngineState) (before held : Option (List ℕ)) (begun steps : ℕ) (same : engine.labels ≡ labels) where
+  stands_said : (result : Result T Stop) → IsThrough bytes reader engine begun steps result → OnOk result (StandsForThe (language_of labels) (commands_in reader bytes) engine)
+  stands_said (Ok done) through =
+      let all : answered_in reader engine bytes ≡ commands_in reader bytes = take_all engine.count (commands_in reader bytes) (omega (arith, through.all)) in
+      (subst (Stands engine) (λ i. history_of (language_of (same i)) [] (all i)) through.up_to.stands, through.all)
+  stands_said (Err error) through = tt
+
+  said : (commands : Script) → commands_in reader bytes ≡ commands → (result : Result T Stop) → IsThrough bytes reader engine begun steps result
+      → Writes before held (shown (language_of engine.labels) whose (commands_in reader bytes)) result → Said (language_of labels) whose commands engine before held begun steps result
+  said commands is result through written =
+      subst (λ (cs : Script). Said (language_of labels) whose cs engine before held begun steps result) is (record {
+        stands = stands_said result through;
+        written = subst (λ (ls : List Label). Writes before held (shown (language_of ls) whose (commands_in reader bytes)) result) same written;
+        work = subst (λ (ls : List Label). AreWithinWork (language_of ls) (commands_in reader bytes) begun steps) same through.work;
+      })
+
+module _ (whose : Option (List ℕ)) (reader : ScriptState) (engine : EngineState) (taken most : ℕ) (start : Outside) (left held : Option (List ℕ)) (given rf wf begun steps : ℕ)
+    (so : SoFar whose reader engine taken start (outside left held given rf wf) begun steps) (opened : is_finished reader ≡ false) (within : taken ≤ most) where
+  abbrev language : Language
+  language = language_of engine.labels
+
+  abbrev limit : ℕ
+  limit = limit_of reader
+
+  whole_is : commands_in reader so.bytes ≡ whole_script limit so.bytes
+  whole_is = known_open limit limit (is_finished reader) so.bytes refl opened
+
+  answered_is : answered_in reader engine so.bytes ≡ whole_script limit so.bytes
+  answered_is = take_all engine.count (commands_in reader so.bytes) (let all = so.all in omega (arith, all)) ∙ whole_is
+
+  whole_stands : StandsForThe language (whole_script limit so.bytes) engine
+  whole_stands = (subst (λ (cs : Script). Stands engine (history_of language [] cs)) answered_is so.answered.up_to.stands, so.all ∙ ap length whole_is)
+
+  whole_written : Appends start.held held (output_of_whole language whose limit so.bytes)
+  unfolding output_of_whole
+  whole_written = subst (λ (cs : Script). Appends start.held held (shown language whose cs)) answered_is so.answered.written
+
+  module _ (left' : Option (List ℕ)) (given' rf' : ℕ) where
+    -- the source failed
+    pub over_read_fault : Keeps left left' → Rose rf rf' → IsOver language whose limit most start (outside left' held given' rf' wf) engine begun steps status.ReadFault
+    over_read_fault kept rose = record {
+      ended = record { rose = rose_later _ _ _ so.read_later rose; bytes = so.bytes; read = Consumes-kept _ _ _ _ so.read kept; written = whole_written };
+      stands = λ bytes rest e f.
+          let same : so.bytes ≡ bytes = taken_are start.left left' so.bytes bytes rest (Consumes-kept _ _ _ _ so.read kept) e f in
+          subst (λ (bs : List ℕ). StandsForThe language (whole_script limit bs) engine) same whole_stands;
+      work = with_rest start.left left so.bytes (λ bytes. AreWithinWork language (script limit bytes) begun steps) so.read
+          (λ rest. all_work language limit so.bytes begun rest steps
+          (subst (λ (cs : Script). AreWithinWork language cs begun steps) answered_is so.answered.up_to.work));
+    }
+
+  -- the call that answers what was read left this
+  module _ (reader' : ScriptState) (engine' : EngineState) (left' held' : Option (List ℕ)) (given' rf' wf' steps' : ℕ) (labels : engine'.labels ≡ engine.labels) (limit' : limit_of reader' ≡ limit)
+      (buffer : List ℕ) (n : ℕ) (read : Consumes left left' (take n buffer)) {T : Type 0} where
+    -- at the end of the source
+    module _ (none : n ≡ 0) (end : IsAtEnd left') (closed : is_finished reader' ≡ true) (result : Result T Stop) (through : IsThrough so.bytes reader' engine' begun steps' result)
+        (writes : Writes start.held held' (shown (language_of engine'.labels) whose (commands_in reader' so.bytes)) result) where
+      all_read : Consumes start.left left' so.bytes
+      all_read =
+          let e : so.bytes ++ take n buffer ≡ so.bytes = ap (λ (k : ℕ). so.bytes ++ take k buffer) none ∙ append-nil so.bytes in
+          subst (λ (bs : List ℕ). Consumes start.left left' bs) e (Consumes-trans _ _ _ _ _ so.read read)
+
+      at_end : (P : List ℕ → Type 0) → P so.bytes → IfSome start.left P
+      at_end P p = Consumes-whole start.left left' so.bytes P all_read end p
+
+      end_said : Said language whose (script limit so.bytes) engine' start.held held' begun steps' result
+      end_said = said engine.labels whose so.bytes reader' engine' start.held held' begun steps' labels (script limit so.bytes)
+          (known_closed limit (limit_of reader') (is_finished reader') so.bytes limit' closed) result through writes
+
+      end_work : IfSome start.left (λ bytes. AreWithinWork language (script limit bytes) begun steps')
+      end_work = at_end (λ bytes. AreWithinWork language (script limit bytes) begun steps') end_said.work
+
+      pub over_done : (done : T) → result ≡ Ok done → RoseBy given n given' → IsOver language whose limit most start (outside left' held' given' rf' wf') engine' begun steps' status.Done
+      unfolding output_of
+      over_done done is rose = record {
+        ended = record {
+          at_end = end;
+          written = at_end (λ script. Appends start.held held' (output_of language whose limit script)) (subst (λ r. Writes start.held held' (shown language whose (script limit so.bytes)) r) is end_said.written);
+          within = let most' = so.given.at_most in let few = RoseBy-at_most _ _ _ rose in omega (arith, most', few, within);
+        };
+        stands = at_end (λ bytes. StandsForThe language (script limit bytes) engine') (subst (λ r. OnOk r (StandsForThe language (script limit so.bytes) engine')) is end_said.stands);
+        work = end_work;
+      }
+
+      stopped_end : (why : Stop) → result ≡ Err why → (why ≡ stop.WriteFault → Rose wf wf') → IsOver language whose limit most start (outside left' held' given' rf' wf') engine' begun steps' (status_of why)
+      unfolding output_of
+      stopped_end stop.NoMemory is rose = record {
+        ended = record { written = at_end (λ script. AppendsPrefix start.held held' (output_of language whose limit script)) (subst (λ r. Writes start.held held' (shown language whose (script limit so.bytes)) r) is end_said.written) };
+        stands = tt;
+        work = end_work;
+      }
+      stopped_end stop.WriteFault is rose = record {
+        ended = record {
+          rose = rose_later _ _ _ so.write_later (rose refl);
+          written = at_end (λ script. AppendsProperPrefix start.held held' (output_of language whose limit script)) (subst (λ r. Writes start.held held' (shown language whose (script limit so.bytes)) r) is end_said.written);
+        };
+        stands = tt;
+        work = end_work;
+      }
+
+      pub over_stopped_end : (why : Stop) (ended : Status) → result ≡ Err why → ended ≡ status_of why → (result ≡ Err stop.WriteFault → Rose wf wf')
+          → IsOver language whose limit most start (outside left' held' given' rf' wf') engine' begun steps' ended
+      over_stopped_end why ended is ends cause = subst (λ (s : Status). IsOver language whose limit most start (outside left' held' given' rf' wf') engine' begun steps' s) (sym ends)
+          (stopped_end why is (λ e. cause (is ∙ ap Err e)))
+
+    -- behind a piece
+    module _ (inside : ℕ) (le : inside ≤ n) (piece : List ℕ) (front : piece ≡ take inside buffer) (open' : is_finished reader' ≡ false) (result : Result T Stop) (through : IsThrough (so.bytes ++ piece) reader' engine' begun steps' result)
+        (writes : Writes start.held held' (shown (language_of engine'.labels) whose (commands_in reader' (so.bytes ++ piece))) result) where
+      abbrev now_bytes : List ℕ
+      now_bytes = so.bytes ++ take inside buffer
+
+      now_is : so.bytes ++ piece ≡ now_bytes
+      now_is = ap (λ (bs : List ℕ). so.bytes ++ bs) front
+
+      over_rest : (P : List ℕ → Type 0) → ((more : List ℕ) → P (now_bytes ++ more)) → IfSome start.left P
+      over_rest P p = with_rest start.left left' (so.bytes ++ take n buffer) P (Consumes-trans _ _ _ _ _ so.read read)
+          (λ rest. subst P (sym (split_piece so.bytes buffer rest inside n le)) (p (drop inside (take n buffer) ++ rest)))
+
+      piece_known : commands_in reader' (so.bytes ++ piece) ≡ whole_script limit now_bytes
+      piece_known = known_open limit (limit_of reader') (is_finished reader') (so.bytes ++ piece) limit' open' ∙ ap (whole_script limit) now_is
+
+      piece_said : Said language whose (whole_script limit now_bytes) engine' start.held held' begun steps' result
+      piece_said = said engine.labels whose (so.bytes ++ piece) reader' engine' start.held held' begun steps' labels (whole_script limit now_bytes) piece_known result through writes
+
+      piece_work : IfSome start.left (λ bytes. AreWithinWork language (script limit bytes) begun steps')
+      piece_work = over_rest (λ bytes. AreWithinWork language (script limit bytes) begun steps') (λ more. all_work language limit now_bytes begun more steps' piece_said.work)
+
+      stopped_piece : (why : Stop) → result ≡ Err why → (why ≡ stop.WriteFault → Rose wf wf') → IsOver language whose limit most start (outside left' held' given' rf' wf') engine' begun steps' (status_of why)
+      stopped_piece stop.NoMemory is rose = record {
+        ended = record {
+          written = over_rest (λ script. AppendsPrefix start.held held' (output_of language whose limit script))
+              (λ more. prefix_of_all language whose limit now_bytes more start.held held' (subst (λ r. Writes start.held held' (shown language whose (whole_script limit now_bytes)) r) is piece_said.written));
+        };
+        stands = tt;
+        work = piece_work;
+      }
+      stopped_piece stop.WriteFault is rose = record {
+        ended = record {
+          rose = rose_later _ _ _ so.write_later (rose refl);
+          written = over_rest (λ script. AppendsProperPrefix start.held held' (output_of language whose limit script))
+              (λ more. proper_of_all language whose limit now_bytes more start.held held' (subst (λ r. Writes start.held held' (shown language whose (whole_script limit now_bytes)) r) is piece_said.written));
+        };
+        stands = tt;
+        work = piece_work;
+      }
+
+      pub over_stopped : (why : Stop) (ended : Status) → result ≡ Err why → ended ≡ status_of why → (result ≡ Err stop.WriteFault → Rose wf wf')
+          → IsOver language whose limit most start (outside left' held' given' rf' wf') engine' begun steps' ended
+      over_stopped why ended is ends cause = subst (λ (s : Status). IsOver language whose limit most start (outside left' held' given' rf' wf') engine' begun steps' s) (sym ends)
+          (stopped_piece why is (λ e. cause (is ∙ ap Err e)))
+
+      module _ (done : T) (is : result ≡ Ok done) (room : n ≤ length buffer) (rose : RoseBy given n given') where
+        piece_stands : StandsForThe language (whole_script limit now_bytes) engine'
+        piece_stands = subst (λ r. OnOk r (StandsForThe language (whole_script limit now_bytes) engine')) is piece_said.stands
+
+        piece_written : Appends start.held held' (output_of_whole language whose limit now_bytes)
+        unfolding output_of_whole
+        piece_written = subst (λ r. Writes start.held held' (shown language whose (whole_script limit now_bytes)) r) is piece_said.written
+
+        -- it ends at the limit
+        module _ (small : inside ≡ min n (most - taken)) (long : most - taken < n) where
+          -- what is within the limit is what was read, and the piece up to it
+          front_is : (more : List ℕ) → take most (now_bytes ++ more) ≡ now_bytes
+          front_is more =
+              let full : most ≡ length now_bytes = omega (arith, length-append so.bytes (take inside buffer), length-take inside buffer, so.long) in
+              ap (λ (k : ℕ). take k (now_bytes ++ more)) full ∙ take-append_seam now_bytes more
+
+          pub over_too_long : IsOver language whose limit most start (outside left' held' given' rf' wf') engine' begun steps' status.ScriptTooLong
+          over_too_long = record {
+            ended = record {
+              more = omega (arith, so.given.at_least, RoseBy-at_least _ _ _ rose);
+              long = with_rest start.left left' (so.bytes ++ take n buffer) (λ script. most < length script) (Consumes-trans _ _ _ _ _ so.read read)
+                  (λ rest. omega (arith, length-append (so.bytes ++ take n buffer) rest, length-append so.bytes (take n buffer), length-take n buffer, so.long));
+              written = over_rest (λ script. Appends start.held held' (output_of_whole language whose limit (take most script)))
+                  (λ more. subst (λ (bs : List ℕ). Appends start.held held' (output_of_whole language whose limit bs)) (sym (front_is more)) piece_written);
+            };
+            stands = over_rest (λ script. StandsForThe language (whole_script limit (take most script)) engine')
+                (λ more. subst (λ (bs : List ℕ). StandsForThe language (whole_script limit bs) engine') (sym (front_is more)) piece_stands);
+            work = piece_work;
+          }
+
+        -- it was read whole
+        module _ (same : inside ≡ n) (later : rf ≤ rf') (later' : wf ≤ wf') where
+          pub goes_on : SoFar whose reader' engine' (taken + n) start (outside left' held' given' rf' wf') begun steps'
+          goes_on =
+              let ok = subst (λ r. IsThrough (so.bytes ++ piece) reader' engine' begun steps' r) is through in
+              let full : answered_in reader' engine' (so.bytes ++ piece) ≡ commands_in reader' (so.bytes ++ piece) = take_all engine'.count (commands_in reader' (so.bytes ++ piece)) (let all = ok.all in omega (arith, all)) in
+              record {
+                bytes = so.bytes ++ piece;
+                long = omega (arith, ap length now_is, length-append so.bytes (take inside buffer), length-take inside buffer, so.long);
+                answered = record {
+                  up_to = ok.up_to;
+                  written = subst (λ (cs : Script). Appends start.held held' (shown (language_of engine'.labels) whose cs)) (sym full)
+                      (subst (λ r. Writes start.held held' (shown (language_of engine'.labels) whose (commands_in reader' (so.bytes ++ piece))) r) is writes);
+                };
+                all = ok.all;
+                read = subst (λ (bs : List ℕ). Consumes start.left left' bs) (sym (now_is ∙ ap (λ (k : ℕ). so.bytes ++ take k buffer) same)) (Consumes-trans _ _ _ _ _ so.read read);
+                given = record { at_least = omega (arith, so.given.at_least, RoseBy-at_least _ _ _ rose); at_most = omega (arith, so.given.at_most, RoseBy-at_most _ _ _ rose) };
+                read_later = omega (arith, so.read_later, later);
+                write_later = omega (arith, so.write_later, later');
+              }
+
+pub at_start : (whose : Option (List ℕ)) (reader : ScriptState) (engine : EngineState) (left held : Option (List ℕ)) (given rf wf steps : ℕ) → FollowsScript reader [] 0 → is_finished reader ≡ false → Stands engine [] × (engine.count ≡ 0)
+    → SoFar whose reader engine 0 (outside left held given rf wf) (outside left held given rf wf) steps steps
+at_start whose reader engine left held given rf wf steps follows opened fresh =
+    let none = fresh.1 in
+    let empty : answered_in reader engine [] ≡ [] = ap (λ (n : ℕ). take n (commands_in reader [])) none in
+    let nothing : commands_in reader [] ≡ [] = known_open (limit_of reader) (limit_of reader) (is_finished reader) [] refl opened ∙ whole_script-nil (limit_of reader) in
+    record {
+      bytes = [];
+      long = refl;
+      answered = record {
+        up_to = record {
+          follows = subst (FollowsScript reader []) (sym none) follows;
+          few = omega (arith, none);
+          stands = subst (λ (cs : Script). Stands engine (history_of (language_of engine.labels) [] cs)) (sym empty) fresh.0;
+          work = λ bound works. omega arith;
+        };
+        written = subst (Appends held held) (sym (ap (shown (language_of engine.labels) whose) empty ∙ shown_is (language_of engine.labels) whose [])) (Appends-nil held);
+      };
+      all = none ∙ sym (ap length nothing);
+      read = Consumes-nil left;
+      given = record { at_least = omega arith; at_most = omega arith };
+      read_later = omega arith;
+      write_later = omega arith;
+    }
+
+-- memory ran out before the first turn
+pub never_begun : (language : Language) (whose left held : Option (List ℕ)) (limit most given rf wf steps : ℕ) (engine : EngineState)
+    → IsOver language whose limit most (outside left held given rf wf) (outside left held given rf wf) engine steps steps status.NoMemory
+never_begun language whose left held limit most given rf wf steps engine = record { ended = record { written = nothing_written language whose left held limit }; stands = tt; work = no_step language limit left steps }
 
 -- labels that stay leave the language
-module _ (labels labels' : List Label) (same : labels ≡ labels') where
-  pub so_far_same : (whose : Option (List ℕ)) (reader : ScriptState) (engine : EngineState) (taken : ℕ) (start now : Told) (begun steps : ℕ) → SoFar (language_of labels) whose reader engine taken start now begun steps
-      → SoFar (language_of labels') whose reader engine taken start now begun steps
-  so_far_same whose reader engine taken start now begun steps so = subst (λ (ls : List Label). SoFar (language_of ls) whose reader engine taken start now begun steps) same so
+pub over_same : (labels labels' : List Label) → labels ≡ labels' → (whose : Option (List ℕ)) (limit limit' most most' : ℕ) (start now : Outside) (engine : EngineState) (begun steps : ℕ) (status : Status) → limit ≡ limit' → most ≡ most'
+    → IsOver (language_of labels) whose limit most start now engine begun steps status → IsOver (language_of labels') whose limit' most' start now engine begun steps status
+over_same labels labels' same whose limit limit' most most' start now engine begun steps status e f over = rw (← same, ← e, ← f) over
 
-  pub ended_same : (whose : Option (List ℕ)) (limit limit' most most' : ℕ) (start now : Told) (status : Status) → limit ≡ limit' → most ≡ most' → Ended (language_of labels) whose limit most start now status → Ended (language_of labels') whose limit' most' start now status
-  ended_same whose limit limit' most most' start now status e f ended = rw (← same, ← e, ← f) ended
+-- a session that stopped for a write fault alone ends with one, and none ends with a read fault
+pub stopped_write : (why : Stop) (ended : Status) → ended ≡ status_of why → Some ended ≡ Some status.WriteFault → why ≡ stop.WriteFault
+stopped_write stop.NoMemory ended ends is = let bad : Some status.NoMemory ≡ Some status.WriteFault = ap Some (sym ends) ∙ is in absurd cc
+stopped_write stop.WriteFault ended ends is = refl
 
-  pub stands_same : (limit limit' most most' : ℕ) (left left' : Option (List ℕ)) (engine : EngineState) (status : Status) → limit ≡ limit' → most ≡ most'
-      → StandsAfter (language_of labels) limit most left left' engine status → StandsAfter (language_of labels') limit' most' left left' engine status
-  stands_same limit limit' most most' left left' engine status e f stands = rw (← same, ← e, ← f) stands
-
-  pub work_same : (limit limit' : ℕ) (left : Option (List ℕ)) (begun steps : ℕ) → limit ≡ limit' → IfSome left (λ bytes. AreWithinWork (language_of labels) (script limit bytes) begun steps)
-      → IfSome left (λ bytes. AreWithinWork (language_of labels') (script limit' bytes) begun steps)
-  work_same limit limit' left begun steps e work = rw (← same, ← e) work
+pub stopped_read : (why : Stop) (ended : Status) → ended ≡ status_of why → Some ended ≡ Some status.ReadFault → ⊥
+stopped_read stop.NoMemory ended ends is = let bad : Some status.NoMemory ≡ Some status.ReadFault = ap Some (sym ends) ∙ is in absurd cc
+stopped_read stop.WriteFault ended ends is = let bad : Some status.WriteFault ≡ Some status.ReadFault = ap Some (sym ends) ∙ is in absurd cc

@@ -1,11 +1,10 @@
--- What is written for a script, and the history after it, in a language.
+-- What is written for a script, and the work of its commands, in a language.
 use Rattle.std.specs.Prelude.{ℕ, ◌+◌, ◌≤◌, List, [], Option, Some, None}
 use Rattle.ncq_script.specs.declared.command.Command.{Command}
 use Rattle.ncq_script.specs.Script.{script, whole_script}
 use Rattle.ncq_engine.specs.Alone.{notes, only}
-use Rattle.ncq_engine.specs.History.{History}
 use Rattle.ncq_engine.specs.Notices.{Language}
-use Rattle.ncq_engine.specs.Output.{out_of, history_of}
+use Rattle.ncq_engine.specs.Output.{out_of}
 use Rattle.ncq_engine.specs.Works.{AreWorkUpTo}
 use Rattle.ncq_report.specs.Loads.{load_text}
 use Rattle.ncq_report.specs.Texts.{tally_text}
@@ -28,10 +27,6 @@ output_of_whole language whose limit bytes = shown language whose (whole_script 
 -- the output for a load of n subscribers: the tally of its commands
 unfoldable pub load_output : Language → ℕ → ℕ → List ℕ
 load_output language limit n = tally_text (tally_of language (script limit (load_text n)))
-
--- the history after the commands that are whole in these bytes
-unfoldable pub history_of_whole : Language → ℕ → List ℕ → History
-history_of_whole language limit bytes = history_of language [] (whole_script limit bytes)
 
 -- the steps are within the work of these commands, from the beginning on
 abbrev pub AreWithinWork : Language → List Command → ℕ → ℕ → Type 0

@@ -3,13 +3,11 @@ use Rattle.std.specs.Prelude.{ℕ, ◌+◌, ◌-◌, ◌≤◌, Bool, List, [], 
 use Rattle.std.specs.Prelude.{Option, Some, None}
 use Rattle.std.specs.Str.{bytes_eq}
 use Rattle.ncq_script.specs.declared.command.Command.{Command}
-use Rattle.ncq_script.specs.declared.refusal.Refusal.{Refusal}
 use Rattle.ncq_engine.specs.declared.span.Span.{Span}
-use Rattle.ncq_engine.specs.Alone.{notices_of, unless_refused}
-use Rattle.ncq_engine.specs.Applies.{ok_text}
+use Rattle.ncq_engine.specs.Alone.{notices_of}
 use Rattle.ncq_engine.specs.History.{History}
 use Rattle.ncq_engine.specs.Notices.{Language}
-use Rattle.ncq_engine.specs.Output.{after, first_refusal, output}
+use Rattle.ncq_engine.specs.Output.{after, first_refusal, ok_text, output, unless_refused}
 use Rattle.ncq_engine.specs.Spans.{spans}
 
 -- a place lies within a text
@@ -25,18 +23,13 @@ piece_of text span = take (span.to - span.from) (drop span.from text)
 abbrev pub has_name : List ℕ → Span → Bool
 has_name name span = bytes_eq name span.name
 
--- the places, where nothing is refused
-abbrev pub spans_unless : Option Refusal → List Span → List Span
-spans_unless None places = places
-spans_unless (Some why) places = []
-
 module _ (language : Language) where
   -- what is shown of the answer to the command with this number: all of it, or the notices of one
   -- name
   abbrev pub shown_answer : Option (List ℕ) → History → ℕ → Command → List ℕ
   shown_answer None history number command = output language history number command
   shown_answer (Some name) history number command =
-      unless_refused (first_refusal language history command)
+      unless_refused [] (first_refusal language history command)
       (notices_of language name history command)
 
   -- of the answers to commands, the first with this number
@@ -48,5 +41,5 @@ module _ (language : Language) where
   -- where the notices in the answer to the command with this number stand
   abbrev pub answer_spans : History → ℕ → Command → List Span
   answer_spans history number command =
-      spans_unless (first_refusal language history command)
+      unless_refused [] (first_refusal language history command)
       (spans language history command (length (ok_text number)))

@@ -16,17 +16,16 @@ use Rattle.ncq_run.specs.declared.session.Status.TheVariants.{Done, Usage, ReadF
 use Rattle.ncq_run.specs.declared.session.Status.TheVariants.{WriteFault, NoMemory, ScriptTooLong}
 use Rattle.ncq_run.specs.Output.{AreWithinWork, load_output, output_of, output_of_whole}
 
--- what is told of a source and a sink: the bytes left and held, the bytes given, and the faults of
--- each
-pub record Told : Type 0 where
+-- what a source and a sink show: the bytes left and held, the bytes given, and the faults of each
+pub record Outside : Type 0 where
   pub left : Option (List ℕ)
   pub held : Option (List ℕ)
   pub given : ℕ
   pub read_faults : ℕ
   pub write_faults : ℕ
 
-abbrev pub told : Option (List ℕ) → Option (List ℕ) → ℕ → ℕ → ℕ → Told
-told left held given read_faults write_faults = record {
+abbrev pub outside : Option (List ℕ) → Option (List ℕ) → ℕ → ℕ → ℕ → Outside
+outside left held given read_faults write_faults = record {
   left = left;
   held = held;
   given = given;
@@ -50,7 +49,7 @@ GaveMore before n now = min (before + (n + 1)) (2 ^ 64 - 1) ≤ now
 
 -- done: the source was read to its end within the limit, and the whole output was written
 pub record IsDone (language : Language) (whose : Option (List ℕ)) (limit most : ℕ)
-    (old new : Told) : Type 0 where
+    (old new : Outside) : Type 0 where
   pub at_end : IsAtEnd new.left
   pub written : IfSome old.left (λ script.
       Appends old.held new.held (output_of language whose limit script))
@@ -58,7 +57,7 @@ pub record IsDone (language : Language) (whose : Option (List ℕ)) (limit most 
 
 -- a read fault: the source failed, and the commands that were whole in the bytes read are answered
 pub record IsReadFault (language : Language) (whose : Option (List ℕ)) (limit : ℕ)
-    (old new : Told) : Type 0 where
+    (old new : Outside) : Type 0 where
   pub rose : Rose old.read_faults new.read_faults
   pub bytes : List ℕ
   pub read : Consumes old.left new.left bytes
@@ -66,7 +65,7 @@ pub record IsReadFault (language : Language) (whose : Option (List ℕ)) (limit 
 
 -- a write fault: the sink failed, and not all of the output was written
 pub record IsWriteFault (language : Language) (whose : Option (List ℕ)) (limit : ℕ)
-    (old new : Told) : Type 0 where
+    (old new : Outside) : Type 0 where
   pub rose : Rose old.write_faults new.write_faults
   pub written : IfSome old.left (λ script.
       AppendsProperPrefix old.held new.held (output_of language whose limit script))
@@ -74,7 +73,7 @@ pub record IsWriteFault (language : Language) (whose : Option (List ℕ)) (limit
 -- too long a script: the source gave more than the limit, and the commands that were whole within
 -- it are answered
 pub record IsTooLong (language : Language) (whose : Option (List ℕ)) (limit most : ℕ)
-    (old new : Told) : Type 0 where
+    (old new : Outside) : Type 0 where
   pub more : GaveMore old.given most new.given
   pub long : IfSome old.left (λ script. most < length script)
   pub written : IfSome old.left (λ script.
@@ -82,13 +81,13 @@ pub record IsTooLong (language : Language) (whose : Option (List ℕ)) (limit mo
 
 -- want of memory: some front of the output was written
 pub record IsOutOfMemory (language : Language) (whose : Option (List ℕ)) (limit : ℕ)
-    (old new : Told) : Type 0 where
+    (old new : Outside) : Type 0 where
   pub written : IfSome old.left (λ script.
       AppendsPrefix old.held new.held (output_of language whose limit script))
 
 -- how a session over a script ends
 abbrev pub Ended
-    : Language → Option (List ℕ) → ℕ → ℕ → Told → Told → Status → Type 0
+    : Language → Option (List ℕ) → ℕ → ℕ → Outside → Outside → Status → Type 0
 Ended language whose limit most old new Done = IsDone language whose limit most old new
 Ended language whose limit most old new Usage = ⊥
 Ended language whose limit most old new ReadFault = IsReadFault language whose limit old new
@@ -99,18 +98,18 @@ Ended language whose limit most old new ScriptTooLong =
 
 -- the script is within the limit: its bytes are told and are no more, or the count of the bytes
 -- given says so
-abbrev pub IsShort : ℕ → Told → Told → Type 0
+abbrev pub IsShort : ℕ → Outside → Outside → Type 0
 IsShort most old new = ((script : List ℕ) × (old.left ≡ Some script) × (length script ≤ most))
     ⊎ ¬ GaveMore old.given most new.given
 
 -- the sink is sure to hold what it holds already and the whole output
-abbrev pub HoldsAll : Language → Option (List ℕ) → ℕ → ℕ → Told → Type 0
+abbrev pub HoldsAll : Language → Option (List ℕ) → ℕ → ℕ → Outside → Type 0
 HoldsAll language whose limit sure old = (script : List ℕ) × (held : List ℕ)
     × (old.left ≡ Some script) × (old.held ≡ Some held)
     × (length held + length (output_of language whose limit script) ≤ sure)
 
 -- how a load of n subscribers ends: the tally of its commands is written
-abbrev pub Loaded : Language → ℕ → ℕ → Told → Told → Status → Type 0
+abbrev pub Loaded : Language → ℕ → ℕ → Outside → Outside → Status → Type 0
 Loaded language limit n old new Done = Appends old.held new.held (load_output language limit n)
 Loaded language limit n old new WriteFault = Rose old.write_faults new.write_faults
     × AppendsProperPrefix old.held new.held (load_output language limit n)
@@ -119,14 +118,14 @@ Loaded language limit n old new NoMemory =
 Loaded language limit n old new status = ⊥
 
 -- how it ends with words of this form
-abbrev pub EndedAs : Form → Language → ℕ → ℕ → Told → Told → Status → Type 0
+abbrev pub EndedAs : Form → Language → ℕ → ℕ → Outside → Outside → Status → Type 0
 EndedAs run language limit most old new status = Ended language None limit most old new status
 EndedAs (alone name) language limit most old new status =
     Ended language (Some name) limit most old new status
 EndedAs (load n) language limit most old new status = Loaded language limit n old new status
 
 -- the sink is sure to hold what it holds already and the whole output of the form
-abbrev pub HoldsAllOf : Form → Language → ℕ → ℕ → Told → Type 0
+abbrev pub HoldsAllOf : Form → Language → ℕ → ℕ → Outside → Type 0
 HoldsAllOf run language limit sure old = HoldsAll language None limit sure old
 HoldsAllOf (alone name) language limit sure old = HoldsAll language (Some name) limit sure old
 HoldsAllOf (load n) language limit sure old = (held : List ℕ) × (old.held ≡ Some held)

@@ -1,22 +1,22 @@
 //! Answering the commands of a script, each as soon as it is whole.
-ghost use Rattle.std.specs.Prelude.{◌≡◌, ◌+◌, ◌<◌, ◌≤◌, ◌^◌, ℕ, List, IfOk, OnOk, OnErr};
-ghost use Rattle.std.specs.Prelude.{IsErrOf, length, drop};
+ghost use Rattle.std.specs.Prelude.{◌≡◌, ◌+◌, ◌<◌, ◌≤◌, ◌^◌, ℕ, List, Option, IfOk, OnOk, OnErr};
+ghost use Rattle.std.specs.Prelude.{length, drop};
 ghost use Rattle.std.specs.Io.KnownBytes.{Appends};
-ghost use Rattle.ncq_callback.specs.Labels.{labels};
-ghost use Rattle.ncq_outside.specs.Causes.{HasCause, IsFull, Rose};
-ghost use Rattle.ncq_script.specs.Proper.{IsProperCommand};
-ghost use Rattle.ncq_script.specs.Script.{known_script};
-ghost use Rattle.ncq_script.specs.ScriptReading.{FollowsScript, limit_of, is_finished};
-ghost use Rattle.ncq_engine.specs.History.{History};
-ghost use Rattle.ncq_engine.specs.Languages.{language_of};
 ghost use Rattle.std.specs.List.{filter, flat_map, AllByRecursion};
 ghost use Rattle.std.specs.Option.{is_none, option_copied};
-ghost use Rattle.ncq_engine.specs.Output.{output as answer_to, after, first_refusal, history_of};
+ghost use Rattle.ncq_callback.specs.Labels.{labels};
+ghost use Rattle.ncq_outside.specs.Causes.{HasCause, IsFull};
+ghost use Rattle.ncq_script.specs.Proper.{IsProperCommand};
+ghost use Rattle.ncq_engine.specs.History.{History};
+ghost use Rattle.ncq_engine.specs.Languages.{language_of};
+ghost use Rattle.ncq_engine.specs.Output.{output as answer_to, first_refusal};
 ghost use Rattle.ncq_engine.specs.Stands.{Stands};
-ghost use Rattle.ncq_engine.specs.Works.{AreWorkUpTo, IsWithinWork};
-ghost use Rattle.ncq_run.specs.Shown.{answer_spans, shown_answer, shown_of};
+ghost use Rattle.ncq_run.specs.Output.{shown};
+ghost use Rattle.ncq_run.specs.Session.{Advances, Asks, IsAnswered, IsUpTo, LeavesSink, Writes};
+ghost use Rattle.ncq_run.specs.Session.{commands_in};
+ghost use Rattle.ncq_run.specs.Shown.{answer_spans, shown_answer};
 ghost use Rattle.ncq_run.specs.Shown.{IsWithin, has_name, piece_of};
-ghost use Rattle.ncq_run.specs.Status.{AppendsPrefix, AppendsProperPrefix};
+ghost use Rattle.ncq_run.specs.Status.{AppendsProperPrefix};
 
 use ncq_base::Steps;
 use ncq_callback::Handlers;
@@ -25,6 +25,15 @@ use ncq_outside::{Failed, Sink};
 use ncq_script::{Command, Next, ScriptReader, write_refused};
 use std::alloc::{AllocError, Global};
 use std::sync::ledger::Ledger;
+
+/// What stays the same while a script is answered: whose notices are shown, where it is one
+/// subscriber's alone, and what the actions do.
+#[derive(Clone, Copy)]
+pub(crate) struct Task<'a> {
+    pub(crate) alloc: Global,
+    pub(crate) whose: Option<&'a [u8]>,
+    pub(crate) handlers: &'a Handlers,
+}
 
 /// Why a session stopped before the end of its script.
 #[derive(Clone, Copy, Debug, PartialEq, Eq)]
@@ -61,32 +70,28 @@ fn rest_of(bytes: &[u8], at: usize) -> &[u8]
 /// Makes the answer to the next command in `text`, in place of what stood there, and tells whether
 /// the command was accepted.
 pub(crate) fn make_answer<L: Ledger>(
-    alloc: Global,
+    task: &Task<'_>,
     engine: &mut Engine,
-    command: Command,
-    handlers: &Handlers,
+    command: &Command,
     text: &mut Vec<u8>,
     steps: &mut Steps<L>,
 ) -> Result<bool, AllocError>
     requires few { engine.old.count < 2 ^ 48 }
-    requires proper { IsProperCommand command }
+    requires proper { IsProperCommand command.now }
     requires handlers { engine.old.labels
-        ≡ (labels handlers.now.items.items (λ h. h.name) (λ h. h.kind)) }
+        ≡ (labels task.now.handlers.now.items.items (λ h. h.name) (λ h. h.kind)) }
     ensures made { OnOk result ((history : History) → Stands engine.old history →
-        (text.new.items ≡ answer_to (language_of engine.old.labels) history
-        (engine.old.count + 1) command)
-        × Stands engine.new (after (language_of engine.old.labels) history command)) }
+        text.new.items ≡ answer_to (language_of engine.old.labels) history
+        (engine.old.count + 1) command.now) }
     ensures spans { OnOk result ((history : History) → Stands engine.old history →
         engine.new.spans ≡ answer_spans (language_of engine.old.labels) history
-        (engine.old.count + 1) command) }
+        (engine.old.count + 1) command.now) }
     ensures accepted { IfOk result (λ accepted. (history : History) → Stands engine.old history →
-        accepted ≡ is_none (first_refusal (language_of engine.old.labels) history command)) }
-    ensures counted { OnOk result (engine.new.count ≡ engine.old.count + 1) }
-    ensures labels { OnOk result (engine.new.labels ≡ engine.old.labels) }
-    ensures work { IsWithinWork engine.old command steps.old steps.new }
+        accepted ≡ is_none (first_refusal (language_of engine.old.labels) history command.now)) }
+    ensures asks { Asks engine.old command.now steps.old engine.new steps.new result }
 {
     text.clear();
-    match engine.apply(alloc, command, handlers, text, steps) {
+    match engine.apply(task.alloc, command, task.handlers, text, steps) {
         Ok(_) => Ok(true),
         Err(ApplyError::Refused(refusal)) => {
             write_refused(engine.count(), &refusal, text)?;
@@ -99,30 +104,25 @@ pub(crate) fn make_answer<L: Ledger>(
 /// Makes what is shown of the answer to the next command in `text`: all of it, or the notices of
 /// the one name alone.
 fn make_shown<L: Ledger>(
-    alloc: Global,
-    whose: Option<&[u8]>,
+    task: &Task<'_>,
     engine: &mut Engine,
-    command: Command,
-    handlers: &Handlers,
+    command: &Command,
     text: &mut Vec<u8>,
     steps: &mut Steps<L>,
 ) -> Result<(), AllocError>
     requires few { engine.old.count < 2 ^ 48 }
-    requires proper { IsProperCommand command }
+    requires proper { IsProperCommand command.now }
     requires stands { (history : History) × Stands engine.old history }
     requires handlers { engine.old.labels
-        ≡ (labels handlers.now.items.items (λ h. h.name) (λ h. h.kind)) }
+        ≡ (labels task.now.handlers.now.items.items (λ h. h.name) (λ h. h.kind)) }
     ensures made { OnOk result ((history : History) → Stands engine.old history →
-        (text.new.items ≡ shown_answer (language_of engine.old.labels) (option_copied whose.entry)
-        history (engine.old.count + 1) command)
-        × Stands engine.new (after (language_of engine.old.labels) history command)) }
-    ensures counted { OnOk result (engine.new.count ≡ engine.old.count + 1) }
-    ensures labels { OnOk result (engine.new.labels ≡ engine.old.labels) }
-    ensures work { IsWithinWork engine.old command steps.old steps.new }
+        text.new.items ≡ shown_answer (language_of engine.old.labels)
+        (option_copied task.now.whose) history (engine.old.count + 1) command.now) }
+    ensures asks { Asks engine.old command.now steps.old engine.new steps.new result }
 {
-    make_answer(alloc, engine, command, handlers, text, steps)?;
-    match whose {
-        Some(name) => keep_own(alloc, name, engine.spans(), text),
+    make_answer(task, engine, command, text, steps)?;
+    match task.whose {
+        Some(name) => keep_own(task.alloc, name, engine.spans(), text),
         None => Ok(()),
     }
 }
@@ -165,11 +165,9 @@ fn piece<'a>(text: &'a [u8], span: &Span) -> &'a [u8]
 
 /// Writes what is shown of the answer to the next command. Its text is made in `text`.
 fn answer_one<O: Sink, L: Ledger>(
-    alloc: Global,
-    whose: Option<&[u8]>,
+    task: &Task<'_>,
     engine: &mut Engine,
     command: Command,
-    handlers: &Handlers,
     text: &mut Vec<u8>,
     output: &mut O,
     steps: &mut Steps<L>,
@@ -178,29 +176,15 @@ fn answer_one<O: Sink, L: Ledger>(
     requires proper { IsProperCommand command }
     requires stands { (history : History) × Stands engine.old history }
     requires handlers { engine.old.labels
-        ≡ (labels handlers.now.items.items (λ h. h.name) (λ h. h.kind)) }
-    ensures ok { OnOk result ((history : History) → Stands engine.old history →
-        Appends (O.held output.old) (O.held output.new)
-        (shown_answer (language_of engine.old.labels) (option_copied whose.entry) history
-        (engine.old.count + 1) command)
-        × Stands engine.new (after (language_of engine.old.labels) history command)) }
-    ensures counted { OnOk result (engine.new.count ≡ engine.old.count + 1) }
-    ensures labels { OnOk result (engine.new.labels ≡ engine.old.labels) }
-    ensures no_memory { IsErrOf result Stop.NoMemory → O.held output.new ≡ O.held output.old }
-    ensures write { IsErrOf result Stop.WriteFault →
-        (history : History) → Stands engine.old history →
-        AppendsProperPrefix (O.held output.old) (O.held output.new)
-        (shown_answer (language_of engine.old.labels) (option_copied whose.entry) history
-        (engine.old.count + 1) command) }
-    ensures later { O.faults output.old ≤ O.faults output.new }
-    ensures cause { IsErrOf result Stop.WriteFault
-        → Rose (O.faults output.old) (O.faults output.new) }
-    ensures full { IsErrOf result Stop.WriteFault
-        → IsFull (O.sure output.old) (O.held output.new) }
-    ensures sure { O.sure output.new ≡ O.sure output.old }
-    ensures work { IsWithinWork engine.old command steps.old steps.new }
+        ≡ (labels task.now.handlers.now.items.items (λ h. h.name) (λ h. h.kind)) }
+    ensures asks { Asks engine.old command steps.old engine.new steps.new result }
+    ensures written { (history : History) → Stands engine.old history →
+        Writes (O.held output.old) (O.held output.new) (shown_answer (language_of engine.old.labels)
+        (option_copied task.now.whose) history (engine.old.count + 1) command) result }
+    ensures sink { LeavesSink (O.faults output.old) (O.faults output.new)
+        (O.sure output.old) (O.sure output.new) (O.held output.new) result }
 {
-    let Ok(()) = make_shown(alloc, whose, engine, command, handlers, text, steps) else {
+    let Ok(()) = make_shown(task, engine, &command, text, steps) else {
         return Err(Stop::NoMemory);
     };
     match write_all(output, text.as_slice()) {
@@ -211,68 +195,31 @@ fn answer_one<O: Sink, L: Ledger>(
 
 /// Answers each command that can be told and that has no answer yet.
 pub(crate) fn answer_commands<O: Sink, L: Ledger>(
-    alloc: Global,
-    whose: Option<&[u8]>,
+    task: &Task<'_>,
     reader: &mut ScriptReader,
     engine: &mut Engine,
-    handlers: &Handlers,
     output: &mut O,
     steps: &mut Steps<L>,
 ) -> Result<(), Stop>
-    requires some { (pushed : List ℕ) × FollowsScript reader.old pushed engine.old.count
-        × (length pushed < 2 ^ 48) }
-    requires stands { (history : History) × Stands engine.old history }
+    requires so_far { (bytes : List ℕ) × (begun : ℕ) × (length bytes < 2 ^ 48)
+        × IsUpTo bytes reader.old engine.old begun steps.old }
     requires handlers { engine.old.labels
-        ≡ (labels handlers.now.items.items (λ h. h.name) (λ h. h.kind)) }
-    ensures follows { OnOk result ((pushed : List ℕ)
-        → FollowsScript reader.old pushed engine.old.count
-        → FollowsScript reader.new pushed engine.new.count) }
-    ensures all { OnOk result ((pushed : List ℕ) → FollowsScript reader.old pushed engine.old.count
-        → engine.new.count
-        ≡ length (known_script (limit_of reader.old) (is_finished reader.old) pushed)) }
-    ensures labels { OnOk result (engine.new.labels ≡ engine.old.labels) }
-    ensures stands { OnOk result ((history : History) × Stands engine.new history) }
-    ensures written { OnOk result ((pushed : List ℕ) (history : History)
-        → FollowsScript reader.old pushed engine.old.count → Stands engine.old history →
-        Appends (O.held output.old) (O.held output.new)
-        (shown_of (language_of engine.old.labels) (option_copied whose.entry) history
-        (engine.old.count + 1) (drop engine.old.count
-        (known_script (limit_of reader.old) (is_finished reader.old) pushed)))
-        × Stands engine.new (history_of (language_of engine.old.labels) history (drop
-        engine.old.count (known_script (limit_of reader.old) (is_finished reader.old) pushed)))) }
-    ensures no_memory { IsErrOf result Stop.NoMemory → (pushed : List ℕ) (history : History)
-        → FollowsScript reader.old pushed engine.old.count → Stands engine.old history →
-        AppendsPrefix (O.held output.old) (O.held output.new)
-        (shown_of (language_of engine.old.labels) (option_copied whose.entry) history
-        (engine.old.count + 1) (drop engine.old.count
-        (known_script (limit_of reader.old) (is_finished reader.old) pushed))) }
-    ensures write { IsErrOf result Stop.WriteFault → (pushed : List ℕ) (history : History)
-        → FollowsScript reader.old pushed engine.old.count → Stands engine.old history →
-        AppendsProperPrefix (O.held output.old) (O.held output.new)
-        (shown_of (language_of engine.old.labels) (option_copied whose.entry) history
-        (engine.old.count + 1) (drop engine.old.count
-        (known_script (limit_of reader.old) (is_finished reader.old) pushed))) }
-    ensures later { O.faults output.old ≤ O.faults output.new }
-    ensures cause { IsErrOf result Stop.WriteFault
-        → Rose (O.faults output.old) (O.faults output.new) }
-    ensures full { IsErrOf result Stop.WriteFault
-        → IsFull (O.sure output.old) (O.held output.new) }
-    ensures sure { O.sure output.new ≡ O.sure output.old }
-    ensures limit { limit_of reader.new ≡ limit_of reader.old }
-    ensures finished { is_finished reader.new ≡ is_finished reader.old }
-    ensures work { (pushed : List ℕ) (history : History)
-        → FollowsScript reader.old pushed engine.old.count → Stands engine.old history
-        → (bound : ℕ) → AreWorkUpTo (language_of engine.old.labels) history (drop engine.old.count
-        (known_script (limit_of reader.old) (is_finished reader.old) pushed)) bound
-        → steps.new ≤ steps.old + bound }
+        ≡ (labels task.now.handlers.now.items.items (λ h. h.name) (λ h. h.kind)) }
+    ensures advances { Advances reader.old engine.old steps.old
+        reader.new engine.new steps.new result }
+    ensures written { (bytes : List ℕ) (before : Option (List ℕ)) (begun : ℕ)
+        → IsAnswered (option_copied task.now.whose) bytes reader.old engine.old
+        before (O.held output.old) begun steps.old
+        → Writes before (O.held output.new) (shown (language_of engine.new.labels)
+        (option_copied task.now.whose) (commands_in reader.new bytes)) result }
+    ensures sink { LeavesSink (O.faults output.old) (O.faults output.new)
+        (O.sure output.old) (O.sure output.new) (O.held output.new) result }
 {
-    let mut text = Vec::new(alloc);
+    let mut text = Vec::new(task.alloc);
     'commands: loop {
         match reader.next() {
             Ok(Next::Command(command)) => {
-                answer_one(
-                    alloc, whose, engine, command, handlers, &mut text, output, steps,
-                )?;
+                answer_one(task, engine, command, &mut text, output, steps)?;
             }
             // The next command is not whole yet.
             Ok(Next::Wanting) => return Ok(()),

@@ -1,27 +1,23 @@
 //! The top call: a session over a source and a sink.
 ghost use Rattle.std.specs.Prelude.{◌≡◌, ◌+◌, ◌-◌, ◌<◌, ◌≤◌, ◌^◌, ◌++◌, ℕ, List, [], Option};
-ghost use Rattle.std.specs.Prelude.{OnOk, OnErr, IfOk, IfSome, IfNone, IsErrOf, IsOk, Some};
-ghost use Rattle.std.specs.Prelude.{◌⊎◌, None, true, false, length, take};
-ghost use Rattle.std.specs.Io.KnownBytes.{Appends, Consumes, Keeps, IsAtEnd};
+ghost use Rattle.std.specs.Prelude.{OnErr, IfOk, IfSome, IfNone, IsOk, Some, None};
+ghost use Rattle.std.specs.Prelude.{◌⊎◌, true, false, length, take};
+ghost use Rattle.std.specs.Io.KnownBytes.{Consumes, Keeps, IsAtEnd};
 ghost use Rattle.std.specs.Option.{option_copied};
 ghost use Rattle.ncq_callback.specs.Labels.{labels};
-ghost use Rattle.ncq_outside.specs.Causes.{HasCause, IsFull, Rose, RoseBy};
-ghost use Rattle.ncq_script.specs.Script.{script, whole_script};
-ghost use Rattle.ncq_script.specs.ScriptReading.{FollowsScript, limit_of, is_finished};
-ghost use Rattle.ncq_engine.specs.History.{History};
+ghost use Rattle.ncq_outside.specs.Causes.{HasCause, IsFull, RoseBy};
+ghost use Rattle.ncq_script.specs.ScriptReading.{limit_of, is_finished};
 ghost use Rattle.ncq_engine.specs.Languages.{language_of};
-ghost use Rattle.ncq_engine.specs.Output.{history_of};
 ghost use Rattle.ncq_engine.specs.Stands.{Stands};
 ghost use Rattle.ncq_run.specs.Limits.{longest_line, longest_script};
-ghost use Rattle.ncq_run.specs.Status.{EndedAs, StandsAs, WorksAs, is_load};
-ghost use Rattle.ncq_run.specs.Status.{Told, told, Ended, exit_code_of, StandsAfter};
+ghost use Rattle.ncq_run.specs.Output.{shown};
+ghost use Rattle.ncq_run.specs.Session.{IsAnswered, IsOver, IsReady, IsThrough, IsUpTo, SoFar};
+ghost use Rattle.ncq_run.specs.Session.{LeavesSink, Turns, Writes, commands_in, status_of};
+ghost use Rattle.ncq_run.specs.Status.{EndedAs, Outside, StandsAs, StandsForThe, WorksAs};
+ghost use Rattle.ncq_run.specs.Status.{exit_code_of, is_load, outside};
 ghost use Rattle.ncq_words.specs.Forms.{form_of, texts_of};
-ghost use Rattle.ncq_run.specs.Status.{AppendsPrefix, AppendsProperPrefix};
-ghost use Rattle.ncq_run.specs.Session.{SoFar, IsReady};
-ghost use Rattle.ncq_run.specs.Output.{output_of, output_of_whole, history_of_whole};
-ghost use Rattle.ncq_run.specs.Output.{AreWithinWork};
 
-use crate::answer::{Stop, answer_commands};
+use crate::answer::{Stop, Task, answer_commands};
 use crate::load::load;
 use ncq_base::Steps;
 use ncq_callback::Handlers;
@@ -78,164 +74,67 @@ fn fill<I: Source>(input: &mut I, buffer: &mut [u8], most: usize) -> Result<usiz
 
 /// Pushes a piece, and answers the commands that are whole now.
 fn answer_piece<O: Sink, L: Ledger>(
-    alloc: Global,
-    whose: Option<&[u8]>,
+    task: &Task<'_>,
     reader: &mut ScriptReader,
     engine: &mut Engine,
-    handlers: &Handlers,
-    output: &mut O,
     piece: &[u8],
+    output: &mut O,
     steps: &mut Steps<L>,
 ) -> Result<(), Stop>
-    requires some { (pushed : List ℕ) × FollowsScript reader.old pushed engine.old.count
-        × (length pushed + length piece.now < 2 ^ 48) }
+    requires so_far { (bytes : List ℕ) × (begun : ℕ) × (length bytes + length piece.now < 2 ^ 48)
+        × IsUpTo bytes reader.old engine.old begun steps.old }
     requires is_open { is_finished reader.old ≡ false }
-    requires stands { (history : History) × Stands engine.old history }
     requires handlers { engine.old.labels
-        ≡ (labels handlers.now.items.items (λ h. h.name) (λ h. h.kind)) }
-    ensures follows { OnOk result ((pushed : List ℕ)
-        → FollowsScript reader.old pushed engine.old.count
-        → FollowsScript reader.new (pushed ++ piece.now) engine.new.count) }
-    ensures counted { OnOk result ((pushed : List ℕ)
-        → FollowsScript reader.old pushed engine.old.count
-        → engine.new.count ≡ length (whole_script (limit_of reader.old) (pushed ++ piece.now))) }
-    ensures stays { OnOk result ((history : History) × Stands engine.new history) }
-    ensures labels { OnOk result (engine.new.labels ≡ engine.old.labels) }
-    ensures written { OnOk result ((pushed : List ℕ)
-        → FollowsScript reader.old pushed engine.old.count
-        → engine.old.count ≡ length (whole_script (limit_of reader.old) pushed)
-        → Stands engine.old
-        (history_of_whole (language_of engine.old.labels) (limit_of reader.old) pushed)
-        → (before : Option (List ℕ)) → Appends before (O.held output.old)
-        (output_of_whole (language_of engine.old.labels) (option_copied whose.entry)
-        (limit_of reader.old) pushed)
-        → Appends before (O.held output.new)
-        (output_of_whole (language_of engine.old.labels) (option_copied whose.entry)
-        (limit_of reader.old)
-        (pushed ++ piece.now))
-        × Stands engine.new (history_of_whole (language_of engine.old.labels)
-        (limit_of reader.old) (pushed ++ piece.now))) }
-    ensures no_memory { IsErrOf result Stop.NoMemory → (pushed : List ℕ)
-        → FollowsScript reader.old pushed engine.old.count
-        → engine.old.count ≡ length (whole_script (limit_of reader.old) pushed)
-        → Stands engine.old
-        (history_of_whole (language_of engine.old.labels) (limit_of reader.old) pushed)
-        → (before : Option (List ℕ)) → Appends before (O.held output.old)
-        (output_of_whole (language_of engine.old.labels) (option_copied whose.entry)
-        (limit_of reader.old) pushed)
-        → (more : List ℕ) → AppendsPrefix before (O.held output.new)
-        (output_of (language_of engine.old.labels) (option_copied whose.entry) (limit_of reader.old)
-        ((pushed ++ piece.now) ++ more)) }
-    ensures write { IsErrOf result Stop.WriteFault → (pushed : List ℕ)
-        → FollowsScript reader.old pushed engine.old.count
-        → engine.old.count ≡ length (whole_script (limit_of reader.old) pushed)
-        → Stands engine.old
-        (history_of_whole (language_of engine.old.labels) (limit_of reader.old) pushed)
-        → (before : Option (List ℕ)) → Appends before (O.held output.old)
-        (output_of_whole (language_of engine.old.labels) (option_copied whose.entry)
-        (limit_of reader.old) pushed)
-        → (more : List ℕ) → AppendsProperPrefix before (O.held output.new)
-        (output_of (language_of engine.old.labels) (option_copied whose.entry) (limit_of reader.old)
-        ((pushed ++ piece.now) ++ more)) }
-    ensures later { O.faults output.old ≤ O.faults output.new }
-    ensures cause { IsErrOf result Stop.WriteFault
-        → Rose (O.faults output.old) (O.faults output.new) }
-    ensures full { IsErrOf result Stop.WriteFault
-        → IsFull (O.sure output.old) (O.held output.new) }
-    ensures sure { O.sure output.new ≡ O.sure output.old }
+        ≡ (labels task.now.handlers.now.items.items (λ h. h.name) (λ h. h.kind)) }
+    ensures through { (bytes : List ℕ) (begun : ℕ)
+        → IsUpTo bytes reader.old engine.old begun steps.old
+        → IsThrough (bytes ++ piece.now) reader.new engine.new begun steps.new result }
+    ensures written { (bytes : List ℕ) (before : Option (List ℕ)) (begun : ℕ)
+        → IsAnswered (option_copied task.now.whose) bytes reader.old engine.old
+        before (O.held output.old) begun steps.old
+        → Writes before (O.held output.new) (shown (language_of engine.new.labels)
+        (option_copied task.now.whose) (commands_in reader.new (bytes ++ piece.now))) result }
+    ensures sink { LeavesSink (O.faults output.old) (O.faults output.new)
+        (O.sure output.old) (O.sure output.new) (O.held output.new) result }
     ensures limit { limit_of reader.new ≡ limit_of reader.old }
-    ensures work { (pushed : List ℕ) → FollowsScript reader.old pushed engine.old.count
-        → engine.old.count ≡ length (whole_script (limit_of reader.old) pushed)
-        → Stands engine.old
-        (history_of_whole (language_of engine.old.labels) (limit_of reader.old) pushed)
-        → (before : ℕ) → AreWithinWork (language_of engine.old.labels)
-        (whole_script (limit_of reader.old) pushed) before steps.old
-        → AreWithinWork (language_of engine.old.labels)
-        (whole_script (limit_of reader.old) (pushed ++ piece.now)) before steps.new }
     ensures is_open { is_finished reader.new ≡ false }
+    ensures labels { engine.new.labels ≡ engine.old.labels }
 {
     match reader.push(piece) {
-        Ok(()) => answer_commands(alloc, whose, reader, engine, handlers, output, steps),
+        Ok(()) => answer_commands(task, reader, engine, output, steps),
         Err(AllocError) => Err(Stop::NoMemory),
     }
 }
 
 /// Marks the end, and answers the last command.
 fn answer_rest<O: Sink, L: Ledger>(
-    alloc: Global,
-    whose: Option<&[u8]>,
+    task: &Task<'_>,
     reader: &mut ScriptReader,
     engine: &mut Engine,
-    handlers: &Handlers,
     output: &mut O,
     steps: &mut Steps<L>,
 ) -> Result<(), Stop>
-    requires some { (pushed : List ℕ) × FollowsScript reader.old pushed engine.old.count
-        × (length pushed < 2 ^ 48) }
-    requires stands { (history : History) × Stands engine.old history }
+    requires so_far { (bytes : List ℕ) × (begun : ℕ) × (length bytes < 2 ^ 48)
+        × IsUpTo bytes reader.old engine.old begun steps.old }
+    requires is_open { is_finished reader.old ≡ false }
     requires handlers { engine.old.labels
-        ≡ (labels handlers.now.items.items (λ h. h.name) (λ h. h.kind)) }
-    ensures counted { OnOk result ((pushed : List ℕ)
-        → FollowsScript reader.old pushed engine.old.count
-        → engine.new.count ≡ length (script (limit_of reader.old) pushed)) }
-    ensures stands { OnOk result ((pushed : List ℕ)
-        → FollowsScript reader.old pushed engine.old.count
-        → engine.old.count ≡ length (whole_script (limit_of reader.old) pushed)
-        → Stands engine.old
-        (history_of_whole (language_of engine.old.labels) (limit_of reader.old) pushed)
-        → Stands engine.new
-        (history_of (language_of engine.old.labels) [] (script (limit_of reader.old) pushed))) }
-    ensures written { OnOk result ((pushed : List ℕ)
-        → FollowsScript reader.old pushed engine.old.count
-        → engine.old.count ≡ length (whole_script (limit_of reader.old) pushed)
-        → Stands engine.old
-        (history_of_whole (language_of engine.old.labels) (limit_of reader.old) pushed)
-        → (before : Option (List ℕ)) → Appends before (O.held output.old)
-        (output_of_whole (language_of engine.old.labels) (option_copied whose.entry)
-        (limit_of reader.old) pushed)
-        → Appends before (O.held output.new)
-        (output_of (language_of engine.old.labels) (option_copied whose.entry)
-        (limit_of reader.old) pushed)) }
-    ensures no_memory { IsErrOf result Stop.NoMemory → (pushed : List ℕ)
-        → FollowsScript reader.old pushed engine.old.count
-        → engine.old.count ≡ length (whole_script (limit_of reader.old) pushed)
-        → Stands engine.old
-        (history_of_whole (language_of engine.old.labels) (limit_of reader.old) pushed)
-        → (before : Option (List ℕ)) → Appends before (O.held output.old)
-        (output_of_whole (language_of engine.old.labels) (option_copied whose.entry)
-        (limit_of reader.old) pushed)
-        → AppendsPrefix before (O.held output.new)
-        (output_of (language_of engine.old.labels) (option_copied whose.entry)
-        (limit_of reader.old) pushed) }
-    ensures write { IsErrOf result Stop.WriteFault → (pushed : List ℕ)
-        → FollowsScript reader.old pushed engine.old.count
-        → engine.old.count ≡ length (whole_script (limit_of reader.old) pushed)
-        → Stands engine.old
-        (history_of_whole (language_of engine.old.labels) (limit_of reader.old) pushed)
-        → (before : Option (List ℕ)) → Appends before (O.held output.old)
-        (output_of_whole (language_of engine.old.labels) (option_copied whose.entry)
-        (limit_of reader.old) pushed)
-        → AppendsProperPrefix before (O.held output.new)
-        (output_of (language_of engine.old.labels) (option_copied whose.entry)
-        (limit_of reader.old) pushed) }
-    ensures later { O.faults output.old ≤ O.faults output.new }
-    ensures cause { IsErrOf result Stop.WriteFault
-        → Rose (O.faults output.old) (O.faults output.new) }
-    ensures full { IsErrOf result Stop.WriteFault
-        → IsFull (O.sure output.old) (O.held output.new) }
-    ensures sure { O.sure output.new ≡ O.sure output.old }
+        ≡ (labels task.now.handlers.now.items.items (λ h. h.name) (λ h. h.kind)) }
+    ensures through { (bytes : List ℕ) (begun : ℕ)
+        → IsUpTo bytes reader.old engine.old begun steps.old
+        → IsThrough bytes reader.new engine.new begun steps.new result }
+    ensures written { (bytes : List ℕ) (before : Option (List ℕ)) (begun : ℕ)
+        → IsAnswered (option_copied task.now.whose) bytes reader.old engine.old
+        before (O.held output.old) begun steps.old
+        → Writes before (O.held output.new) (shown (language_of engine.new.labels)
+        (option_copied task.now.whose) (commands_in reader.new bytes)) result }
+    ensures sink { LeavesSink (O.faults output.old) (O.faults output.new)
+        (O.sure output.old) (O.sure output.new) (O.held output.new) result }
     ensures limit { limit_of reader.new ≡ limit_of reader.old }
-    ensures work { (pushed : List ℕ) → FollowsScript reader.old pushed engine.old.count
-        → engine.old.count ≡ length (whole_script (limit_of reader.old) pushed)
-        → Stands engine.old
-        (history_of_whole (language_of engine.old.labels) (limit_of reader.old) pushed)
-        → (before : ℕ) → AreWithinWork (language_of engine.old.labels)
-        (whole_script (limit_of reader.old) pushed) before steps.old
-        → AreWithinWork (language_of engine.old.labels)
-        (script (limit_of reader.old) pushed) before steps.new }
+    ensures closed { is_finished reader.new ≡ true }
+    ensures labels { engine.new.labels ≡ engine.old.labels }
 {
     reader.finish();
-    answer_commands(alloc, whose, reader, engine, handlers, output, steps)
+    answer_commands(task, reader, engine, output, steps)
 }
 
 /// The bytes up to a place.
@@ -244,6 +143,16 @@ fn front_of(bytes: &[u8], end: usize) -> &[u8]
     ensures { result.now ≡ take end bytes.now }
 {
     &bytes[..end]
+}
+
+/// How a session ends that stopped.
+fn status_of(stop: Stop) -> Status
+    ensures { result ≡ status_of stop }
+{
+    match stop {
+        Stop::NoMemory => Status::NoMemory,
+        Stop::WriteFault => Status::WriteFault,
+    }
 }
 
 /// How far a session has come, and its limit.
@@ -257,55 +166,29 @@ struct Session {
 
 /// Reads a piece and answers what is whole now. It tells how the session ends, where it does.
 fn turn<I: Source, O: Sink, L: Ledger>(
-    alloc: Global,
-    whose: Option<&[u8]>,
+    task: &Task<'_>,
     session: &mut Session,
     input: &mut I,
     output: &mut O,
-    handlers: &Handlers,
     engine: &mut Engine,
     steps: &mut Steps<L>,
 ) -> Option<Status>
     requires ready { IsReady session.old.reader engine.old session.old.taken session.old.most
-        (length session.old.buffer.items) }
+        (length session.old.buffer.items) steps.old }
     requires handlers { engine.old.labels
-        ≡ (labels handlers.now.items.items (λ h. h.name) (λ h. h.kind)) }
+        ≡ (labels task.now.handlers.now.items.items (λ h. h.name) (λ h. h.kind)) }
     ensures ready { IfNone result (IsReady session.new.reader engine.new session.new.taken
-        session.old.most (length session.new.buffer.items)) }
+        session.old.most (length session.new.buffer.items) steps.new) }
     ensures falls { IfNone result (session.old.taken < session.new.taken) }
-    ensures labels { IfNone result (engine.new.labels ≡ engine.old.labels) }
-    ensures goes_on { IfNone result ((start : Told) (begun : ℕ)
-        → SoFar (language_of engine.old.labels) (option_copied whose.entry) session.old.reader
-        engine.old session.old.taken
-        start (told (I.left input.old) (O.held output.old) (I.given input.old)
-        (I.faults input.old) (O.faults output.old)) begun steps.old
-        → SoFar (language_of engine.old.labels) (option_copied whose.entry) session.new.reader
-        engine.new session.new.taken
-        start (told (I.left input.new) (O.held output.new) (I.given input.new)
-        (I.faults input.new) (O.faults output.new)) begun steps.new) }
-    ensures ends { IfSome result (λ status. (start : Told) (begun : ℕ)
-        → SoFar (language_of engine.old.labels) (option_copied whose.entry) session.old.reader
-        engine.old session.old.taken
-        start (told (I.left input.old) (O.held output.old) (I.given input.old)
-        (I.faults input.old) (O.faults output.old)) begun steps.old
-        → Ended (language_of engine.old.labels) (option_copied whose.entry) (limit_of
-        session.old.reader) session.old.most start
-        (told (I.left input.new) (O.held output.new) (I.given input.new)
-        (I.faults input.new) (O.faults output.new)) status) }
-    ensures stands { IfSome result (λ status. (start : Told) (begun : ℕ)
-        → SoFar (language_of engine.old.labels) (option_copied whose.entry) session.old.reader
-        engine.old session.old.taken
-        start (told (I.left input.old) (O.held output.old) (I.given input.old)
-        (I.faults input.old) (O.faults output.old)) begun steps.old
-        → StandsAfter (language_of engine.old.labels) (limit_of session.old.reader)
-        session.old.most start.left (I.left input.new) engine.new status) }
-    ensures work { IfSome result (λ status. (start : Told) (begun : ℕ)
-        → SoFar (language_of engine.old.labels) (option_copied whose.entry) session.old.reader
-        engine.old session.old.taken
-        start (told (I.left input.old) (O.held output.old) (I.given input.old)
-        (I.faults input.old) (O.faults output.old)) begun steps.old
-        → IfSome start.left (λ bytes. AreWithinWork (language_of engine.old.labels)
-        (script (limit_of session.old.reader) bytes) begun steps.new)) }
+    ensures turns { (start : Outside) (begun : ℕ)
+        → SoFar (option_copied task.now.whose) session.old.reader engine.old session.old.taken start
+        (outside (I.left input.old) (O.held output.old) (I.given input.old) (I.faults input.old)
+        (O.faults output.old)) begun steps.old
+        → Turns (language_of engine.old.labels) (option_copied task.now.whose)
+        (limit_of session.old.reader) session.old.most start
+        (outside (I.left input.new) (O.held output.new) (I.given input.new) (I.faults input.new)
+        (O.faults output.new)) session.new.reader engine.new session.new.taken begun steps.new
+        result }
     ensures within { I.given input.new
         ≤ I.given input.old + (session.old.most - session.old.taken + 1) }
     ensures limits { (session.new.most ≡ session.old.most)
@@ -315,100 +198,66 @@ fn turn<I: Source, O: Sink, L: Ledger>(
         → IsFull (O.sure output.old) (O.held output.new) }
     ensures stays { (I.is_sure input.new ≡ I.is_sure input.old)
         × (O.sure output.new ≡ O.sure output.old) }
+    ensures labels { engine.new.labels ≡ engine.old.labels }
 {
     let room = session.most - session.taken;
     let Ok(got) = fill(input, &mut session.buffer, PIECE.min(room + 1)) else {
         return Some(Status::ReadFault);
     };
     if got == 0 {
-        return match answer_rest(
-            alloc,
-            whose,
-            &mut session.reader,
-            engine,
-            handlers,
-            output,
-            steps,
-        ) {
+        return match answer_rest(task, &mut session.reader, engine, output, steps) {
             Ok(()) => Some(Status::Done),
-            Err(Stop::NoMemory) => Some(Status::NoMemory),
-            Err(Stop::WriteFault) => Some(Status::WriteFault),
+            Err(stop) => Some(status_of(stop)),
         };
     }
     let inside = got.min(room);
     let piece = front_of(&session.buffer, inside);
-    match answer_piece(
-        alloc,
-        whose,
-        &mut session.reader,
-        engine,
-        handlers,
-        output,
-        piece,
-        steps,
-    ) {
+    match answer_piece(task, &mut session.reader, engine, piece, output, steps) {
         Ok(()) if got > room => Some(Status::ScriptTooLong),
         Ok(()) => {
             session.taken += got;
             None
         }
-        Err(Stop::NoMemory) => Some(Status::NoMemory),
-        Err(Stop::WriteFault) => Some(Status::WriteFault),
+        Err(stop) => Some(status_of(stop)),
     }
 }
 
 /// A session on a script of at most `most` bytes, with lines of at most `limit` bytes.
 fn serve<I: Source, O: Sink, L: Ledger>(
-    alloc: Global,
-    whose: Option<&[u8]>,
-    input: &mut I,
-    output: &mut O,
-    handlers: &Handlers,
-    engine: &mut Engine,
-    steps: &mut Steps<L>,
+    task: &Task<'_>,
     most: usize,
     limit: usize,
+    input: &mut I,
+    output: &mut O,
+    engine: &mut Engine,
+    steps: &mut Steps<L>,
 ) -> Status
     requires most { most < 2 ^ 48 }
     requires limit { limit < 2 ^ 59 }
-    requires stands { Stands engine.old [] }
-    requires fresh { engine.old.count ≡ 0 }
+    requires fresh { StandsForThe (language_of engine.old.labels) [] engine.old }
     requires handlers { engine.old.labels
-        ≡ (labels handlers.now.items.items (λ h. h.name) (λ h. h.kind)) }
-    ensures ended { Ended (language_of engine.old.labels) (option_copied whose.entry) limit most
-        (told (I.left input.old) (O.held output.old) (I.given input.old)
-        (I.faults input.old) (O.faults output.old))
-        (told (I.left input.new) (O.held output.new) (I.given input.new)
-        (I.faults input.new) (O.faults output.new)) result }
-    ensures stands { StandsAfter (language_of engine.old.labels) limit most
-        (I.left input.old) (I.left input.new) engine.new result }
-    ensures work { IfSome (I.left input.old) (λ bytes. AreWithinWork
-        (language_of engine.old.labels) (script limit bytes) steps.old steps.new) }
+        ≡ (labels task.now.handlers.now.items.items (λ h. h.name) (λ h. h.kind)) }
+    ensures over { IsOver (language_of engine.old.labels) (option_copied task.now.whose) limit most
+        (outside (I.left input.old) (O.held output.old) (I.given input.old) (I.faults input.old)
+        (O.faults output.old)) (outside (I.left input.new) (O.held output.new) (I.given input.new)
+        (I.faults input.new) (O.faults output.new)) engine.new steps.old steps.new result }
     ensures within { I.given input.new ≤ I.given input.old + (most + 1) }
     ensures sure_source { result ≡ Status.ReadFault → I.is_sure input.old ≡ true → ⊥ }
     ensures sure_sink { result ≡ Status.WriteFault
         → IsFull (O.sure output.old) (O.held output.new) }
+    ensures labels { engine.new.labels ≡ engine.old.labels }
 {
-    let Ok(buffer) = vec![in alloc; 0u8; PIECE] else {
+    let Ok(buffer) = vec![in task.alloc; 0u8; PIECE] else {
         return Status::NoMemory;
     };
     let mut session = Session {
-        reader: ScriptReader::new(alloc, limit),
+        reader: ScriptReader::new(task.alloc, limit),
         buffer,
         taken: 0,
         most,
     };
     'turns: loop {
-        if let Some(status) = turn(
-            alloc,
-            whose,
-            &mut session,
-            input,
-            output,
-            handlers,
-            engine,
-            steps,
-        ) {
+        if let Some(status) = turn(task, &mut session, input, output, engine, steps) {
             return status;
         }
     }
@@ -419,7 +268,7 @@ fn serve<I: Source, O: Sink, L: Ledger>(
 /// that name alone; `load <n>` makes commands of its own, answers them and writes their tally.
 ///
 /// `Usage` comes only where the words fit none of these forms; then, and where memory ran out
-/// before that was found, nothing is read or written, and the engine stays.
+/// before that was found, nothing is read or written, no step is counted, and the engine stays.
 /// `Done` means that the script was read to its end and that `output` was extended by the whole
 /// defined output. `ReadFault` and `WriteFault` come only where a read or a write failed in this
 /// call, `ScriptTooLong` only where the source gave more than 268,435,456 bytes in this call. After
@@ -430,8 +279,9 @@ fn serve<I: Source, O: Sink, L: Ledger>(
 /// The engine is a new one, for these handlers. After `Done` it stands for the whole script, after
 /// `ReadFault` for the commands that are whole in the bytes that were read, and after
 /// `ScriptTooLong` for those that are whole in the first 268,435,456 bytes; and it counted them.
-/// Each row that is made is one step: where the source tells its bytes, the steps are within the
-/// work of the commands of the script, whatever the status.
+/// Whatever the status, its handlers have the names and kinds that they had.
+/// It takes at most one step for each row that is made: where the source tells its bytes, the steps
+/// are within the work of the commands of the script, whatever the status.
 pub fn run<I: Source, O: Sink, L: Ledger>(
     alloc: Global,
     words: &[&str],
@@ -452,9 +302,9 @@ pub fn run<I: Source, O: Sink, L: Ledger>(
         ((input.new ≡ input.old) × (output.new ≡ output.old) × (engine.new ≡ engine.old)) }
     ensures ended { IfSome (form_of (texts_of words.now)) (λ form.
         EndedAs form (language_of engine.old.labels) longest_line longest_script
-        (told (I.left input.old) (O.held output.old) (I.given input.old)
+        (outside (I.left input.old) (O.held output.old) (I.given input.old)
         (I.faults input.old) (O.faults output.old))
-        (told (I.left input.new) (O.held output.new) (I.given input.new)
+        (outside (I.left input.new) (O.held output.new) (I.given input.new)
         (I.faults input.new) (O.faults output.new)) result) }
     ensures unread { IfSome (form_of (texts_of words.now)) (λ form.
         is_load form ≡ true → input.new ≡ input.old) }
@@ -468,23 +318,24 @@ pub fn run<I: Source, O: Sink, L: Ledger>(
     ensures sure_source { result ≡ Status.ReadFault → I.is_sure input.old ≡ true → ⊥ }
     ensures sure_sink { result ≡ Status.WriteFault
         → IsFull (O.sure output.old) (O.held output.new) }
+    ensures no_steps { IfNone (form_of (texts_of words.now)) (steps.new ≡ steps.old) }
+    ensures labels { engine.new.labels ≡ engine.old.labels }
 {
+    let task = Task {
+        alloc,
+        whose: None,
+        handlers,
+    };
     match read_words(alloc, words) {
-        Ok(Form::Run) => serve(
-            alloc, None, input, output, handlers, engine, steps, MAX_SCRIPT, MAX_LINE,
-        ),
-        Ok(Form::Alone(name)) => serve(
-            alloc,
-            Some(name.as_bytes()),
-            input,
-            output,
-            handlers,
-            engine,
-            steps,
-            MAX_SCRIPT,
-            MAX_LINE,
-        ),
-        Ok(Form::Load(n)) => load(alloc, n, output, handlers, engine, steps, MAX_LINE),
+        Ok(Form::Run) => serve(&task, MAX_SCRIPT, MAX_LINE, input, output, engine, steps),
+        Ok(Form::Alone(name)) => {
+            let alone = Task {
+                whose: Some(name.as_bytes()),
+                ..task
+            };
+            serve(&alone, MAX_SCRIPT, MAX_LINE, input, output, engine, steps)
+        }
+        Ok(Form::Load(n)) => load(&task, n, MAX_LINE, output, engine, steps),
         Err(WordsError::Usage) => Status::Usage,
         Err(WordsError::OutOfMemory) => Status::NoMemory,
     }

@@ -1,7 +1,7 @@
 -- What holds of every command that is read, and what its answer may rest on.
 use Rattle.std.specs.Prelude.{◌≡◌, true}
 use Rattle.std.specs.List.{list_all}
-use Rattle.ncq_pyx.specs.Canonical.{item_is_proper}
+use Rattle.ncq_pyx.specs.Items.{item_is_proper}
 use Rattle.ncq_xmlql.specs.WellFormed.{IsWellFormed}
 use Rattle.ncq_script.specs.declared.command.Command.{Command}
 use Rattle.ncq_script.specs.declared.command.Command.TheVariants.{Declare, Delta, Create, Delete}

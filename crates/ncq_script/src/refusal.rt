@@ -1,5 +1,6 @@
 //! Why a command is refused, and the line that says so.
 ghost use Rattle.std.specs.Prelude.{◌≡◌, ◌++◌, length, take, OnOk, OnErr};
+ghost use Rattle.std.specs.Io.{StartsWith};
 ghost use Rattle.ncq_script.specs.Refusals.{refused_text, word_of, shown, limit_word};
 
 use ncq_base::{Limit, write_decimal};
@@ -59,7 +60,7 @@ pub fn write_refused(k: u64, refusal: &Refusal, out: &mut Vec<u8>) -> Result<(),
 /// Appends the line; what was there stays in front.
 fn write_line(k: u64, refusal: &Refusal, out: &mut Vec<u8>) -> Result<(), AllocError>
     ensures ok { OnOk result (out.new.items ≡ out.old.items ++ refused_text k refusal.now) }
-    ensures front { take (length out.old.items) out.new.items ≡ out.old.items }
+    ensures front { StartsWith out.new.items out.old.items }
 {
     write_decimal(k, out)?;
     out.extend_from_slice(b" refused ")?;
@@ -96,7 +97,7 @@ fn word_of(refusal: &Refusal) -> &[u8]
 /// front.
 fn write_shown(refusal: &Refusal, out: &mut Vec<u8>) -> Result<(), AllocError>
     ensures ok { OnOk result (out.new.items ≡ out.old.items ++ shown refusal.now) }
-    ensures front { take (length out.old.items) out.new.items ≡ out.old.items }
+    ensures front { StartsWith out.new.items out.old.items }
 {
     match refusal {
         Refusal::Pyx { line: number }

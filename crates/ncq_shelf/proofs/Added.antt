@@ -14,7 +14,8 @@ use Rattle.ncq_shelf.specs.KeptFiles.{Files}
 use Rattle.ncq_shelf.specs.Stands.{Stands}
 use Rattle.ncq_shelf.specs.Inputs.{AreInputs}
 use Rattle.ncq_shelf.specs.Readers.{IsScanOf}
-use Rattle.ncq_shelf.specs.Indexed.{IsIndexed, is_expr}
+use Rattle.ncq_plan.specs.ExprLists.{is_expr}
+use Rattle.ncq_shelf.specs.Indexed.{IsIndexed}
 use Rattle.ncq_shelf.specs.Shown.{shown, state_of}
 use Rattle.ncq_shelf.specs.Wired.{Reads, ReadsSo, KnowsReaders, KnowsScans, IsShelved, IsEnrolled, AreAlike}
 use Rattle.ncq_shelf.specs.Enrolled.{IsUnread, IsScanIn, ScansSource, GainsScan, SameScans}

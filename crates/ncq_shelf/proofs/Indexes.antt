@@ -11,7 +11,8 @@ use Rattle.ncq_plan.specs.contracts.expr.Expr.{the_row as expr_row}
 use Rattle.ncq_shelf.specs.KeptFiles.{KeptFile}
 use Rattle.ncq_shelf.specs.Stands.{Stands, IsIdle, Finds}
 use Rattle.ncq_shelf.specs.Inputs.{AreInputs}
-use Rattle.ncq_shelf.specs.Indexed.{IsIndexed, is_expr}
+use Rattle.ncq_plan.specs.ExprLists.{is_expr}
+use Rattle.ncq_shelf.specs.Indexed.{IsIndexed}
 use Rattle.ncq_shelf.specs.Shown.{shown, state_of}
 use Rattle.ncq_shelf.specs.declared.file.File.{File}
 use Rattle.ncq_shelf.proofs.Maps.{put_same, put_other, gone_same, gone_other, one_value, there}

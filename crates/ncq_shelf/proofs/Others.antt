@@ -7,7 +7,8 @@ use Rattle.std.specs.FinMap.{same_map, nat_cmp-IsAntisymmetric}
 use Rattle.ncq_plan.specs.declared.expr.Expr.{Expr}
 use Rattle.ncq_shelf.specs.Stands.{Stands}
 use Rattle.ncq_shelf.specs.Inputs.{AreInputs}
-use Rattle.ncq_shelf.specs.Indexed.{IsIndexed, is_expr}
+use Rattle.ncq_plan.specs.ExprLists.{is_expr}
+use Rattle.ncq_shelf.specs.Indexed.{IsIndexed}
 use Rattle.ncq_shelf.specs.Shown.{shown, state_of}
 use Rattle.ncq_shelf.specs.Wired.{HasOthers, IsEnrolled, IsStruck, AreAlike}
 use Rattle.ncq_shelf.specs.Enrolled.{OneEach}

@@ -9,7 +9,7 @@ use Rattle.ncq_shelf.specs.KeptFiles.{Files}
 use Rattle.ncq_shelf.specs.Stands.{Stands, IsIdle}
 use Rattle.ncq_shelf.specs.Inputs.{AreInputs}
 use Rattle.ncq_shelf.specs.Readers.{IsScanOf}
-use Rattle.ncq_shelf.specs.Indexed.{is_expr}
+use Rattle.ncq_plan.specs.ExprLists.{is_expr}
 use Rattle.ncq_shelf.specs.Shown.{shown, state_of}
 use Rattle.ncq_shelf.specs.Wired.{Reads, KnowsReaders, KnowsScans, IsShelved, IsStruck}
 use Rattle.ncq_shelf.specs.Enrolled.{OneEach, IsKnown, IsScanIn, ScansSource, LosesScan}

@@ -1,7 +1,7 @@
 -- The rows of files: against the sources, by a change, and in all.
-use Rattle.std.specs.Prelude.{◌≡◌, ℕ, ◌≤◌, List, ◌++◌, map, length, Some}
+use Rattle.std.specs.Prelude.{◌≡◌, ℕ, ◌≤◌, List, ◌++◌, map, length}
 use Rattle.std.specs.List.{AllByRecursion}
-use Rattle.std.specs.FinMap.{get, entries}
+use Rattle.std.specs.FinMap.{entries}
 use Rattle.ncq_base.specs.Counts.{total_by}
 use Rattle.ncq_row.specs.Embeddings.{Row}
 use Rattle.ncq_plan.specs.Exprs.{World, rows_in, expr_width}
@@ -10,19 +10,19 @@ use Rattle.ncq_midfile.specs.Content.{IsContent, rows_of, up_to}
 use Rattle.ncq_midfile.specs.Files.{FileState}
 use Rattle.ncq_midfile.specs.Made.{gained_at}
 use Rattle.ncq_midfile.specs.declared.signed.SignedRow.{SignedRow}
-use Rattle.ncq_shelf.specs.KeptFiles.{KeptFile, Files}
+use Rattle.ncq_shelf.specs.KeptFiles.{EachFile, Files, KeptFile}
 
 -- the expression of each file is well formed
 abbrev pub AreFormed : Files → Type 0
 AreFormed files =
-    (number : ℕ) (file : KeptFile) → get files number ≡ Some file → IsWellFormedExpr file.expr
+    EachFile files (λ number file. IsWellFormedExpr file.expr)
 
 -- each row of the file has a value for each slot of its expression, and so in each file
 abbrev pub IsWide : KeptFile → Type 0
 IsWide file = AllByRecursion (λ r. length r.row ≡ expr_width file.expr) file.content.rows
 
 abbrev pub AreWide : Files → Type 0
-AreWide files = (number : ℕ) (file : KeptFile) → get files number ≡ Some file → IsWide file
+AreWide files = EachFile files (λ number file. IsWide file)
 
 -- the file was made at this change or before, and has no row of a later one; so in each file
 pub record IsUpTo (now : ℕ) (content : FileState) : Type 0 where
@@ -31,13 +31,12 @@ pub record IsUpTo (now : ℕ) (content : FileState) : Type 0 where
 
 abbrev pub AreUpTo : ℕ → Files → Type 0
 AreUpTo now files =
-    (number : ℕ) (file : KeptFile) → get files number ≡ Some file → IsUpTo now file.content
+    EachFile files (λ number file. IsUpTo now file.content)
 
 -- each file has, at this change, the rows of its expression over the world
 abbrev pub Fits : ℕ → World → Files → Type 0
 Fits now world files =
-    (number : ℕ) (file : KeptFile) → get files number ≡ Some file
-    → IsContent now file.content.rows (rows_in file.expr world)
+    EachFile files (λ number file. IsContent now file.content.rows (rows_in file.expr world))
 
 -- the sum of f over the numbers of the files
 abbrev pub sum_over : Files → (ℕ → ℕ) → ℕ
@@ -55,12 +54,15 @@ with_more file more = with_rows (file.content.rows ++ more) file
 abbrev pub cut_to : ℕ → KeptFile → KeptFile
 cut_to n file = with_rows (up_to n file.content.rows) file
 
--- the file after its base was made n: its rows are those left at n, there from the base on
+-- the file after its base was made n: what was its content at a change from n on is so still
 pub record IsCompacted (n : ℕ) (old new : KeptFile) : Type 0 where
   pub expr : new.expr ≡ old.expr
   pub uses : new.uses ≡ old.uses
   pub base : new.content.base ≡ n
+  pub stays : (at : ℕ) (list : List Row) → n ≤ at → IsContent at old.content.rows list
+      → IsContent at new.content.rows list
+
+-- the file's rows are the content that it had at n, each there from n on
+pub record HoldsItsContent (n : ℕ) (old new : KeptFile) : Type 0 where
   pub gains : new.content.rows ≡ map (gained_at n) (rows_of new.content.rows)
   pub content : IsContent n old.content.rows (rows_of new.content.rows)
-  pub stays : (list : List Row) → IsContent n old.content.rows list
-      → IsContent n new.content.rows list

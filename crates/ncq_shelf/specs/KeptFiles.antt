@@ -1,7 +1,7 @@
 -- A file of a shelf, as callers see it, and files by their numbers.
-use Rattle.std.specs.Prelude.{ℕ, refl}
+use Rattle.std.specs.Prelude.{◌≡◌, ℕ, Some, refl}
 use Rattle.std.specs.Ordering.{nat_cmp}
-use Rattle.std.specs.FinMap.{FinMap, code}
+use Rattle.std.specs.FinMap.{FinMap, code, get}
 use Rattle.std.specs.Coded.{Coded, code_by, coded×, coded_ℕ}
 use Rattle.ncq_plan.specs.declared.expr.Expr.{Expr}
 use Rattle.ncq_plan.specs.contracts.expr.Expr.{the_row as expr_row}
@@ -26,3 +26,11 @@ Files = FinMap nat_cmp KeptFile
 
 abbrev pub files_code : Coded Files
 files_code = code coded_ℕ kept_code
+
+-- this holds of the file of the number, if it is there
+abbrev pub AtFile : Files → ℕ → (KeptFile → Type 0) → Type 0
+AtFile files number P = (file : KeptFile) → get files number ≡ Some file → P file
+
+-- this holds of each number that a file has, and of the file
+abbrev pub EachFile : Files → (ℕ → KeptFile → Type 0) → Type 0
+EachFile files P = (number : ℕ) → AtFile files number (P number)

@@ -2,7 +2,6 @@
 -- it.
 use Rattle.std.specs.Prelude.{◌≡◌, ◌≢◌, ◌⊎◌, ◌||◌, ℕ, Bool, true, not, List, [], ◌∷◌, length}
 use Rattle.std.specs.Prelude.{nat_eq, nat_lt, Some}
-use Rattle.std.specs.FinMap.{get}
 use Rattle.std.specs.List.{AllByRecursion}
 use Rattle.std.specs.Map.{lookup}
 use Rattle.std.specs.Option.{option_map_or}
@@ -14,7 +13,7 @@ use Rattle.ncq_plan.specs.declared.expr.Expr.{Expr}
 use Rattle.ncq_plan.specs.declared.expr.Expr.TheVariants.{Join}
 use Rattle.ncq_midfile.specs.declared.signed.SignedRow.{SignedRow}
 use Rattle.ncq_holders.specs.Held.{Held, is_holder}
-use Rattle.ncq_shelf.specs.KeptFiles.{KeptFile, Files}
+use Rattle.ncq_shelf.specs.KeptFiles.{AtFile, Files}
 use Rattle.ncq_readers.specs.ReaderTables.{ReaderTables}
 use Rattle.ncq_shelf.specs.Stands.{IsThere}
 use Rattle.ncq_shelf.specs.Readers.{IsAmong, JoinsFrom}
@@ -109,12 +108,12 @@ IsJoinFound keys number whole inputs =
     (first second : Expr) (pairs : List Pair) (left right : ℕ) → whole ≡ Join first second pairs
     → AreSidesOf inputs left right → IsFound keys number left right pairs
 
--- rows are noted at slots of files that are there, the rows of each file are noted at its slots, and
--- each join is found when it is met
+-- rows are noted at slots of files that are there, the rows of each file are noted at its slots,
+-- and each join is found when it is met
 pub record IsKeyed (files : Files) (keys : Keys) : Type 0 where
   pub there : (number slot : ℕ) → IsKey keys number slot → IsThere files number
-  pub noted : (number slot : ℕ) (file : KeptFile) → get files number ≡ Some file
-      → IsKey keys number slot → AreHeld keys.holders number slot file.content.rows
+  pub noted : (number slot : ℕ) → AtFile files number (λ file.
+      IsKey keys number slot → AreHeld keys.holders number slot file.content.rows)
   pub found : (number left right : ℕ) (joins : JoinsFrom files number left right)
       → IsFound keys number left right joins.pairs
 

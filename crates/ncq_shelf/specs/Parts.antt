@@ -1,5 +1,5 @@
 -- The inputs and the parts of an expression.
-use Rattle.std.specs.Prelude.{◌≡◌, ◌⊎◌}
+use Rattle.std.specs.Prelude.{◌≡◌, ◌⊎◌, List, [], ◌∷◌}
 use Rattle.ncq_plan.specs.declared.expr.Expr.{Expr}
 use Rattle.ncq_plan.specs.declared.expr.Expr.TheOpen.{Expr-F}
 use Rattle.ncq_plan.specs.declared.expr.Expr.TheOpen.Expr-F.{Scan as ScanLayer}
@@ -23,3 +23,8 @@ IsInput input whole = IsRead input (out-Expr whole)
 pub data IsPart (part : Expr) : Expr → Type 0 where
   itself : IsPart part part
   within : {whole input : Expr} → IsInput input whole → IsPart part input → IsPart part whole
+
+-- the expression is a part of one of these
+abbrev pub IsPartOfOne : Expr → List Expr → Type 0
+IsPartOfOne part [] = ⊥
+IsPartOfOne part (whole ∷ others) = IsPart part whole ⊎ IsPartOfOne part others

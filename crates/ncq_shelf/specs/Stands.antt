@@ -3,6 +3,7 @@ use Rattle.std.specs.Prelude.{◌≡◌, ℕ, ◌<◌, Bool, true, false, Option
 use Rattle.std.specs.FinMap.{get}
 use Rattle.ncq_plan.specs.declared.expr.Expr.{Expr}
 use Rattle.ncq_shelf.specs.Parts.{IsInput}
+use Rattle.ncq_shelf.specs.KeptFiles.{AtFile}
 pub use Rattle.ncq_shelf.specs.KeptFiles.{KeptFile, Files}
 
 -- the file of this number is that of the expression
@@ -39,7 +40,7 @@ pub record IsIdle (files : Files) (number : ℕ) : Type 0 where
 abbrev pub TellsIdle : Files → ℕ → Bool → Type 0
 TellsIdle files number true = IsIdle files number
 TellsIdle files number false =
-    (file : KeptFile) → get files number ≡ Some file → file.uses ≡ 0 → IsReadIn files file.expr
+    AtFile files number (λ file. file.uses ≡ 0 → IsReadIn files file.expr)
 
 -- each expression has one file at most, and the inputs of a file are files of smaller number
 pub record IsGrounded (files : Files) : Type 0 where

@@ -7,7 +7,8 @@ ghost use Rattle.std.specs.Map.{lookup};
 ghost use Rattle.ncq_holders.specs.Held.{is_holder};
 ghost use Rattle.ncq_midfile.specs.Content.{signed_at};
 ghost use Rattle.ncq_shelf.specs.Keyed.{AreHeld, IsHeld, HoldsMore, HoldsOthers, HaveKept};
-ghost use Rattle.ncq_shelf.specs.Keyed.{IsKey, IsAlways, Grows, ForgetsFile, nowhere, noted_at, slots_in};
+ghost use Rattle.ncq_shelf.specs.Keyed.{IsKey, IsAlways, Grows, ForgetsFile, nowhere, noted_at};
+ghost use Rattle.ncq_shelf.specs.Keyed.{slots_in};
 
 use indexmap::{IndexMap, IndexSet};
 use ncq_base::{Atom, Copied};
@@ -23,7 +24,8 @@ pub(crate) struct KeyedFile {
     atoms: Vec<Atom>,
 }
 
-/// The files whose rows are noted, the joins that are met whatever came, and the files of each atom.
+/// The files whose rows are noted, the joins that are met whatever came, and the files of each
+/// atom.
 #[derive(Drop)]
 pub(crate) struct Keys {
     alloc: Global,

@@ -1,9 +1,9 @@
 //! The files that share their rows: each expression has one file at most, under a number.
 //! Expressions come in with the numbers of their inputs' files; files are found by expression, by
 //! source and by what they read, each without a look at the others, and a change goes on from a
-//! file to those that read it. A file knows the files that it reads. Where joins compare the rows of
-//! a file, each of its rows is noted by its atom there, so that a change finds the joins that its
-//! rows may meet without a look at the others.
+//! file to those that read it. A file knows the files that it reads. Where joins compare the rows
+//! of a file, each of its rows is noted by its atom there, so that a change finds the joins that
+//! its rows may meet without a look at the others.
 #![tactic(auto)]
 
 mod cut;

@@ -7,9 +7,9 @@ ghost use Rattle.std.specs.Option.{option_map};
 ghost use Rattle.ncq_midfile.specs.Content.{since, IsSoundAt};
 ghost use Rattle.ncq_midfile.specs.Matching.{HaveSlots};
 ghost use Rattle.ncq_shelf.specs.Contents.{AreFormed, AreWide, with_more, cut_to, sum_over};
-ghost use Rattle.ncq_shelf.specs.Contents.{IsCompacted};
+ghost use Rattle.ncq_shelf.specs.Contents.{HoldsItsContent, IsCompacted};
 ghost use Rattle.ncq_shelf.specs.Inputs.{AreInputs};
-ghost use Rattle.ncq_shelf.specs.KeptFiles.{KeptFile};
+ghost use Rattle.ncq_shelf.specs.KeptFiles.{AtFile, EachFile, KeptFile};
 ghost use Rattle.ncq_shelf.specs.Readers.{AreScansOf, AreJoinsMet, ArePassedOn, AreBoundBy};
 ghost use Rattle.ncq_shelf.specs.Stands.{Finds, IsGrounded, IsIdle, IsThere, Stands, TellsIdle};
 
@@ -81,7 +81,7 @@ impl Shelf {
     /// The expression of a file.
     pub fn expr(&self, number: u64) -> &Expr
         requires { IsThere self.now number }
-        ensures { (file : KeptFile) → get self.now number ≡ Some file → result.now ≡ file.expr }
+        ensures { AtFile self.now number (λ file. result.now ≡ file.expr) }
     {
         match self.files.get(&number) {
             Some(file) => &file.expr,
@@ -92,8 +92,7 @@ impl Shelf {
     /// The numbers of the files that a file reads.
     pub fn inputs(&self, number: u64) -> Inputs
         requires { IsThere self.now number }
-        ensures { (file : KeptFile) → get self.now number ≡ Some file
-            → AreInputs self.now file.expr result }
+        ensures { AtFile self.now number (λ file. AreInputs self.now file.expr result) }
     {
         match self.files.get(&number) {
             Some(file) => file.inputs,
@@ -104,7 +103,7 @@ impl Shelf {
     /// The rows of a file.
     pub fn content(&self, number: u64) -> &MidFile
         requires { IsThere self.now number }
-        ensures { (file : KeptFile) → get self.now number ≡ Some file → result.now ≡ file.content }
+        ensures { AtFile self.now number (λ file. result.now ≡ file.content) }
     {
         match self.files.get(&number) {
             Some(file) => &file.content,
@@ -115,7 +114,7 @@ impl Shelf {
     /// How many uses a file has.
     pub fn uses(&self, number: u64) -> u64
         requires { IsThere self.now number }
-        ensures { (file : KeptFile) → get self.now number ≡ Some file → result ≡ file.uses }
+        ensures { AtFile self.now number (λ file. result ≡ file.uses) }
     {
         match self.files.get(&number) {
             Some(file) => file.uses,
@@ -126,8 +125,8 @@ impl Shelf {
     /// Gives a file another count of uses.
     pub fn set_uses(&mut self, number: u64, uses: u64)
         requires { IsThere self.old number }
-        ensures { (file : KeptFile) → get self.old number ≡ Some file
-            → self.new ≡ insert self.old number (record file { uses = uses }) }
+        ensures { AtFile self.old number (λ file.
+            self.new ≡ insert self.old number (record file { uses = uses })) }
     {
         let Some(file) = self.files.get_mut(&number) else {
             return;
@@ -159,8 +158,7 @@ impl Shelf {
     pub fn remove(&mut self, number: u64) -> Inputs
         requires { IsIdle self.old number }
         ensures gone { self.new ≡ remove self.old number }
-        ensures inputs { (file : KeptFile) → get self.old number ≡ Some file
-            → AreInputs self.old file.expr result }
+        ensures inputs { AtFile self.old number (λ file. AreInputs self.old file.expr result) }
     {
         let Some(file) = self.files.swap_remove(&number) else {
             return Inputs::Nothing;
@@ -211,12 +209,11 @@ impl Shelf {
     /// After an error all is as before.
     pub fn append(&mut self, number: u64, row: SignedRow) -> Result<(), AllocError>
         requires there { IsThere self.old number }
-        requires above { (file : KeptFile) → get self.old number ≡ Some file
-            → file.content.base < row.number }
-        requires last { (file : KeptFile) → get self.old number ≡ Some file
-            → AllByRecursion (λ r. r.number ≤ row.number) file.content.rows }
-        ensures ok { OnOk result ((file : KeptFile) → get self.old number ≡ Some file
-            → self.new ≡ insert self.old number (with_more file (row ∷ []))) }
+        requires above { AtFile self.old number (λ file. file.content.base < row.number) }
+        requires last { AtFile self.old number (λ file.
+            AllByRecursion (λ r. r.number ≤ row.number) file.content.rows) }
+        ensures ok { OnOk result (AtFile self.old number (λ file.
+            self.new ≡ insert self.old number (with_more file (row ∷ [])))) }
         ensures err { OnErr result (self.new ≡ self.old) }
     {
         self.keys.note_row(number, &row.row)?;
@@ -234,8 +231,7 @@ impl Shelf {
         slots: &[usize],
     ) -> Result<(), AllocError>
         requires there { IsThere self.old number }
-        requires slots { (file : KeptFile) → get self.old number ≡ Some file
-            → HaveSlots slots.now file.content.rows }
+        requires slots { AtFile self.old number (λ file. HaveSlots slots.now file.content.rows) }
         ensures { self.new ≡ self.old }
     {
         let Some(file) = self.files.get_mut(&number) else {
@@ -248,15 +244,15 @@ impl Shelf {
     /// that is there from the base on. After an error all is as before.
     pub fn compact(&mut self, alloc: Global, number: u64, change: u64) -> Result<(), AllocError>
         requires there { IsThere self.old number }
-        requires base { (file : KeptFile) → get self.old number ≡ Some file
-            → file.content.base ≤ change }
-        requires last { (file : KeptFile) → get self.old number ≡ Some file
-            → AllByRecursion (λ r. r.number ≤ change) file.content.rows }
-        requires sound { (file : KeptFile) → get self.old number ≡ Some file
-            → IsSoundAt change file.content.rows }
-        ensures ok { OnOk result ((file : KeptFile) → get self.old number ≡ Some file
-            → (kept : KeptFile) × (self.new ≡ insert self.old number kept)
-            × IsCompacted change file kept) }
+        requires base { AtFile self.old number (λ file. file.content.base ≤ change) }
+        requires last { AtFile self.old number (λ file.
+            AllByRecursion (λ r. r.number ≤ change) file.content.rows) }
+        requires sound { AtFile self.old number (λ file. IsSoundAt change file.content.rows) }
+        ensures ok { OnOk result (AtFile self.old number (λ file.
+            (kept : KeptFile) × (self.new ≡ insert self.old number kept)
+            × IsCompacted change file kept)) }
+        ensures rows { OnOk result (AtFile self.old number (λ file.
+            AtFile self.new number (λ kept. HoldsItsContent change file kept))) }
         ensures err { OnErr result (self.new ≡ self.old) }
     {
         let Some(file) = self.files.get_mut(&number) else {
@@ -267,8 +263,7 @@ impl Shelf {
 
     /// Takes the signed rows of later changes away from each file. It takes no memory.
     pub fn roll_back(&mut self, change: u64)
-        requires { (number : ℕ) (file : KeptFile) → get self.old number ≡ Some file
-            → file.content.base ≤ change }
+        requires { EachFile self.old (λ number file. file.content.base ≤ change) }
         ensures { (number : ℕ)
             → get self.new number ≡ option_map (cut_to change) (get self.old number) }
     {
@@ -287,8 +282,8 @@ impl Shelf {
         Ok(numbers)
     }
 
-    /// The numbers of joins over a file, each once; those that are left out make nothing of its rows
-    /// above a change.
+    /// The numbers of joins over a file, each once; those that are left out make nothing of its
+    /// rows above a change.
     pub fn joins_met(
         &self,
         alloc: Global,
@@ -296,8 +291,7 @@ impl Shelf {
         change: u64,
     ) -> Result<Sequence<u64>, AllocError>
         requires there { IsThere self.now input }
-        requires base { (file : KeptFile) → get self.now input ≡ Some file
-            → file.content.base ≤ change }
+        requires base { AtFile self.now input (λ file. file.content.base ≤ change) }
         requires formed { AreFormed self.now }
         requires wide { AreWide self.now }
         ensures met { IfOk result (λ numbers. AreJoinsMet self.now input change numbers) }
@@ -318,7 +312,7 @@ impl Shelf {
     }
 
     /// A parcel of each of a file's rows above a change for each selection over the file that takes
-    /// it. Each parcel is one step. The only error is that memory ran out.
+    /// it. It takes at most one step for each parcel. The only error is that memory ran out.
     pub fn parcels<L: Ledger>(
         &self,
         alloc: Global,
@@ -327,14 +321,13 @@ impl Shelf {
         steps: &mut Steps<L>,
     ) -> Result<Parcels, AllocError>
         requires there { IsThere self.now input }
-        requires base { (file : KeptFile) → get self.now input ≡ Some file
-            → file.content.base ≤ change }
+        requires base { AtFile self.now input (λ file. file.content.base ≤ change) }
         requires grounded { IsGrounded self.now }
         requires formed { AreFormed self.now }
         requires wide { AreWide self.now }
         ensures parcels { IfOk result (λ parcels.
-            (file : KeptFile) → get self.now input ≡ Some file
-            → ArePassedOn self.now input (since change file.content.rows) parcels) }
+            AtFile self.now input (λ file.
+            ArePassedOn self.now input (since change file.content.rows) parcels)) }
 
         // `bound` is any that no selection over the file exceeds.
         ensures cost { (file : KeptFile) (bound : ℕ → ℕ) → get self.now input ≡ Some file

@@ -1,5 +1,6 @@
 //! The texts of signatures.
 ghost use Rattle.std.specs.Prelude.{◌≡◌, ◌++◌, ◌∷◌, [], length, take, map, codes, OnOk, OnErr};
+ghost use Rattle.std.specs.Io.{StartsWith};
 ghost use Rattle.ncq_base.specs.AtomTexts.{atom_text, number_text};
 ghost use Rattle.ncq_signature.specs.IntervalTexts.{interval_text, low_text, high_text};
 ghost use Rattle.ncq_signature.specs.SignatureTexts.{signature_text, expr_text, selection_text};
@@ -30,7 +31,7 @@ pub fn write_signature(signature: &Signature, out: &mut Vec<u8>) -> Result<(), A
 /// Appends the text of a signature; what was there stays in front.
 fn push_signature(signature: &Signature, out: &mut Vec<u8>) -> Result<(), AllocError>
     ensures ok { OnOk result (out.new.items ≡ out.old.items ++ signature_text signature.now) }
-    ensures front { take (length out.old.items) out.new.items ≡ out.old.items }
+    ensures front { StartsWith out.new.items out.old.items }
 {
     match signature {
         Signature::Scan { source, shape } => push_scan(source, shape, out),
@@ -49,7 +50,7 @@ fn push_open(word: &[u8], input: &Expr, slot: usize, out: &mut Vec<u8>) -> Resul
     ensures ok { OnOk result
         (out.new.items
         ≡ out.old.items ++ selection_text word.now (expr_text input.now) slot ++ codes ")") }
-    ensures front { take (length out.old.items) out.new.items ≡ out.old.items }
+    ensures front { StartsWith out.new.items out.old.items }
 {
     push_selection(word, input, slot, out)?;
     out.push(b')')?;
@@ -60,7 +61,7 @@ fn push_open(word: &[u8], input: &Expr, slot: usize, out: &mut Vec<u8>) -> Resul
 #[cycle(expr)]
 fn push_expr(expr: &Expr, out: &mut Vec<u8>) -> Result<(), AllocError>
     ensures ok { OnOk result (out.new.items ≡ out.old.items ++ expr_text expr.now) }
-    ensures front { take (length out.old.items) out.new.items ≡ out.old.items }
+    ensures front { StartsWith out.new.items out.old.items }
 {
     match expr {
         Expr::Scan { source, shape } => push_scan(source, shape, out),
@@ -98,7 +99,7 @@ fn push_selection(
 ) -> Result<(), AllocError>
     ensures ok { OnOk result
         (out.new.items ≡ out.old.items ++ selection_text word.now (expr_text input.now) slot) }
-    ensures front { take (length out.old.items) out.new.items ≡ out.old.items }
+    ensures front { StartsWith out.new.items out.old.items }
 {
     push_input(word, input, out)?;
     out.push(b',')?;
@@ -109,7 +110,7 @@ fn push_selection(
 #[cycle(expr)]
 fn push_input(mark: &[u8], input: &Expr, out: &mut Vec<u8>) -> Result<(), AllocError>
     ensures ok { OnOk result (out.new.items ≡ out.old.items ++ mark.now ++ expr_text input.now) }
-    ensures front { take (length out.old.items) out.new.items ≡ out.old.items }
+    ensures front { StartsWith out.new.items out.old.items }
 {
     out.extend_from_slice(mark)?;
     push_expr(input, out)
@@ -119,7 +120,7 @@ fn push_input(mark: &[u8], input: &Expr, out: &mut Vec<u8>) -> Result<(), AllocE
 fn push_last(pairs: &[Pair], out: &mut Vec<u8>) -> Result<(), AllocError>
     ensures ok { OnOk result
         (out.new.items ≡ out.old.items ++ codes "," ++ pairs_text pairs.now ++ codes ")") }
-    ensures front { take (length out.old.items) out.new.items ≡ out.old.items }
+    ensures front { StartsWith out.new.items out.old.items }
 {
     out.push(b',')?;
     push_pairs(pairs, out)?;
@@ -131,7 +132,7 @@ fn push_last(pairs: &[Pair], out: &mut Vec<u8>) -> Result<(), AllocError>
 fn push_constant(constant: &Atom, out: &mut Vec<u8>) -> Result<(), AllocError>
     ensures ok { OnOk result
         (out.new.items ≡ out.old.items ++ codes "," ++ atom_text constant.now ++ codes ")") }
-    ensures front { take (length out.old.items) out.new.items ≡ out.old.items }
+    ensures front { StartsWith out.new.items out.old.items }
 {
     out.push(b',')?;
     write_atom(constant, out)?;
@@ -142,7 +143,7 @@ fn push_constant(constant: &Atom, out: &mut Vec<u8>) -> Result<(), AllocError>
 /// Appends the text of a scan; what was there stays in front.
 fn push_scan(source: &Bytes, shape: &Shape, out: &mut Vec<u8>) -> Result<(), AllocError>
     ensures ok { OnOk result (out.new.items ≡ out.old.items ++ scan_text source.now shape.now) }
-    ensures front { take (length out.old.items) out.new.items ≡ out.old.items }
+    ensures front { StartsWith out.new.items out.old.items }
 {
     out.extend_from_slice(b"scan(")?;
     out.extend_from_slice(source.as_slice())?;
@@ -157,7 +158,7 @@ fn push_scan(source: &Bytes, shape: &Shape, out: &mut Vec<u8>) -> Result<(), All
 #[tactic(auto, using(crate::proofs::ShapeTexts::shapes_are))]
 fn push_shape(shape: &Shape, out: &mut Vec<u8>) -> Result<(), AllocError>
     ensures ok { OnOk result (out.new.items ≡ out.old.items ++ shape_text shape.now) }
-    ensures front { take (length out.old.items) out.new.items ≡ out.old.items }
+    ensures front { StartsWith out.new.items out.old.items }
 {
     out.extend_from_slice(shape.tag.as_slice())?;
     push_attributes(shape.attributes.as_slice(), out)?;
@@ -170,7 +171,7 @@ fn push_shape(shape: &Shape, out: &mut Vec<u8>) -> Result<(), AllocError>
 #[tactic(auto, using(crate::proofs::ShapeTexts::shapes_are))]
 fn push_content(content: &ShapeContent, out: &mut Vec<u8>) -> Result<(), AllocError>
     ensures ok { OnOk result (out.new.items ≡ out.old.items ++ content_text content.now) }
-    ensures front { take (length out.old.items) out.new.items ≡ out.old.items }
+    ensures front { StartsWith out.new.items out.old.items }
 {
     match content {
         ShapeContent::Parts(shapes) => push_parts(shapes.as_slice(), out),
@@ -183,7 +184,7 @@ fn push_content(content: &ShapeContent, out: &mut Vec<u8>) -> Result<(), AllocEr
 fn push_parts(shapes: &[Shape], out: &mut Vec<u8>) -> Result<(), AllocError>
     ensures ok { OnOk result
         (out.new.items ≡ out.old.items ++ parts_text (map shape_text shapes.now)) }
-    ensures front { take (length out.old.items) out.new.items ≡ out.old.items }
+    ensures front { StartsWith out.new.items out.old.items }
 {
     let mut mark = b'(';
     for shape in shapes {
@@ -197,7 +198,7 @@ fn push_parts(shapes: &[Shape], out: &mut Vec<u8>) -> Result<(), AllocError>
 #[cycle(shape)]
 fn push_part(mark: u8, shape: &Shape, out: &mut Vec<u8>) -> Result<(), AllocError>
     ensures ok { OnOk result (out.new.items ≡ out.old.items ++ mark ∷ shape_text shape.now) }
-    ensures front { take (length out.old.items) out.new.items ≡ out.old.items }
+    ensures front { StartsWith out.new.items out.old.items }
 {
     out.push(mark)?;
     push_shape(shape, out)
@@ -206,7 +207,7 @@ fn push_part(mark: u8, shape: &Shape, out: &mut Vec<u8>) -> Result<(), AllocErro
 /// Appends the bracket behind parts, where there are some; what was there stays in front.
 fn push_closing(none: bool, out: &mut Vec<u8>) -> Result<(), AllocError>
     ensures ok { OnOk result (out.new.items ≡ out.old.items ++ closing none) }
-    ensures front { take (length out.old.items) out.new.items ≡ out.old.items }
+    ensures front { StartsWith out.new.items out.old.items }
 {
     if !none {
         out.push(b')')?;
@@ -218,7 +219,7 @@ fn push_closing(none: bool, out: &mut Vec<u8>) -> Result<(), AllocError>
 fn push_attributes(names: &[Bytes], out: &mut Vec<u8>) -> Result<(), AllocError>
     ensures ok { OnOk result
         (out.new.items ≡ out.old.items ++ led_by (codes "@") (codes "@") names.now) }
-    ensures front { take (length out.old.items) out.new.items ≡ out.old.items }
+    ensures front { StartsWith out.new.items out.old.items }
 {
     for name in names {
         out.push(b'@')?;
@@ -230,7 +231,7 @@ fn push_attributes(names: &[Bytes], out: &mut Vec<u8>) -> Result<(), AllocError>
 /// Appends the mark of a suffix that binds; what was there stays in front.
 fn push_suffix(suffix: ShapeSuffix, out: &mut Vec<u8>) -> Result<(), AllocError>
     ensures ok { OnOk result (out.new.items ≡ out.old.items ++ suffix_text suffix) }
-    ensures front { take (length out.old.items) out.new.items ≡ out.old.items }
+    ensures front { StartsWith out.new.items out.old.items }
 {
     match suffix {
         ShapeSuffix::Plain => Ok(()),
@@ -242,7 +243,7 @@ fn push_suffix(suffix: ShapeSuffix, out: &mut Vec<u8>) -> Result<(), AllocError>
 /// Appends pairs, joined by `;`; what was there stays in front.
 fn push_pairs(pairs: &[Pair], out: &mut Vec<u8>) -> Result<(), AllocError>
     ensures ok { OnOk result (out.new.items ≡ out.old.items ++ pairs_text pairs.now) }
-    ensures front { take (length out.old.items) out.new.items ≡ out.old.items }
+    ensures front { StartsWith out.new.items out.old.items }
 {
     let mut mark: &[u8] = b"";
     for pair in pairs {
@@ -255,7 +256,7 @@ fn push_pairs(pairs: &[Pair], out: &mut Vec<u8>) -> Result<(), AllocError>
 /// Appends a mark and a pair; what was there stays in front.
 fn push_marked_pair(mark: &[u8], pair: &Pair, out: &mut Vec<u8>) -> Result<(), AllocError>
     ensures ok { OnOk result (out.new.items ≡ out.old.items ++ mark.now ++ pair_text pair.now) }
-    ensures front { take (length out.old.items) out.new.items ≡ out.old.items }
+    ensures front { StartsWith out.new.items out.old.items }
 {
     out.extend_from_slice(mark)?;
     push_pair(pair, out)
@@ -264,7 +265,7 @@ fn push_marked_pair(mark: &[u8], pair: &Pair, out: &mut Vec<u8>) -> Result<(), A
 /// Appends a pair; what was there stays in front.
 fn push_pair(pair: &Pair, out: &mut Vec<u8>) -> Result<(), AllocError>
     ensures ok { OnOk result (out.new.items ≡ out.old.items ++ pair_text pair.now) }
-    ensures front { take (length out.old.items) out.new.items ≡ out.old.items }
+    ensures front { StartsWith out.new.items out.old.items }
 {
     write_decimal(pair.left as u64, out)?;
     out.push(b'=')?;
@@ -275,7 +276,7 @@ fn push_pair(pair: &Pair, out: &mut Vec<u8>) -> Result<(), AllocError>
 fn push_interval(interval: &Interval, out: &mut Vec<u8>) -> Result<(), AllocError>
     ensures ok { OnOk result
         (out.new.items ≡ out.old.items ++ codes "," ++ interval_text interval.now ++ codes ")") }
-    ensures front { take (length out.old.items) out.new.items ≡ out.old.items }
+    ensures front { StartsWith out.new.items out.old.items }
 {
     out.push(b',')?;
     push_ends(interval, out)?;
@@ -286,7 +287,7 @@ fn push_interval(interval: &Interval, out: &mut Vec<u8>) -> Result<(), AllocErro
 /// Appends the two ends of an interval; what was there stays in front.
 fn push_ends(interval: &Interval, out: &mut Vec<u8>) -> Result<(), AllocError>
     ensures ok { OnOk result (out.new.items ≡ out.old.items ++ interval_text interval.now) }
-    ensures front { take (length out.old.items) out.new.items ≡ out.old.items }
+    ensures front { StartsWith out.new.items out.old.items }
 {
     push_low(interval.low, out)?;
     out.push(b',')?;
@@ -296,7 +297,7 @@ fn push_ends(interval: &Interval, out: &mut Vec<u8>) -> Result<(), AllocError>
 /// Appends a low end; what was there stays in front.
 fn push_low(low: End, out: &mut Vec<u8>) -> Result<(), AllocError>
     ensures ok { OnOk result (out.new.items ≡ out.old.items ++ low_text low) }
-    ensures front { take (length out.old.items) out.new.items ≡ out.old.items }
+    ensures front { StartsWith out.new.items out.old.items }
 {
     match low {
         End::Unbounded => out.extend_from_slice(b"(-"),
@@ -308,7 +309,7 @@ fn push_low(low: End, out: &mut Vec<u8>) -> Result<(), AllocError>
 /// Appends a bracket and a number; what was there stays in front.
 fn push_first(bracket: u8, n: i128, out: &mut Vec<u8>) -> Result<(), AllocError>
     ensures ok { OnOk result (out.new.items ≡ out.old.items ++ bracket ∷ number_text n) }
-    ensures front { take (length out.old.items) out.new.items ≡ out.old.items }
+    ensures front { StartsWith out.new.items out.old.items }
 {
     out.push(bracket)?;
     write_number(n, out)
@@ -317,7 +318,7 @@ fn push_first(bracket: u8, n: i128, out: &mut Vec<u8>) -> Result<(), AllocError>
 /// Appends a high end; what was there stays in front.
 fn push_high(high: End, out: &mut Vec<u8>) -> Result<(), AllocError>
     ensures ok { OnOk result (out.new.items ≡ out.old.items ++ high_text high) }
-    ensures front { take (length out.old.items) out.new.items ≡ out.old.items }
+    ensures front { StartsWith out.new.items out.old.items }
 {
     match high {
         End::Unbounded => out.extend_from_slice(b"-)"),
@@ -329,7 +330,7 @@ fn push_high(high: End, out: &mut Vec<u8>) -> Result<(), AllocError>
 /// Appends a number and a bracket; what was there stays in front.
 fn push_second(n: i128, bracket: u8, out: &mut Vec<u8>) -> Result<(), AllocError>
     ensures ok { OnOk result (out.new.items ≡ out.old.items ++ number_text n ++ bracket ∷ []) }
-    ensures front { take (length out.old.items) out.new.items ≡ out.old.items }
+    ensures front { StartsWith out.new.items out.old.items }
 {
     write_number(n, out)?;
     out.push(bracket)?;

@@ -1,6 +1,7 @@
 pub mod KeyLaws
 pub mod CallerLemmas
 pub mod Commits
+pub mod FaultLaws
 pub mod Folds
 pub mod Over
 pub mod Places

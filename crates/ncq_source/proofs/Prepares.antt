@@ -5,7 +5,7 @@ use Rattle.std.specs.List.{list_all}
 use Rattle.std.specs.FinMap.{get}
 use Rattle.ncq_base.proofs.Tests.{both_true}
 use Rattle.ncq_tree.specs.declared.model.Element.{Element}
-use Rattle.ncq_pyx.specs.Canonical.{item_is_proper}
+use Rattle.ncq_pyx.specs.Items.{item_is_proper}
 use Rattle.ncq_pyx.specs.declared.item.Item.{Item}
 use Rattle.ncq_pyx.specs.declared.item.Item.TheVariants.{Put, Remove}
 use Rattle.ncq_source.specs.Changes.{Trial, prepared, entry_of, put_entry, gone_entry, behind, next}

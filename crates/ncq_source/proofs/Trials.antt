@@ -1,5 +1,6 @@
 -- Entries that are prepared one by one.
-use Rattle.std.proofs.Common.{◌≡◌, ℕ, ◌+◌, ◌<◌, List, [], ◌∷◌, ◌++◌, length, Err, refl, sym, ap, ◌∙◌, subst, arith, length-append}
+use Rattle.std.proofs.Math.Seq.{drop-cons}
+use Rattle.std.proofs.Common.{◌≡◌, ℕ, zero, suc, drop, get_or, ◌+◌, ◌<◌, ◌≤◌, List, [], ◌∷◌, ◌++◌, length, Err, refl, sym, ap, ◌∙◌, subst, arith, length-append}
 use Rattle.std.specs.declared.result.Result.{Result}
 use Rattle.ncq_source.specs.declared.change.ChangeError.{ChangeError}
 use Rattle.ncq_source.specs.declared.change.ChangeError.TheVariants.{BadKey, NoSuchKey, NoSource, OutOfMemory}
@@ -56,3 +57,22 @@ module _ (rule : Key) (kept : Kept) (item : Item) (items : List Item) (es : List
 pub at_end : (rule : Key) (kept : Kept) (items : List Item) (es : List Entry) → length items ≡ 0 → front es (prepared rule (length es + 1) kept items) ≡ Good es
 at_end rule kept [] es none = front_good es
 at_end rule kept (item ∷ items) es none = absurd (omega (arith, none))
+
+-- the items from a place on, where one stands
+pub from_here : {A : Type 0} → (xs : List A) (at : ℕ) (x : A) → at < length xs → x ≡ get_or xs at x → x ∷ drop (at + 1) xs ≡ drop at xs
+from_here xs at x less is =
+    let next : at + 1 ≡ suc at = omega arith in
+    ap (λ n. x ∷ drop n xs) next ∙ sym (drop-cons xs at x less ∙ ap (λ y. y ∷ drop (suc at) xs) (sym is))
+
+-- some are left behind a place only where it is not the last
+pub some_left : {A : Type 0} → (xs : List A) (n : ℕ) → 0 < length (drop n xs) → n < length xs
+some_left [] zero h = h
+some_left [] (suc n) h = absurd (omega (arith, h))
+some_left (x ∷ xs) zero h = omega arith
+some_left (x ∷ xs) (suc n) h = let l = some_left xs n h in omega (arith, l)
+
+pub nothing_left : {A : Type 0} → (xs : List A) (n : ℕ) → length xs ≤ n → length (drop n xs) ≡ 0
+nothing_left [] zero h = refl
+nothing_left [] (suc n) h = refl
+nothing_left (x ∷ xs) zero h = absurd (omega (arith, h))
+nothing_left (x ∷ xs) (suc n) h = nothing_left xs n (let l : length xs ≤ n = omega (arith, h) in l)

@@ -3,7 +3,7 @@ use Rattle.std.specs.Prelude.{◌≡◌, ℕ, true, List, [], ◌∷◌, slice_g
 use Rattle.std.specs.FinMap.{get}
 use Rattle.ncq_tree.specs.declared.model.Element.{Element}
 use Rattle.ncq_pyx.specs.declared.item.Item.TheVariants.{Put}
-use Rattle.ncq_pyx.specs.Canonical.{item_is_proper}
+use Rattle.ncq_pyx.specs.Items.{item_is_proper}
 use Rattle.ncq_source.specs.Held.{Kept}
 use Rattle.ncq_source.specs.Stores.{Source}
 use Rattle.ncq_source.specs.StoreStates.{StoreState}

@@ -19,6 +19,15 @@ pub enum Key {
     Attribute(Bytes),
 }
 
+impl Copied for Key {
+    fn copy(&self, alloc: Global) -> Result<Key, AllocError> {
+        Ok(match self {
+            Key::Child(name) => Key::Child(name.copy(alloc)?),
+            Key::Attribute(name) => Key::Attribute(name.copy(alloc)?),
+        })
+    }
+}
+
 /// The element's one key value: none exactly where it has no key value, or two or more, be they
 /// equal, or an empty one.
 pub fn key_of(alloc: Global, rule: &Key, element: &Element) -> Result<Option<Bytes>, AllocError>

@@ -9,6 +9,7 @@ ghost use Rattle.ncq_tree.specs.declared.model.Element.{Element};
 ghost use Rattle.ncq_source.specs.Changes.{prepared, after, store_after, Chains};
 ghost use Rattle.ncq_source.specs.Changes.Trial.{Good};
 ghost use Rattle.ncq_source.specs.ChangeStates.{ChangeState};
+ghost use Rattle.ncq_source.specs.Faults.{fault_in, first_fault};
 ghost use Rattle.ncq_source.specs.Prepared.{IsPrepared};
 ghost use Rattle.ncq_source.specs.Stores.{Source, ShowsEach, without_room};
 ghost use Rattle.ncq_source.specs.StoreStates.{StoreState, IsCommitted, names, found};
@@ -18,6 +19,13 @@ pub fn entries_are_the_fold()
     ensures { (rule : _) (position : _) (kept : _) (items : List Item) (es : List _)
         → prepared rule position kept items ≡ Good es
         → (after kept es ≡ store_after rule kept items) × Chains kept es }
+{}
+
+/// Items have no entries exactly where one of them cannot be applied, and then the first such item
+/// decides, seen with the elements as the items before it leave them.
+pub fn the_first_fault_decides()
+    ensures { (rule : _) (position : _) (kept : _) (items : List Item)
+        → fault_in (prepared rule position kept items) ≡ first_fault rule position kept items }
 {}
 
 /// A change that was prepared, given room and committed leaves its source with the elements after

@@ -19,5 +19,7 @@ mod store;
 
 pub use change::{Change, ChangeError, Entries, Entry, SourceId};
 pub use key::{Key, child_value, key_of};
-pub use laws::{changes_are_the_fold, entries_are_the_fold, stores_show_their_sources};
+pub use laws::{
+    changes_are_the_fold, entries_are_the_fold, stores_show_their_sources, the_first_fault_decides,
+};
 pub use store::{DeclareError, Store};

@@ -11,8 +11,7 @@ use crate::change::{ChangeError, Entries, Entry};
 use crate::elements::Elements;
 use crate::key::{Key, key_of};
 use ncq_base::{Bytes, Copied, Shared};
-use ncq_pyx::{Item, Items, Written};
-use ncq_tree::Element;
+use ncq_pyx::{Item, Written};
 use std::alloc::{AllocError, Global};
 
 /// One entry for each item, in order, or the first item that cannot be applied, seen through the
@@ -21,14 +20,14 @@ pub(crate) fn prepare(
     alloc: Global,
     rule: &Key,
     elements: &Elements,
-    items: Items,
+    items: &[Item],
 ) -> Result<Entries, ChangeError>
-    ensures { Tells result (prepared rule.now 1 (map_of elements.now.pairs) items) }
+    ensures { Tells result (prepared rule.now 1 (map_of elements.now.pairs) items.now) }
 {
     let count = items.len();
     let mut ahead = Ahead::new(alloc, elements);
     let mut entries = Entries::with_capacity(alloc, count)?;
-    for item in items.into_vec() {
+    for item in items {
         let entry = entry_of(alloc, rule, &ahead, item, entries.len() as u64 + 1)?;
         note(alloc, &mut ahead, &entry, entries.len() + 1 < count)?;
         entries.push(entry)?;
@@ -41,35 +40,34 @@ fn entry_of(
     alloc: Global,
     rule: &Key,
     ahead: &Ahead<'_>,
-    item: Item,
+    item: &Item,
     position: u64,
 ) -> Result<Entry, ChangeError>
-    ensures { Tells result (entry_of rule.now position ahead.now item) }
+    ensures { Tells result (entry_of rule.now position ahead.now item.now) }
 {
     match item {
         Item::Put(element) => {
-            let key = key_of(alloc, rule, &element)?;
-            put_entry(alloc, ahead, key, element, position)
+            let key = key_of(alloc, rule, element.get().element())?;
+            put_entry(ahead, key, element, position)
         }
-        Item::Remove(key) => gone_entry(ahead, key, position),
+        Item::Remove(key) => gone_entry(ahead, key.copy(alloc)?, position),
     }
 }
 
 /// The entry of a put under this key.
 fn put_entry(
-    alloc: Global,
     ahead: &Ahead<'_>,
     key: Option<Bytes>,
-    element: Element,
+    element: &Shared<Written>,
     position: u64,
 ) -> Result<Entry, ChangeError>
-    ensures { Tells result (put_entry position ahead.now key element) }
+    ensures { Tells result (put_entry position ahead.now key element.now) }
 {
     let Some(key) = key else {
         return Err(ChangeError::BadKey { position });
     };
     let before = shared(ahead.get(&key))?;
-    let after = Shared::new(alloc, Written::new(alloc, element)?)?;
+    let after = element.share()?;
     Ok(Entry {
         key,
         before,

@@ -3,7 +3,7 @@ ghost use Rattle.std.specs.Prelude.{◌≡◌, ◌<◌, ◌-◌, ◌^◌, ◌↔
 ghost use Rattle.std.specs.Prelude.{None, Err, IfOk, OnOk, OnErr, IsSome, true};
 ghost use Rattle.std.specs.Option.{option_map};
 ghost use Rattle.std.specs.List.{list_all};
-ghost use Rattle.ncq_pyx.specs.Canonical.{item_is_proper};
+ghost use Rattle.ncq_pyx.specs.Items.{item_is_proper};
 ghost use Rattle.ncq_source.specs.Changes.{prepared};
 ghost use Rattle.ncq_source.specs.Keys.{key_of};
 ghost use Rattle.ncq_source.specs.Prepared.{IsPrepared};
@@ -228,25 +228,25 @@ impl Store {
     /// declared. Else the first item that cannot be applied, seen through the items before it,
     /// decides: `BadKey` for a put whose element has not exactly one key value that is not empty,
     /// `NoSuchKey` for a removal of a key that holds no element there. Positions count from 1. It
-    /// keeps the elements and keys of the items.
-    pub fn prepare(&self, alloc: Global, name: &[u8], items: Items) -> Result<Change, ChangeError>
+    /// shares the elements of the items, and copies their keys.
+    pub fn prepare(&self, alloc: Global, name: &[u8], items: &Items) -> Result<Change, ChangeError>
         ensures declared { IfOk result (λ change. IsDeclared self.now change.source) }
         ensures source { IfOk result (λ change. found self.now name.now ≡ Some change.source.0) }
         ensures prepared { IfOk result (λ change.
-            At self.now change.source (λ s. IsPrepared s items change.entries)) }
-        ensures proper { list_all item_is_proper items ≡ true
+            At self.now change.source (λ s. IsPrepared s items.now change.entries)) }
+        ensures proper { list_all item_is_proper items.now ≡ true
             → IfOk result (λ change. PutsProper change.entries) }
         ensures only { result ≡ Err ChangeError.NoSource → found self.now name.now ≡ None }
         ensures none { found self.now name.now ≡ None → result ≡ Err ChangeError.NoSource }
         ensures some { (at : _) (s : _) → found self.now name.now ≡ Some at
             → slice_get self.now.sources at ≡ Some s
-            → TellsChange result at (prepared s.key 1 s.elements items) }
+            → TellsChange result at (prepared s.key 1 s.elements items.now) }
     {
         let Some(source) = self.find(name) else {
             return Err(ChangeError::NoSource);
         };
         let declared = self.source(source);
-        let entries = prepare(alloc, &declared.key, &declared.elements, items)?;
+        let entries = prepare(alloc, &declared.key, &declared.elements, items.as_slice())?;
         Ok(Change::new(source, entries))
     }
 

@@ -11,8 +11,8 @@ use std::alloc::{AllocError, Global};
 use std::sync::ledger::Ledger;
 
 /// Each row goes, with its number and its sign, to the file of the constant that its atom in the
-/// slot is, if there is one: numbers by value, texts by bytes. Each parcel is one step. The only
-/// error is that memory ran out.
+/// slot is, if there is one: numbers by value, texts by bytes. It takes at most one step for each
+/// parcel. The only error is that memory ran out.
 pub fn split_equal<L: Ledger>(
     alloc: Global,
     table: &EqTable,

@@ -17,7 +17,7 @@ pub struct Parcel {
 /// Parcels in order.
 pub type Parcels = Sequence<Parcel>;
 
-/// An equal row, with its number and its sign, for the file. It is one step.
+/// An equal row, with its number and its sign, for the file. It is at most one step.
 pub(crate) fn parcel_for<L: Ledger>(
     alloc: Global,
     signed: &SignedRow,

@@ -11,8 +11,8 @@ use std::alloc::{AllocError, Global};
 use std::sync::ledger::Ledger;
 
 /// Each row goes, with its number and its sign, to the file of each interval that holds its atom in
-/// the slot, by rising number of the files. An interval holds numbers alone. Each parcel is one
-/// step. The only error is that memory ran out.
+/// the slot, by rising number of the files. An interval holds numbers alone. It takes at most one
+/// step for each parcel. The only error is that memory ran out.
 pub fn split_range<L: Ledger>(
     alloc: Global,
     table: &RangeTable,

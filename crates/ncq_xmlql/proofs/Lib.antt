@@ -9,7 +9,7 @@ pub mod NestLaws
 pub mod Slots
 pub mod TimeLaws
 pub mod StatementLaws
-pub mod AnswerLaws
+pub mod Exact
 pub mod NameLaws
 pub mod CallerLemmas
 pub mod WellFormedLaws

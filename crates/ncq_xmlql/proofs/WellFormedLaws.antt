@@ -29,7 +29,7 @@ use Rattle.ncq_xmlql.specs.StatementGrammar.{IsComma, IsQuery, IsSpelled}
 use Rattle.ncq_xmlql.specs.Statements.{IsStatement, AreWithin}
 use Rattle.ncq_xmlql.specs.Answered.{statement_of, GivesStatement}
 use Rattle.ncq_xmlql.specs.WellFormed.{begins_with_match, item_is_whole, names_are_good, template_is_good, IsWellFormed}
-use Rattle.ncq_xmlql.proofs.AnswerLaws.{given_is_exact}
+use Rattle.ncq_xmlql.proofs.Exact.{given}
 use Rattle.ncq_xmlql.proofs.CallerLemmas.{good_variable, good_literal, good_element}
 
 -- ---- names of statements are names of PYX
@@ -232,5 +232,5 @@ pub spelled_formed : (text : List ℕ) (st : Statement) → IsStatement text st 
 spelled_formed text st h within = statement_formed h.spelled (tokens_well_named text h.tokens h.are_tokens) within
 
 pub given_formed : (text : List ℕ) (answer : Result Statement StatementError) → GivesStatement answer (statement_of text) → IfOk answer (λ st. IsWellFormed st)
-given_formed text (Ok st) h = let exact = given_is_exact text (Ok st) h in spelled_formed text st exact.0 exact.2
+given_formed text (Ok st) h = let exact = given text (Ok st) h in spelled_formed text st exact.0 exact.2
 given_formed text (Err e) h = tt

@@ -120,7 +120,7 @@ fn parse_tokens(alloc: Global, tokens: &[Token]) -> Result<Statement, StatementE
 /// with `Pattern` where its tags nest deeper than 32; `NotAStatement` where its tokens spell no
 /// statement; `Limit` with `Arms` over 8, with `Slots` over 64, with `Conditions` over 32. Else the
 /// answer is the one statement that the text spells, which is well formed.
-#[tactic(auto, using(crate::proofs::AnswerLaws::given_is_exact), unfolding(crate::specs::Answered::statement_of))]
+#[tactic(auto, using(crate::proofs::Exact::given), unfolding(crate::specs::Answered::statement_of))]
 pub fn parse_statement(alloc: Global, text: &[u8]) -> Result<Statement, StatementError>
     ensures exact { Answers text.now result }
     ensures value { GivesStatement result (statement_of text.now) }

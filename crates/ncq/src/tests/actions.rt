@@ -8,7 +8,7 @@ use super::{
     DELETE, PUT_95, PUT_96, Parts, SOURCE, TOLD_95, WATCH, calls_of, expect_bytes, expect_parts,
     joined, run_on,
 };
-use crate::add_handler;
+use crate::{add_handler, print};
 use ncq_base::bytes_of;
 use ncq_callback::{Call, Handlers, Kind, Notice, print_notice};
 use ncq_outside::{memory_sink, memory_source};
@@ -19,7 +19,8 @@ use std::test::Fail;
 
 /// The query of `WATCH` up to its action, and the end of its block.
 const WATCH_DO: &str =
-    "create w WHERE <Quotes><Quote><Symbol>INTC</></> ELEMENT_AS $g</> IN \"quotes\" CONSTRUCT $g DO ";
+    "create w WHERE <Quotes><Quote><Symbol>INTC</></> ELEMENT_AS $g</> IN \"quotes\" CONSTRUCT $g \
+     DO ";
 
 const DOT: &str = "\n.\n";
 
@@ -87,7 +88,7 @@ const TEXTS: &[Parts<'_>] = &[
 
 #[test]
 fn each_action_has_its_text(rt: HostRuntime) -> Result<(), Fail> {
-    expect_parts(&rt, rt.alloc(), TEXTS)
+    expect_parts(&rt, &rt, TEXTS)
 }
 
 /// The lines of the quote that `PUT_95` puts.
@@ -103,24 +104,27 @@ fn is_gain_of_95(notice: &Notice) -> bool {
     }
 }
 
-/// The session on this script ends so, with this written, over two handlers: `tell` writes what
-/// `print` writes, and `picky` does so for one notice and finds no memory for any other.
+/// The session on this script ends so, with this written, over three handlers of one kind: `print`
+/// finds no memory for any notice, `tell` writes each, and `picky` writes one and finds no memory
+/// for any other. So a notice that another of them is given shows.
 fn expect_told(
     rt: &impl Abort,
-    alloc: Global,
+    host: &HostRuntime,
     script: &[&str],
     status: Status,
     written: &[&str],
 ) -> Result<(), Fail> {
-    let tell: Call = Box::new(
+    let alloc = host.alloc();
+    let wanting: Call = Box::new(
         alloc,
         |argument: &[u8], notice: &Notice, out: &mut Vec<u8>| -> Result<(), AllocError>
             ensures { Writes
                 (render Kind.Print argument.now
                 notice.now.name notice.now.instant notice.now.entries)
                 out.old.items out.new.items result }
-        { print_notice(argument, notice, out) },
+        { Err(AllocError) },
     )?;
+    let tell: Call = Box::new(alloc, print)?;
     let picky: Call = Box::new(
         alloc,
         |argument: &[u8], notice: &Notice, out: &mut Vec<u8>| -> Result<(), AllocError>
@@ -137,29 +141,33 @@ fn expect_told(
         },
     )?;
     let mut handlers = Handlers::new(alloc);
+    add_handler(alloc, &mut handlers, b"print", Kind::Print, wanting)?;
     add_handler(alloc, &mut handlers, b"tell", Kind::Print, tell)?;
     add_handler(alloc, &mut handlers, b"picky", Kind::Print, picky)?;
     let script = bytes_of(alloc, &joined(alloc, script)?)?;
     let mut input = memory_source(script, 64, calls_of(alloc, &[])?);
     let mut output = memory_sink(alloc, 4096, calls_of(alloc, &[])?)?;
-    let got = run_on(alloc, &["run"], &mut input, &mut output, &handlers);
+    let got = run_on(host, &["run"], &mut input, &mut output, &handlers);
     assert_eq!(rt; got, status);
     expect_bytes(rt, output.held(), &joined(alloc, written)?, "");
     Ok(())
 }
 
-/// What is written where the quote is put at 95.5.
+/// What is written where the quote is put at 95.5, and where no memory is found for its notice.
 const ONCE: &[&str] = &["1 ok\n2 ok\n3 ok\n", TOLD_95];
+
+const NEVER: &[&str] = &["1 ok\n2 ok\n"];
 
 /// A handler writes what its closure appends, and where it finds no memory, its command's answer is
 /// not written.
 #[test]
 fn a_notice_goes_to_the_handler_of_its_action(rt: HostRuntime) -> Result<(), Fail> {
-    let alloc = rt.alloc();
+    let print = [SOURCE, WATCH_DO, "print", DOT, PUT_95];
+    expect_told(&rt, &rt, &print, Status::NoMemory, NEVER)?;
     let tell = [SOURCE, WATCH_DO, "tell", DOT, PUT_95];
-    expect_told(&rt, alloc, &tell, Status::Done, ONCE)?;
+    expect_told(&rt, &rt, &tell, Status::Done, ONCE)?;
     let picky = [SOURCE, WATCH_DO, "picky", DOT, PUT_95];
-    expect_told(&rt, alloc, &picky, Status::Done, ONCE)?;
+    expect_told(&rt, &rt, &picky, Status::Done, ONCE)?;
     let picky = [SOURCE, WATCH_DO, "picky", DOT, PUT_95, PUT_96];
-    expect_told(&rt, alloc, &picky, Status::NoMemory, ONCE)
+    expect_told(&rt, &rt, &picky, Status::NoMemory, ONCE)
 }

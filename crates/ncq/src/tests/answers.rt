@@ -18,7 +18,8 @@ const TAGS: &str =
 
 /// The symbol and the price of a quote, in an attribute and in a text.
 const TEXTS: &str =
-    "create r WHERE <Quotes><Quote><Symbol>$s</><Price>$p</></></> IN \"quotes\" CONSTRUCT <r sym=$s>\"Price of \" $s is $p</> DO print\n.\n";
+    "create r WHERE <Quotes><Quote><Symbol>$s</><Price>$p</></></> IN \"quotes\" CONSTRUCT <r \
+     sym=$s>\"Price of \" $s is $p</> DO print\n.\n";
 
 /// A source of other elements, whose key is an attribute.
 const CASES: &str = "source c root Cs key @id\n";
@@ -30,7 +31,8 @@ const TEMPLATES: &[Parts<'_>] = &[
         &[
             SOURCE,
             TAGS,
-            "delta quotes\n(Quote\n(Symbol\n-A\n)Symbol\n(Tag\n-x\n)Tag\n(Tag\n-x\n)Tag\n)Quote\n.\n",
+            "delta quotes\n(Quote\n(Symbol\n-A\n)Symbol\n(Tag\n-x\n)Tag\n(Tag\n-x\n)Tag\n)Quote\n\
+             .\n",
         ],
         &["1 ok\n2 ok\n3 ok\nnotice r 0\ngain 2\n(r\n-x\n)r\nend\n"],
     ),
@@ -44,7 +46,8 @@ const TEMPLATES: &[Parts<'_>] = &[
         &[
             CASES,
             "delta c\n(C\nAid 7\n-a\n- b\n?x\n-\\n\n)C\n.\n",
-            "create e WHERE <Cs><C id=\"7.0\"></> ELEMENT_AS $e</> IN \"c\" CONSTRUCT $e DO print\n.\n",
+            "create e WHERE <Cs><C id=\"7.0\"></> ELEMENT_AS $e</> IN \"c\" CONSTRUCT $e DO print\n\
+             .\n",
         ],
         &["1 ok\n2 ok\n3 ok\nnotice e 0\ngain 1\n(C\nAid 7\n-a b\n)C\nend\n"],
     ),
@@ -61,7 +64,7 @@ const TEMPLATES: &[Parts<'_>] = &[
 
 #[test]
 fn an_answer_is_made_of_a_binding(rt: HostRuntime) -> Result<(), Fail> {
-    expect_parts(&rt, rt.alloc(), TEMPLATES)
+    expect_parts(&rt, &rt, TEMPLATES)
 }
 
 /// The prices that meet a condition, which stands between the two.
@@ -71,7 +74,8 @@ const AS_PRICE: &str = " CONSTRUCT <p>$p</> DO print\n.\n";
 
 /// Two quotes of one price in two spellings.
 const PUT_100: &str =
-    "delta quotes\n(Quote\n(Symbol\n-A\n)Symbol\n(Price\n-100\n)Price\n)Quote\n(Quote\n(Symbol\n-B\n)Symbol\n(Price\n-100.0\n)Price\n)Quote\n.\n";
+    "delta quotes\n(Quote\n(Symbol\n-A\n)Symbol\n(Price\n-100\n)Price\n)Quote\n(Quote\n(Symbol\n\
+     -B\n)Symbol\n(Price\n-100.0\n)Price\n)Quote\n.\n";
 
 /// What the query of the prices is told of them where they meet its condition.
 const TOLD_100: &str = "notice e 0\ngain 1\n(p\n-100\n)p\ngain 1\n(p\n-100.0\n)p\nend\n";
@@ -110,14 +114,15 @@ const CONDITIONS: &[Parts<'_>] = &[
 
 #[test]
 fn an_answer_meets_each_condition(rt: HostRuntime) -> Result<(), Fail> {
-    expect_parts(&rt, rt.alloc(), CONDITIONS)
+    expect_parts(&rt, &rt, CONDITIONS)
 }
 
 /// The quotes beside the companies of their symbol.
 const COMPANIES: &str = "source companies root Companies key Symbol\n";
 
-const JOIN: &str =
-    "create j WHERE <Quotes><Quote><Symbol>$s</><Price>$p</></></> IN \"quotes\", <Companies><Company><Symbol>$s</><Area>$a</></></> IN \"companies\" CONSTRUCT <hit><s>$s</><p>$p</><a>$a</></> DO print\n.\n";
+const JOIN: &str = "create j WHERE <Quotes><Quote><Symbol>$s</><Price>$p</></></> IN \"quotes\", \
+     <Companies><Company><Symbol>$s</><Area>$a</></></> IN \"companies\" CONSTRUCT \
+     <hit><s>$s</><p>$p</><a>$a</></> DO print\n.\n";
 
 const PUT_COMPANY: &str =
     "delta companies\n(Company\n(Symbol\n-INTC\n)Symbol\n(Area\n-Chips\n)Area\n)Company\n.\n";
@@ -126,12 +131,14 @@ const HIT: &str = "1\n(hit\n(s\n-INTC\n)s\n(p\n-95.5\n)p\n(a\n-Chips\n)a\n)hit\n
 
 /// The pairs of quotes of one price.
 const PAIRS: &str =
-    "create p WHERE <Quotes><Quote><Symbol>$a</><Price>$p</></><Quote><Symbol>$b</><Price>$p</></></> IN \"quotes\" CONSTRUCT <pair a=$a b=$b/> DO print\n.\n";
+    "create p WHERE <Quotes><Quote><Symbol>$a</><Price>$p</></><Quote><Symbol>$b</><Price>$p</></><\
+     /> IN \"quotes\" CONSTRUCT <pair a=$a b=$b/> DO print\n.\n";
 
 const PAIR_A_A: &str = "gain 1\n(pair\nAa A\nAb A\n)pair\n";
 
 const OTHER_PAIRS: &str =
-    "gain 1\n(pair\nAa A\nAb B\n)pair\ngain 1\n(pair\nAa B\nAb A\n)pair\ngain 1\n(pair\nAa B\nAb B\n)pair\n";
+    "gain 1\n(pair\nAa A\nAb B\n)pair\ngain 1\n(pair\nAa B\nAb A\n)pair\ngain 1\n(pair\nAa B\n\
+     Ab B\n)pair\n";
 
 /// A variable in two patterns has one value in both.
 const JOINS: &[Parts<'_>] = &[
@@ -198,5 +205,5 @@ const JOINS: &[Parts<'_>] = &[
 
 #[test]
 fn a_variable_has_one_value(rt: HostRuntime) -> Result<(), Fail> {
-    expect_parts(&rt, rt.alloc(), JOINS)
+    expect_parts(&rt, &rt, JOINS)
 }

@@ -6,7 +6,8 @@ use std::test::Fail;
 /// What stands in front of the scripts of this file, where a table does not say otherwise.
 const DECLARED: (&str, &str) = (SOURCE, "1 ok\n");
 
-/// "A block ends with the line that is exactly `.`." One carriage return at its end is no part of the line.
+/// "A block ends with the line that is exactly `.`." One carriage return at its end is no part of
+/// the line.
 const ENDS: &[(&str, &str)] = &[
     ("delta quotes\n.\r\n", "2 ok\n"),
     ("delta quotes\n.", "2 ok\n"),
@@ -116,7 +117,8 @@ const OTHER_LINES: &[(&str, &str)] = &[
     ),
     ("delta quotes\n-\\n\n.\n", "2 ok\n"),
     (
-        "delta quotes\n?x\n.\ndelta quotes\nC\n.\ndelta quotes\n[x\n.\ndelta quotes\n&x\n.\ndelta quotes\n\0\n.\n",
+        "delta quotes\n?x\n.\ndelta quotes\nC\n.\ndelta quotes\n[x\n.\ndelta quotes\n&x\n.\n\
+         delta quotes\n\0\n.\n",
         "2 ok\n3 ok\n4 refused 5 pyx 1\n5 refused 5 pyx 1\n6 refused 5 pyx 1\n",
     ),
     (
@@ -212,7 +214,8 @@ const KEYS: &[(&str, &str)] = &[
     ),
 ];
 
-/// Whole scripts without a source: first the form and the end, then the lines, then the source, then the keys.
+/// Whole scripts without a source: first the form and the end, then the lines, then the source,
+/// then the keys.
 const UNDECLARED: &[(&str, &str)] = &[
     ("delta quotes\n.\n", "1 refused 4 no-source\n"),
     (
@@ -234,40 +237,40 @@ const UNDECLARED: &[(&str, &str)] = &[
 
 #[test]
 fn a_block_ends_with_a_dot(rt: HostRuntime) -> Result<(), Fail> {
-    expect_each(&rt, rt.alloc(), DECLARED, ENDS)
+    expect_each(&rt, &rt, DECLARED, ENDS)
 }
 
 #[test]
 fn a_delta_opens_a_block(rt: HostRuntime) -> Result<(), Fail> {
-    expect_each(&rt, rt.alloc(), DECLARED, OPENINGS)
+    expect_each(&rt, &rt, DECLARED, OPENINGS)
 }
 
 #[test]
 fn a_block_has_no_comments(rt: HostRuntime) -> Result<(), Fail> {
-    expect_each(&rt, rt.alloc(), DECLARED, LINES)
+    expect_each(&rt, &rt, DECLARED, LINES)
 }
 
 #[test]
 fn brackets_match_by_name(rt: HostRuntime) -> Result<(), Fail> {
-    expect_each(&rt, rt.alloc(), DECLARED, BRACKETS)
+    expect_each(&rt, &rt, DECLARED, BRACKETS)
 }
 
 #[test]
 fn a_line_is_told_by_its_first_byte(rt: HostRuntime) -> Result<(), Fail> {
-    expect_each(&rt, rt.alloc(), DECLARED, OTHER_LINES)
+    expect_each(&rt, &rt, DECLARED, OTHER_LINES)
 }
 
 #[test]
 fn items_are_applied_in_order(rt: HostRuntime) -> Result<(), Fail> {
-    expect_each(&rt, rt.alloc(), DECLARED, ITEMS)
+    expect_each(&rt, &rt, DECLARED, ITEMS)
 }
 
 #[test]
 fn an_element_has_one_key(rt: HostRuntime) -> Result<(), Fail> {
-    expect_each(&rt, rt.alloc(), DECLARED, KEYS)
+    expect_each(&rt, &rt, DECLARED, KEYS)
 }
 
 #[test]
 fn a_delta_of_no_source_is_refused(rt: HostRuntime) -> Result<(), Fail> {
-    expect_each(&rt, rt.alloc(), ("", ""), UNDECLARED)
+    expect_each(&rt, &rt, ("", ""), UNDECLARED)
 }

@@ -15,15 +15,7 @@ fn pieces_of_any_size_make_one_output(rt: HostRuntime) -> Result<(), Fail> {
     let script = joined(alloc, &[SOURCE, WATCH, PUT_95, PUT_96])?;
     let want = joined(alloc, &["1 ok\n2 ok\n3 ok\n", TOLD_95, "4 ok\n", TOLD_96])?;
     for piece in 1..65 {
-        expect_end(
-            &rt,
-            alloc,
-            &script,
-            in_pieces(piece),
-            Status::Done,
-            &want,
-            "",
-        )?;
+        expect_end(&rt, &rt, &script, in_pieces(piece), Status::Done, &want, "")?;
     }
     Ok(())
 }
@@ -31,7 +23,8 @@ fn pieces_of_any_size_make_one_output(rt: HostRuntime) -> Result<(), Fail> {
 /// Five commands of 37, 102, 71, 21 and 21 bytes.
 const SCRIPT: &[&str] = &[SOURCE, WATCH, PUT_95, DELETE, DELETE];
 
-/// The lengths of a front of the script, from the first to the last, and the whole output of such a front.
+/// The lengths of a front of the script, from the first to the last, and the whole output of such a
+/// front.
 type Front<'a> = (usize, usize, &'a [&'a str]);
 
 const FRONTS: &[Front<'_>] = &[
@@ -46,7 +39,8 @@ const FRONTS: &[Front<'_>] = &[
     (43, 137, &["1 ok\n2 refused 16 unfinished\n"]),
     // The dot ends the block, with and without its line feed.
     (138, 139, &["1 ok\n2 ok\n"]),
-    // `delta` alone, also with a blank behind it, has no name; from the first byte of a name on the block is open.
+    // `delta` alone, also with a blank behind it, has no name; from the first byte of a name on the
+    // block is open.
     (140, 145, &["1 ok\n2 ok\n3 refused 1 command\n"]),
     (146, 208, &["1 ok\n2 ok\n3 refused 16 unfinished\n"]),
     (209, 210, &["1 ok\n2 ok\n3 ok\n", TOLD_95]),
@@ -103,26 +97,27 @@ const FRONTS: &[Front<'_>] = &[
 /// The script that ends behind this byte has this output, in pieces of two sizes.
 fn expect_front(
     rt: &impl Abort,
-    alloc: Global,
+    host: &HostRuntime,
     script: &[u8],
     end: usize,
     want: &[u8],
 ) -> Result<(), Fail> {
     let front = &script[..end.min(script.len())];
-    expect_end(rt, alloc, front, in_pieces(1), Status::Done, want, "")?;
-    expect_end(rt, alloc, front, in_pieces(64), Status::Done, want, "")
+    expect_end(rt, host, front, in_pieces(1), Status::Done, want, "")?;
+    expect_end(rt, host, front, in_pieces(64), Status::Done, want, "")
 }
 
 /// The fronts of one row.
 fn expect_fronts(
     rt: &impl Abort,
-    alloc: Global,
+    host: &HostRuntime,
     script: &[u8],
     row: &Front<'_>,
 ) -> Result<(), Fail> {
+    let alloc = host.alloc();
     let want = joined(alloc, row.2)?;
     for end in row.0..row.1.saturating_add(1) {
-        expect_front(rt, alloc, script, end, &want)?;
+        expect_front(rt, host, script, end, &want)?;
     }
     Ok(())
 }
@@ -134,7 +129,7 @@ fn a_cut_script_is_read_up_to_its_end(rt: HostRuntime) -> Result<(), Fail> {
     let mut next = 0;
     for row in FRONTS {
         assert_eq!(rt; row.0, next);
-        expect_fronts(&rt, alloc, &script, row)?;
+        expect_fronts(&rt, &rt, &script, row)?;
         next = row.1.saturating_add(1);
     }
     assert_eq!(rt; next, script.len().saturating_add(1));

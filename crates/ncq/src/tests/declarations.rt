@@ -33,11 +33,15 @@ const FORMS: &[(&str, &str)] = &[
     ),
 ];
 
-/// No quotation mark, backslash, comma or parenthesis in the name of a source, no backslash in a tag.
+/// No quotation mark, backslash, comma or parenthesis in the name of a source, no backslash in a
+/// tag.
 const NAMES: &[(&str, &str)] = &[
     (
-        "source quo\"tes root Quotes key Symbol\nsource quo\\tes root Quotes key Symbol\nsource quo,tes root Quotes key Symbol\nsource (quotes root Quotes key Symbol\nsource quotes) root Quotes key Symbol\n",
-        "1 refused 1 command\n2 refused 1 command\n3 refused 1 command\n4 refused 1 command\n5 refused 1 command\n",
+        "source quo\"tes root Quotes key Symbol\nsource quo\\tes root Quotes key Symbol\n\
+         source quo,tes root Quotes key Symbol\nsource (quotes root Quotes key Symbol\n\
+         source quotes) root Quotes key Symbol\n",
+        "1 refused 1 command\n2 refused 1 command\n3 refused 1 command\n4 refused 1 command\n\
+         5 refused 1 command\n",
     ),
     (
         "source quotes root Quo\\tes key Symbol\n",
@@ -49,13 +53,15 @@ const NAMES: &[(&str, &str)] = &[
     ),
     // A key may be an attribute, whose name is a name; the form is judged before the source's name.
     (
-        "source quotes root Quotes key @Symbol\nsource quotes root Quotes key @\nsource quotes root @Quotes key @\\\n",
+        "source quotes root Quotes key @Symbol\nsource quotes root Quotes key @\n\
+         source quotes root @Quotes key @\\\n",
         "1 ok\n2 refused 1 command\n3 refused 1 command\n",
     ),
     ("source quotes root @Quotes key @@\n", "1 ok\n"),
     // Any number of sources, each name once, whatever else is said of it.
     (
-        "source a root A key k\nsource a root B key @k\nsource A root A key k\nsource a root A key\n",
+        "source a root A key k\nsource a root B key @k\nsource A root A key k\n\
+         source a root A key\n",
         "1 ok\n2 refused 3 source-exists\n3 ok\n4 refused 1 command\n",
     ),
     // Any other byte belongs to names.
@@ -67,10 +73,10 @@ const NAMES: &[(&str, &str)] = &[
 
 #[test]
 fn a_source_line_has_its_form(rt: HostRuntime) -> Result<(), Fail> {
-    expect_each(&rt, rt.alloc(), ("", ""), FORMS)
+    expect_each(&rt, &rt, ("", ""), FORMS)
 }
 
 #[test]
 fn sources_and_tags_have_names(rt: HostRuntime) -> Result<(), Fail> {
-    expect_each(&rt, rt.alloc(), ("", ""), NAMES)
+    expect_each(&rt, &rt, ("", ""), NAMES)
 }

@@ -26,17 +26,19 @@ fn answers(alloc: Global, count: usize) -> Result<Vec<u8>, AllocError> {
 /// The session on the four commands ends so, with this written.
 fn expect_session(
     rt: &impl Abort,
-    alloc: Global,
+    host: &HostRuntime,
     outside: Outside<'_>,
     status: Status,
     written: &[u8],
 ) -> Result<(), Fail> {
+    let alloc = host.alloc();
     let script = joined(alloc, &SCRIPT)?;
-    expect_end(rt, alloc, &script, outside, status, written, "")
+    expect_end(rt, host, &script, outside, status, written, "")
 }
 
 /// Where the read at a number fails, the commands that were whole by then are answered.
-/// Each read gives one byte, so the read behind a command's last byte is the first that leaves it answered.
+/// Each read gives one byte, so the read behind a command's last byte is the first that leaves it
+/// answered.
 #[test]
 fn a_read_that_fails_leaves_the_answers_so_far(rt: HostRuntime) -> Result<(), Fail> {
     let alloc = rt.alloc();
@@ -49,13 +51,14 @@ fn a_read_that_fails_leaves_the_answers_so_far(rt: HostRuntime) -> Result<(), Fa
                 read_faults: &[read],
                 ..in_pieces(1)
             };
-            expect_session(&rt, alloc, outside, Status::ReadFault, &written)?;
+            expect_session(&rt, &rt, outside, Status::ReadFault, &written)?;
         }
     }
     Ok(())
 }
 
-/// The last read finds the end of the script. Where it fails, all is answered, but the script is not known to be whole.
+/// The last read finds the end of the script. Where it fails, all is answered, but the script is
+/// not known to be whole.
 #[test]
 fn the_read_of_the_end_may_fail(rt: HostRuntime) -> Result<(), Fail> {
     let alloc = rt.alloc();
@@ -69,7 +72,7 @@ fn the_read_of_the_end_may_fail(rt: HostRuntime) -> Result<(), Fail> {
             read_faults: &[read as u64],
             ..in_pieces(1)
         };
-        expect_session(&rt, alloc, outside, status, &all)?;
+        expect_session(&rt, &rt, outside, status, &all)?;
     }
     // The first read of all, and the second of two.
     for (read, count) in [(1, 0), (2, 4)] {
@@ -78,12 +81,13 @@ fn the_read_of_the_end_may_fail(rt: HostRuntime) -> Result<(), Fail> {
             ..in_pieces(4096)
         };
         let written = answers(alloc, count)?;
-        expect_session(&rt, alloc, outside, Status::ReadFault, &written)?;
+        expect_session(&rt, &rt, outside, Status::ReadFault, &written)?;
     }
     Ok(())
 }
 
-/// Each answer is offered whole in one write, so the write at a number is that of the command of this number.
+/// Each answer is offered whole in one write, so the write at a number is that of the command of
+/// this number.
 #[test]
 fn a_write_that_fails_leaves_the_answers_before_it(rt: HostRuntime) -> Result<(), Fail> {
     let alloc = rt.alloc();
@@ -99,7 +103,7 @@ fn a_write_that_fails_leaves_the_answers_before_it(rt: HostRuntime) -> Result<()
             ..in_pieces(7)
         };
         let written = answers(alloc, count)?;
-        expect_session(&rt, alloc, outside, status, &written)?;
+        expect_session(&rt, &rt, outside, status, &written)?;
     }
     Ok(())
 }
@@ -113,13 +117,13 @@ fn room_that_runs_out_holds_a_front_of_the_output(rt: HostRuntime) -> Result<(),
             room,
             ..in_pieces(64)
         };
-        expect_session(&rt, alloc, outside, Status::WriteFault, &all[..room])?;
+        expect_session(&rt, &rt, outside, Status::WriteFault, &all[..room])?;
     }
     let outside = Outside {
         room: all.len(),
         ..in_pieces(64)
     };
-    expect_session(&rt, alloc, outside, Status::Done, &all)
+    expect_session(&rt, &rt, outside, Status::Done, &all)
 }
 
 #[test]

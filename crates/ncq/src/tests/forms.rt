@@ -38,9 +38,14 @@ const OTHER_WORDS: &[&[&str]] = &[
     &["-"],
 ];
 
-fn refuse_words<I: Source, O: Sink>(rt: &impl Abort, alloc: Global, input: &mut I, output: &mut O) {
+fn refuse_words<I: Source, O: Sink>(
+    rt: &impl Abort,
+    host: &HostRuntime,
+    input: &mut I,
+    output: &mut O,
+) {
     for words in OTHER_WORDS {
-        let status = run_program(alloc, words, input, output);
+        let status = run_program(host, words, input, output);
         assert!(rt; status == Status::Usage);
     }
 }
@@ -52,9 +57,9 @@ fn other_words_read_and_write_nothing(rt: HostRuntime) -> Result<(), Fail> {
     let none = calls_of(alloc, &[])?;
     let mut input = memory_source(bytes_of(alloc, b"clock 0\n")?, 64, none);
     let mut output = memory_sink(alloc, 64, calls_of(alloc, &[])?)?;
-    refuse_words(&rt, alloc, &mut input, &mut output);
+    refuse_words(&rt, &rt, &mut input, &mut output);
     assert!(rt; output.held().is_empty());
-    let status = run_program(alloc, &["run"], &mut input, &mut output);
+    let status = run_program(&rt, &["run"], &mut input, &mut output);
     assert!(rt; status == Status::Done);
     expect_bytes(&rt, output.held(), b"1 ok\n", "");
     Ok(())
@@ -62,17 +67,18 @@ fn other_words_read_and_write_nothing(rt: HostRuntime) -> Result<(), Fail> {
 
 /// The outcome of the program with these words on this script.
 fn outcome_with(
-    alloc: Global,
+    host: &HostRuntime,
     words: &[&str],
     script: &[u8],
     outside: Outside<'_>,
 ) -> Result<Outcome, AllocError> {
+    let alloc = host.alloc();
     let read_faults = calls_of(alloc, outside.read_faults)?;
     let write_faults = calls_of(alloc, outside.write_faults)?;
     let script = bytes_of(alloc, script)?;
     let mut input = memory_source(script, outside.piece.max(1), read_faults);
     let mut output = memory_sink(alloc, outside.room, write_faults)?;
-    let status = run_program(alloc, words, &mut input, &mut output);
+    let status = run_program(host, words, &mut input, &mut output);
     Ok(Outcome {
         status,
         written: Vec::from_slice(alloc, output.held())?,
@@ -82,13 +88,13 @@ fn outcome_with(
 /// The program with these words on this script ends so, with this written.
 fn expect_with(
     rt: &impl Abort,
-    alloc: Global,
+    host: &HostRuntime,
     words: &[&str],
     script: &[u8],
     outside: Outside<'_>,
     want: (Status, &[u8]),
 ) -> Result<(), Fail> {
-    let outcome = outcome_with(alloc, words, script, outside)?;
+    let outcome = outcome_with(host, words, script, outside)?;
     assert_eq!(rt; outcome.status, want.0);
     expect_bytes(rt, &outcome.written, want.1, "");
     Ok(())
@@ -96,7 +102,8 @@ fn expect_with(
 
 /// Another subscriber of the same quotes, whose name begins with that of `w`.
 const OTHER: &str =
-    "create w2 WHERE <Quotes><Quote><Symbol>INTC</></> ELEMENT_AS $g</> IN \"quotes\" CONSTRUCT $g DO count\n.\n";
+    "create w2 WHERE <Quotes><Quote><Symbol>INTC</></> ELEMENT_AS $g</> IN \"quotes\" CONSTRUCT $g \
+     DO count\n.\n";
 
 /// A script that tells `w` twice and `w2` three times: the delete ends `w`, and `w` is then created
 /// again, which is refused while it is live.
@@ -127,7 +134,7 @@ fn one_subscriber_gets_its_own_notices(rt: HostRuntime) -> Result<(), Fail> {
         for piece in [1, 7, 4096] {
             let words = ["alone", name];
             let end = (Status::Done, want);
-            expect_with(&rt, alloc, &words, &script, in_pieces(piece), end)?;
+            expect_with(&rt, &rt, &words, &script, in_pieces(piece), end)?;
         }
     }
     Ok(())
@@ -147,7 +154,7 @@ fn nothing_told_is_nothing_written(rt: HostRuntime) -> Result<(), Fail> {
             write_faults: &[write],
             ..in_pieces(4096)
         };
-        let outcome = outcome_with(alloc, &["alone", "w"], &script, outside)?;
+        let outcome = outcome_with(&rt, &["alone", "w"], &script, outside)?;
         assert_eq!(rt; outcome.status, status);
         if status == Status::WriteFault {
             expect_bytes(&rt, &outcome.written, want.as_bytes(), "");
@@ -162,35 +169,32 @@ const LOAD_OF_ONE: &[u8] = b"commands 6\nrefused 0\nnotices 1\nbytes 188\n";
 /// A load reads nothing: the source that fails at once is never asked.
 #[test]
 fn a_load_writes_its_tally_and_reads_nothing(rt: HostRuntime) -> Result<(), Fail> {
-    let alloc = rt.alloc();
     let outside = Outside {
         read_faults: &[1],
         ..in_pieces(64)
     };
     let end = (Status::Done, LOAD_OF_ONE);
-    expect_with(&rt, alloc, &["load", "1"], b"clock 0\n", outside, end)?;
+    expect_with(&rt, &rt, &["load", "1"], b"clock 0\n", outside, end)?;
     let end = (Status::Done, LOAD_OF_ONE);
-    expect_with(&rt, alloc, &["load", "000001"], b"", in_pieces(64), end)
+    expect_with(&rt, &rt, &["load", "000001"], b"", in_pieces(64), end)
 }
 
 /// A sink without room for the tally fails, and holds the front of it that it had room for.
 #[test]
 fn a_tally_may_fail_to_be_written(rt: HostRuntime) -> Result<(), Fail> {
-    let alloc = rt.alloc();
     let outside = Outside {
         room: 11,
         ..in_pieces(64)
     };
     let end = (Status::WriteFault, b"commands 6\n".as_slice());
-    expect_with(&rt, alloc, &["load", "1"], b"", outside, end)
+    expect_with(&rt, &rt, &["load", "1"], b"", outside, end)
 }
 
 /// Sixty subscribers make 124 commands, none is refused, and a second time all is the same.
 #[test]
 fn a_load_is_the_same_each_time(rt: HostRuntime) -> Result<(), Fail> {
-    let alloc = rt.alloc();
-    let first = outcome_with(alloc, &["load", "60"], b"", in_pieces(64))?;
-    let second = outcome_with(alloc, &["load", "60"], b"", in_pieces(64))?;
+    let first = outcome_with(&rt, &["load", "60"], b"", in_pieces(64))?;
+    let second = outcome_with(&rt, &["load", "60"], b"", in_pieces(64))?;
     assert!(rt; first.status == Status::Done && second.status == Status::Done);
     expect_bytes(&rt, &first.written, &second.written, "");
     let front = b"commands 124\nrefused 0\nnotices ";

@@ -135,7 +135,7 @@ fn a_create_tells_what_is_there(rt: HostRuntime) -> Result<(), Fail> {
         push_create(alloc, row, "", &mut script)?;
         let mut want = joined(alloc, &["1 ok\n2 ok\n3 ok\n4 ok\n"])?;
         push_told(alloc, row, "0", row.2, &mut want)?;
-        expect_output(&rt, alloc, &script, &want, row.0)?;
+        expect_output(&rt, &rt, &script, &want, row.0)?;
     }
     Ok(())
 }
@@ -159,7 +159,7 @@ fn a_create_behind_others_tells_what_is_there(rt: HostRuntime) -> Result<(), Fai
     script.extend_from_slice(CHANGE.as_bytes())?;
     want.extend_from_slice(b"17 ok\n")?;
     want.extend_from_slice(&changes)?;
-    expect_output(&rt, alloc, &script, &want, "")
+    expect_output(&rt, &rt, &script, &want, "")
 }
 
 /// The answers of all commands where who starts later is told nothing at its create.
@@ -178,5 +178,5 @@ fn a_first_firing_tells_what_is_there_by_then(rt: HostRuntime) -> Result<(), Fai
     }
     script.extend_from_slice(CHANGE.as_bytes())?;
     script.extend_from_slice(b"clock 5\n")?;
-    expect_output(&rt, alloc, &script, &want, "")
+    expect_output(&rt, &rt, &script, &want, "")
 }

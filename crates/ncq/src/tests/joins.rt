@@ -3,23 +3,30 @@
 use super::{Parts, expect_parts};
 use std::test::Fail;
 
-/// The quotes of the companies of an area, for six areas; the pairs of quotes at one price; and each
-/// quote for each company of the area A5, which compares nothing.
+/// The quotes of the companies of an area, for six areas; the pairs of quotes at one price; and
+/// each quote for each company of the area A5, which compares nothing.
 const JOINS: &str = "source quotes root Quotes key Symbol\n\
     source companies root Companies key Symbol\n\
     create a0 WHERE <Quotes><Quote><Symbol>$s</><Price>$p</></></> IN \"quotes\", \
-    <Companies><Company><Symbol>$s</><Area>A0</></></> IN \"companies\" CONSTRUCT <hit s=$s p=$p/> DO print\n.\n\
+    <Companies><Company><Symbol>$s</><Area>A0</></></> IN \"companies\" CONSTRUCT <hit s=$s p=$p/> \
+DO print\n.\n\
     create a1 WHERE <Quotes><Quote><Symbol>$s</><Price>$p</></></> IN \"quotes\", \
-    <Companies><Company><Symbol>$s</><Area>A1</></></> IN \"companies\" CONSTRUCT <hit s=$s p=$p/> DO print\n.\n\
+    <Companies><Company><Symbol>$s</><Area>A1</></></> IN \"companies\" CONSTRUCT <hit s=$s p=$p/> \
+DO print\n.\n\
     create a2 WHERE <Quotes><Quote><Symbol>$s</><Price>$p</></></> IN \"quotes\", \
-    <Companies><Company><Symbol>$s</><Area>A2</></></> IN \"companies\" CONSTRUCT <hit s=$s p=$p/> DO print\n.\n\
+    <Companies><Company><Symbol>$s</><Area>A2</></></> IN \"companies\" CONSTRUCT <hit s=$s p=$p/> \
+DO print\n.\n\
     create a3 WHERE <Quotes><Quote><Symbol>$s</><Price>$p</></></> IN \"quotes\", \
-    <Companies><Company><Symbol>$s</><Area>A3</></></> IN \"companies\" CONSTRUCT <hit s=$s p=$p/> DO print\n.\n\
+    <Companies><Company><Symbol>$s</><Area>A3</></></> IN \"companies\" CONSTRUCT <hit s=$s p=$p/> \
+DO print\n.\n\
     create a4 WHERE <Quotes><Quote><Symbol>$s</><Price>$p</></></> IN \"quotes\", \
-    <Companies><Company><Symbol>$s</><Area>A4</></></> IN \"companies\" CONSTRUCT <hit s=$s p=$p/> DO print\n.\n\
+    <Companies><Company><Symbol>$s</><Area>A4</></></> IN \"companies\" CONSTRUCT <hit s=$s p=$p/> \
+DO print\n.\n\
     create a5 WHERE <Quotes><Quote><Symbol>$s</><Price>$p</></></> IN \"quotes\", \
-    <Companies><Company><Symbol>$s</><Area>A5</></></> IN \"companies\" CONSTRUCT <hit s=$s p=$p/> DO print\n.\n\
-    create twins WHERE <Quotes><Quote><Symbol>$a</><Price>$p</></><Quote><Symbol>$b</><Price>$p</></></> \
+    <Companies><Company><Symbol>$s</><Area>A5</></></> IN \"companies\" CONSTRUCT <hit s=$s p=$p/> \
+DO print\n.\n\
+    create twins WHERE <Quotes><Quote><Symbol>$a</><Price>$p</></><Quote><Symbol>$b</><Price>$p</><\
+/></> \
     IN \"quotes\" CONSTRUCT <pair a=$a b=$b/> DO print\n.\n\
     create all WHERE <Quotes><Quote><Symbol>$s</><Price>$p</></></> IN \"quotes\", \
     <Companies><Company><Area>A5</></></> IN \"companies\" CONSTRUCT <all s=$s/> DO print\n.\n";
@@ -70,5 +77,5 @@ const CHANGES: &[Parts<'_>] = &[(
 
 #[test]
 fn each_join_is_told_what_it_makes_of_a_change(rt: HostRuntime) -> Result<(), Fail> {
-    expect_parts(&rt, rt.alloc(), CHANGES)
+    expect_parts(&rt, &rt, CHANGES)
 }

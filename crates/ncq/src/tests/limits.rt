@@ -8,8 +8,9 @@ use std::io;
 use std::process::Abort;
 use std::test::Fail;
 
-/// A script of which one line has a filler: it is `front`, as many fillers as it needs for its length, and `back`.
-/// Its output is `within` up to the limit of that length, and `over` from there on.
+/// A script of which one line has a filler: it is `front`, as many fillers as it needs for its
+/// length, and `back`. Its output is `within` up to the limit of that length, and `over` from there
+/// on.
 struct Filled<'a> {
     before: &'a str,
     front: &'a str,
@@ -34,37 +35,38 @@ fn script_of(alloc: Global, filled: &Filled<'_>, length: usize) -> Result<Vec<u8
 /// The script has this output, read in pieces of 65,536 bytes.
 fn expect_once(
     rt: &impl Abort,
-    alloc: Global,
+    host: &HostRuntime,
     script: &[u8],
     want: &str,
     why: &str,
 ) -> Result<(), Fail> {
     let want = want.as_bytes();
-    expect_end(rt, alloc, script, in_pieces(65536), Status::Done, want, why)
+    expect_end(rt, host, script, in_pieces(65536), Status::Done, want, why)
 }
 
 /// The line has this many bytes at most.
 fn expect_limit(
     rt: &impl Abort,
-    alloc: Global,
+    host: &HostRuntime,
     filled: &Filled<'_>,
     limit: usize,
 ) -> Result<(), Fail> {
+    let alloc = host.alloc();
     let last = script_of(alloc, filled, limit)?;
-    expect_once(rt, alloc, &last, filled.within, filled.front)?;
+    expect_once(rt, host, &last, filled.within, filled.front)?;
     let first = script_of(alloc, filled, limit.saturating_add(1))?;
-    expect_once(rt, alloc, &first, filled.over, filled.front)
+    expect_once(rt, host, &first, filled.over, filled.front)
 }
 
 /// Each line has this many bytes at most.
 fn expect_limits(
     rt: &impl Abort,
-    alloc: Global,
+    host: &HostRuntime,
     lines: &[Filled<'_>],
     limit: usize,
 ) -> Result<(), Fail> {
     for filled in lines {
-        expect_limit(rt, alloc, filled, limit)?;
+        expect_limit(rt, host, filled, limit)?;
     }
     Ok(())
 }
@@ -73,7 +75,8 @@ fn expect_limits(
 const STATEMENT: &str =
     " WHERE <Quotes><Quote><Symbol>INTC</></> ELEMENT_AS $g</> IN \"quotes\" CONSTRUCT $g DO print";
 
-/// A command with a line of more than 1,048,576 bytes is refused; its LF and one carriage return do not count.
+/// A command with a line of more than 1,048,576 bytes is refused; its LF and one carriage return do
+/// not count.
 const LONG_LINES: &[Filled<'_>] = &[
     Filled {
         before: "",
@@ -233,10 +236,9 @@ const LONG_COMMENTS: &[Filled<'_>] = &[
 
 #[test]
 fn a_line_has_at_most_a_mebibyte(rt: HostRuntime) -> Result<(), Fail> {
-    let alloc = rt.alloc();
-    expect_limits(&rt, alloc, LONG_LINES, 1_048_576)?;
-    expect_limits(&rt, alloc, LONG_BLOCK_LINES, 1_048_576)?;
-    expect_limits(&rt, alloc, LONG_COMMENTS, 1_048_576)
+    expect_limits(&rt, &rt, LONG_LINES, 1_048_576)?;
+    expect_limits(&rt, &rt, LONG_BLOCK_LINES, 1_048_576)?;
+    expect_limits(&rt, &rt, LONG_COMMENTS, 1_048_576)
 }
 
 /// A declared name has 255 bytes at most. A query and a delta have no source of such a name.
@@ -274,7 +276,7 @@ const NAMES: &[Filled<'_>] = &[
 fn a_source_name_has_at_most_255_bytes(rt: HostRuntime) -> Result<(), Fail> {
     for filled in NAMES {
         let fixed = filled.front.len().saturating_add(filled.back.len());
-        expect_limit(&rt, rt.alloc(), filled, fixed.saturating_add(255))?;
+        expect_limit(&rt, &rt, filled, fixed.saturating_add(255))?;
     }
     Ok(())
 }
@@ -306,16 +308,21 @@ fn script_with(alloc: Global, pieces: &Repeated<'_>, count: usize) -> Result<Vec
 }
 
 /// The pieces may stand so often, and no more.
-fn expect_last(rt: &impl Abort, alloc: Global, pieces: &Repeated<'_>) -> Result<(), Fail> {
+fn expect_last(rt: &impl Abort, host: &HostRuntime, pieces: &Repeated<'_>) -> Result<(), Fail> {
+    let alloc = host.alloc();
     let last = script_with(alloc, pieces, pieces.last)?;
-    expect_once(rt, alloc, &last, pieces.within, pieces.piece)?;
+    expect_once(rt, host, &last, pieces.within, pieces.piece)?;
     let first = script_with(alloc, pieces, pieces.last.saturating_add(1))?;
-    expect_once(rt, alloc, &first, pieces.over, pieces.piece)
+    expect_once(rt, host, &first, pieces.over, pieces.piece)
 }
 
-fn expect_each_last(rt: &impl Abort, alloc: Global, scripts: &[Repeated<'_>]) -> Result<(), Fail> {
+fn expect_each_last(
+    rt: &impl Abort,
+    host: &HostRuntime,
+    scripts: &[Repeated<'_>],
+) -> Result<(), Fail> {
     for pieces in scripts {
-        expect_last(rt, alloc, pieces)?;
+        expect_last(rt, host, pieces)?;
     }
     Ok(())
 }
@@ -346,10 +353,11 @@ const NESTED: &[Repeated<'_>] = &[
 
 #[test]
 fn elements_are_nested_at_most_64_deep(rt: HostRuntime) -> Result<(), Fail> {
-    expect_each_last(&rt, rt.alloc(), NESTED)
+    expect_each_last(&rt, &rt, NESTED)
 }
 
-/// Tags nest 32 deep. The root is one of them; the tags of a template count by themselves; the text need be no statement.
+/// Tags nest 32 deep. The root is one of them; the tags of a template count by themselves; the text
+/// need be no statement.
 const DEEP_TAGS: &[Repeated<'_>] = &[
     Repeated {
         front: "create w WHERE <R>",
@@ -489,11 +497,10 @@ const CONDITIONS: &[Repeated<'_>] = &[
 
 #[test]
 fn a_statement_has_its_limits(rt: HostRuntime) -> Result<(), Fail> {
-    let alloc = rt.alloc();
-    expect_each_last(&rt, alloc, DEEP_TAGS)?;
-    expect_each_last(&rt, alloc, ARMS)?;
-    expect_each_last(&rt, alloc, SLOTS)?;
-    expect_each_last(&rt, alloc, CONDITIONS)
+    expect_each_last(&rt, &rt, DEEP_TAGS)?;
+    expect_each_last(&rt, &rt, ARMS)?;
+    expect_each_last(&rt, &rt, SLOTS)?;
+    expect_each_last(&rt, &rt, CONDITIONS)
 }
 
 /// Gives comment lines of 1,024 bytes each, or of less where the buffer or the end is nearer.
@@ -515,18 +522,19 @@ impl io::Read for Comments {
 }
 
 /// How a session on so many bytes of comments ends.
-fn status_at(alloc: Global, length: usize) -> Result<Status, AllocError> {
+fn status_at(host: &HostRuntime, length: usize) -> Result<Status, AllocError> {
+    let alloc = host.alloc();
     let mut input = StdSource::new(Comments { left: length });
     let mut output = memory_sink(alloc, 0, calls_of(alloc, &[])?)?;
-    Ok(run_program(alloc, &["run"], &mut input, &mut output))
+    Ok(run_program(host, &["run"], &mut input, &mut output))
 }
 
 /// A second where it is compiled; too long for a try with its checks.
 #[test]
 fn a_script_has_at_most_256_mebibytes(rt: HostRuntime) -> Result<(), Fail> {
-    let last = status_at(rt.alloc(), 268_435_456)?;
+    let last = status_at(&rt, 268_435_456)?;
     assert_eq!(rt; last, Status::Done);
-    let first = status_at(rt.alloc(), 268_435_457)?;
+    let first = status_at(&rt, 268_435_457)?;
     assert_eq!(rt; first, Status::ScriptTooLong);
     Ok(())
 }

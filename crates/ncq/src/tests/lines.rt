@@ -38,7 +38,8 @@ const ENDS: &[(&str, &str)] = &[
     ("\rclock 0\n", "1 ok\n"),
 ];
 
-/// "Every other byte belongs to a word": form feeds, vertical tabs, zeros, and the bytes of other blanks and marks.
+/// "Every other byte belongs to a word": form feeds, vertical tabs, zeros, and the bytes of other
+/// blanks and marks.
 const WORDS: &[(&str, &str)] = &[
     (" \tclock \t 1\t \n", "1 ok\n"),
     ("\x0c\n", "1 refused 1 command\n"),
@@ -53,7 +54,8 @@ const WORDS: &[(&str, &str)] = &[
     ("é\n", "1 refused 1 command\n"),
 ];
 
-/// Any word is a command, in any case of letters; one that is not known is refused, and so is another form.
+/// Any word is a command, in any case of letters; one that is not known is refused, and so is
+/// another form.
 const COMMANDS: &[(&str, &str)] = &[
     ("jump\n", "1 refused 1 command\n"),
     // A dot outside a block is one.
@@ -64,11 +66,13 @@ const COMMANDS: &[(&str, &str)] = &[
     ),
     (
         "REPORT\nClock 1\ndElEtE w\n",
-        "1 ok\nqueries 0\nsources 0\nchanges 0\nfiles 0\ngroups 0\nend\n2 ok\n3 refused 9 no-name\n",
+        "1 ok\nqueries 0\nsources 0\nchanges 0\nfiles 0\ngroups 0\nend\n2 ok\n\
+         3 refused 9 no-name\n",
     ),
     (
         "clock\nclock 1\nclock x\nclock 1 1\nreport\nreport 1\n",
-        "1 refused 1 command\n2 ok\n3 refused 1 command\n4 refused 1 command\n5 ok\nqueries 0\nsources 0\nchanges 0\nfiles 0\ngroups 0\nend\n6 refused 1 command\n",
+        "1 refused 1 command\n2 ok\n3 refused 1 command\n4 refused 1 command\n5 ok\nqueries 0\n\
+         sources 0\nchanges 0\nfiles 0\ngroups 0\nend\n6 refused 1 command\n",
     ),
     (
         "delete\ndelete w\ndelete w w\n",
@@ -86,22 +90,22 @@ const COMMANDS: &[(&str, &str)] = &[
 
 #[test]
 fn a_comment_is_no_command(rt: HostRuntime) -> Result<(), Fail> {
-    expect_each(&rt, rt.alloc(), ("", ""), COMMENTS)
+    expect_each(&rt, &rt, ("", ""), COMMENTS)
 }
 
 #[test]
 fn a_line_ends_by_a_line_feed(rt: HostRuntime) -> Result<(), Fail> {
-    expect_each(&rt, rt.alloc(), ("", ""), ENDS)
+    expect_each(&rt, &rt, ("", ""), ENDS)
 }
 
 #[test]
 fn blanks_part_words(rt: HostRuntime) -> Result<(), Fail> {
-    expect_each(&rt, rt.alloc(), ("", ""), WORDS)
+    expect_each(&rt, &rt, ("", ""), WORDS)
 }
 
 #[test]
 fn a_first_word_begins_a_command(rt: HostRuntime) -> Result<(), Fail> {
-    expect_each(&rt, rt.alloc(), ("", ""), COMMANDS)
+    expect_each(&rt, &rt, ("", ""), COMMANDS)
 }
 
 /// Scripts that are no text: 255 is a letter in a statement and any byte in a document.
@@ -112,20 +116,24 @@ const BYTES: &[(&[u8], &[u8])] = &[
     (b"\xa0report\n", b"1 refused 1 command\n"),
     (b"delta \xff\n.\n", b"1 refused 4 no-source\n"),
     (
-        b"source \xff root \xff\xfe key \0\xff\ndelta \xff\n(\xff\n(\0\xff\n-x\n)\0\xff\n)\xff\n.\n",
+        b"source \xff root \xff\xfe key \0\xff\ndelta \xff\n(\xff\n(\0\xff\n-x\n)\0\xff\n)\xff\n\
+         .\n",
         b"1 ok\n2 ok\n",
     ),
     (
-        b"source q root \xff key k\ncreate \xff WHERE <\xff><\xff><k>INTC</></> ELEMENT_AS $g</> IN \"q\" CONSTRUCT $g DO print\n.\ndelta q\n(\xff\n-\0\xff\x80\n(k\n-INTC\n)k\n)\xff\n.\n",
+        b"source q root \xff key k\ncreate \xff WHERE <\xff><\xff><k>INTC</></> ELEMENT_AS $g</> \
+         IN \"q\" CONSTRUCT $g DO print\n.\ndelta q\n(\xff\n-\0\xff\x80\n(k\n-INTC\n)k\n)\xff\n.\n",
         b"1 ok\n2 ok\n3 ok\nnotice \xff 0\ngain 1\n(\xff\n-\0\xff\x80\n(k\n-INTC\n)k\n)\xff\nend\n",
     ),
     (
-        b"source q root R key k\ncreate w WHERE <R><a><k>\xff</></> ELEMENT_AS $g</> IN \"q\" CONSTRUCT $g DO print\n.\ndelta q\n(a\n(k\n-\xff\n)k\n)a\n.\n",
+        b"source q root R key k\ncreate w WHERE <R><a><k>\xff</></> ELEMENT_AS $g</> IN \"q\" \
+         CONSTRUCT $g DO print\n.\ndelta q\n(a\n(k\n-\xff\n)k\n)a\n.\n",
         b"1 ok\n2 ok\n3 ok\nnotice w 0\ngain 1\n(a\n(k\n-\xff\n)k\n)a\nend\n",
     ),
     // A variable has ASCII letters alone.
     (
-        b"source q root R key k\ncreate w WHERE <R><a><k>x</></> ELEMENT_AS $\xff</> IN \"q\" CONSTRUCT $\xff DO print\n.\n",
+        b"source q root R key k\ncreate w WHERE <R><a><k>x</></> ELEMENT_AS $\xff</> IN \"q\" \
+         CONSTRUCT $\xff DO print\n.\n",
         b"1 ok\n2 refused 10 query\n",
     ),
 ];
@@ -133,7 +141,7 @@ const BYTES: &[(&[u8], &[u8])] = &[
 #[test]
 fn bytes_that_are_no_text_are_kept(rt: HostRuntime) -> Result<(), Fail> {
     for (script, want) in BYTES {
-        expect_output(&rt, rt.alloc(), script, want, "")?;
+        expect_output(&rt, &rt, script, want, "")?;
     }
     Ok(())
 }

@@ -60,13 +60,15 @@ fn put_query(number: u64, out: &mut Vec<u8>) -> Result<(), AllocError> {
             out,
         ),
         2 => put(
-            "<Quotes><Quote><Symbol>$s</><Price>$p</></></> IN \"quotes\", <Companies><Company><Symbol>$s</><Area>A",
+            "<Quotes><Quote><Symbol>$s</><Price>$p</></></> IN \"quotes\", \
+             <Companies><Company><Symbol>$s</><Area>A",
             number % 4,
             "</></></> IN \"companies\" CONSTRUCT <hit><s>$s</><p>$p</></>",
             out,
         ),
         3 => put(
-            "<Quotes><Quote><Symbol>$a</><Price>$p</></><Quote><Symbol>$b</><Price>$p</></></> IN \"quotes\" CONSTRUCT <pair n=\"",
+            "<Quotes><Quote><Symbol>$a</><Price>$p</></><Quote><Symbol>$b</><Price>$p</></></> IN \
+             \"quotes\" CONSTRUCT <pair n=\"",
             number,
             "\" a=$a b=$b/>",
             out,
@@ -107,11 +109,17 @@ fn script(alloc: Global) -> Result<Vec<u8>, AllocError> {
 }
 
 /// What the program writes for the script with these words.
-fn written(rt: &impl Abort, alloc: Global, words: &[&str], script: &[u8]) -> Result<Vec<u8>, Fail> {
+fn written(
+    rt: &impl Abort,
+    host: &HostRuntime,
+    words: &[&str],
+    script: &[u8],
+) -> Result<Vec<u8>, Fail> {
+    let alloc = host.alloc();
     let none = calls_of(alloc, &[])?;
     let mut input = memory_source(bytes_of(alloc, script)?, 65536, none);
     let mut output = memory_sink(alloc, ROOM, calls_of(alloc, &[])?)?;
-    let status = run_program(alloc, words, &mut input, &mut output);
+    let status = run_program(host, words, &mut input, &mut output);
     assert_eq!(rt; status, Status::Done);
     Ok(Vec::from_slice(alloc, output.held())?)
 }
@@ -140,7 +148,7 @@ fn is_refused(line: &[u8]) -> bool {
 fn sixty_subscribers_get_their_own(rt: HostRuntime) -> Result<(), Fail> {
     let alloc = rt.alloc();
     let script = script(alloc)?;
-    let whole = written(&rt, alloc, &["run"], &script)?;
+    let whole = written(&rt, &rt, &["run"], &script)?;
     let refused = whole
         .as_slice()
         .split(|byte| *byte == b'\n')
@@ -155,7 +163,7 @@ fn sixty_subscribers_get_their_own(rt: HostRuntime) -> Result<(), Fail> {
     ] {
         let own = told(alloc, &whole, first)?;
         assert!(rt; !own.is_empty());
-        let alone = written(&rt, alloc, &["alone", name], &script)?;
+        let alone = written(&rt, &rt, &["alone", name], &script)?;
         expect_bytes(&rt, &alone, &own, name);
     }
     Ok(())

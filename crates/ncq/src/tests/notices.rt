@@ -35,7 +35,7 @@ const PUTS: &[Parts<'_>] = &[
 
 #[test]
 fn a_put_is_told_to_the_subscription(rt: HostRuntime) -> Result<(), Fail> {
-    expect_parts(&rt, rt.alloc(), PUTS)
+    expect_parts(&rt, &rt, PUTS)
 }
 
 const DELETIONS: &[Parts<'_>] = &[
@@ -55,7 +55,8 @@ const DELETIONS: &[Parts<'_>] = &[
         &[
             SOURCE,
             WATCH,
-            "delta quotes\n(Quote\n(Symbol\n-INTC\n)Symbol\n(Price\n-1\n)Price\n)Quote\n(Quote\n)Quote\n.\n",
+            "delta quotes\n(Quote\n(Symbol\n-INTC\n)Symbol\n(Price\n-1\n)Price\n)Quote\n(Quote\n\
+             )Quote\n.\n",
             DELETE,
         ],
         &["1 ok\n2 ok\n3 refused 6 key 2\n4 refused 7 no-key 1\n"],
@@ -76,7 +77,8 @@ const DELETIONS: &[Parts<'_>] = &[
             SOURCE,
             WATCH,
             PUT_95,
-            "delta quotes\n!INTC\n(Quote\n(Symbol\n-INTC\n)Symbol\n(Price\n-95.5\n)Price\n)Quote\n.\n",
+            "delta quotes\n!INTC\n(Quote\n(Symbol\n-INTC\n)Symbol\n(Price\n-95.5\n)Price\n)Quote\n\
+             .\n",
             DELETE,
         ],
         &["1 ok\n2 ok\n3 ok\n", TOLD_95, "4 ok\n5 ok\n", LOST_95],
@@ -90,12 +92,13 @@ const DELETIONS: &[Parts<'_>] = &[
 
 #[test]
 fn a_deletion_is_told_once(rt: HostRuntime) -> Result<(), Fail> {
-    expect_parts(&rt, rt.alloc(), DELETIONS)
+    expect_parts(&rt, &rt, DELETIONS)
 }
 
 /// The lines of an element as they are put, beside those by which it is told.
 const LINES: &[Case<'_>] = &[
-    // Attributes stand in the order of their names, and a value has everything behind the first space.
+    // Attributes stand in the order of their names, and a value has everything behind the first
+    // space.
     (
         "(Quote\nAb\nAa  x y \nAB 1\n(Symbol\n-INTC\n)Symbol\n)Quote\n",
         "(Quote\nAB 1\nAa  x y \nAb \n(Symbol\n-INTC\n)Symbol\n)Quote\n",
@@ -105,7 +108,8 @@ const LINES: &[Case<'_>] = &[
         "?xml\nNx\n(Quote\nC a\nAa 1\n\nUu\nAb 2\n-a\n?x\n-b\nD\n(Symbol\n-INTC\n)Symbol\n)Quote\n",
         "(Quote\nAa 1\nAb 2\n-ab\n(Symbol\n-INTC\n)Symbol\n)Quote\n",
     ),
-    // Escapes are read and written again; white space goes from the ends of a text but not of a value.
+    // Escapes are read and written again; white space goes from the ends of a text but not of a
+    // value.
     (
         "(Quote\nAa \\n\n-\\na\\tb\\rc\\\\n\\x\\n\n(Symbol\n-\\nINTC\n)Symbol\n)Quote\n",
         "(Quote\nAa \\n\n-a\\tb\\rc\\\\n\\\\x\n(Symbol\n-INTC\n)Symbol\n)Quote\n",
@@ -122,7 +126,7 @@ fn an_element_is_told_by_its_canonical_lines(rt: HostRuntime) -> Result<(), Fail
             alloc,
             &["1 ok\n2 ok\n3 ok\nnotice w 0\ngain 1\n", *told, "end\n"],
         )?;
-        expect_output(&rt, alloc, &script, &want, put)?;
+        expect_output(&rt, &rt, &script, &want, put)?;
     }
     Ok(())
 }
@@ -153,7 +157,7 @@ const TWO_SOURCES: &[Parts<'_>] = &[
 
 #[test]
 fn a_change_of_another_source_is_not_told(rt: HostRuntime) -> Result<(), Fail> {
-    expect_parts(&rt, rt.alloc(), TWO_SOURCES)
+    expect_parts(&rt, &rt, TWO_SOURCES)
 }
 
 #[test]
@@ -167,7 +171,7 @@ fn a_carriage_return_before_a_line_feed_says_nothing(rt: HostRuntime) -> Result<
         script.push(*byte)?;
     }
     let want = joined(alloc, &["1 ok\n2 ok\n3 ok\n", TOLD_95, "4 ok\n", TOLD_96])?;
-    expect_output(&rt, alloc, &script, &want, "")
+    expect_output(&rt, &rt, &script, &want, "")
 }
 
 /// Scripts behind the declared source and the query.
@@ -183,20 +187,26 @@ const DIFFERENCES: &[Case<'_>] = &[
     ),
     // Of two puts at one key in a delta the later one stands.
     (
-        "delta quotes\n(Quote\n(Symbol\n-INTC\n)Symbol\n-1\n)Quote\n(Quote\n(Symbol\n-INTC\n)Symbol\n-2\n)Quote\n.\n",
+        "delta quotes\n(Quote\n(Symbol\n-INTC\n)Symbol\n-1\n)Quote\n(Quote\n(Symbol\n-INTC\n\
+         )Symbol\n-2\n)Quote\n.\n",
         "3 ok\nnotice w 0\ngain 1\n(Quote\n(Symbol\n-INTC\n)Symbol\n-2\n)Quote\nend\n",
     ),
     // An answer goes away where another tag takes its key.
     (
-        "delta quotes\n(Quote\n(Symbol\n-INTC\n)Symbol\n)Quote\n.\ndelta quotes\n(Other\n(Symbol\n-INTC\n)Symbol\n)Other\n.\n",
-        "3 ok\nnotice w 0\ngain 1\n(Quote\n(Symbol\n-INTC\n)Symbol\n)Quote\nend\n4 ok\nnotice w 0\nlose 1\n(Quote\n(Symbol\n-INTC\n)Symbol\n)Quote\nend\n",
+        "delta quotes\n(Quote\n(Symbol\n-INTC\n)Symbol\n)Quote\n.\ndelta quotes\n(Other\n(Symbol\n\
+         -INTC\n)Symbol\n)Other\n.\n",
+        "3 ok\nnotice w 0\ngain 1\n(Quote\n(Symbol\n-INTC\n)Symbol\n)Quote\nend\n4 ok\nnotice w 0\n\
+         lose 1\n(Quote\n(Symbol\n-INTC\n)Symbol\n)Quote\nend\n",
     ),
     // A delta that is refused leaves nothing of its first put behind: the next notice has no loss.
     (
-        "delta quotes\n(Quote\n(Symbol\n-INTC\n)Symbol\n-1\n)Quote\n(Quote\n)Quote\n.\ndelta quotes\n(Quote\n(Symbol\n-INTC\n)Symbol\n-2\n)Quote\n.\n",
-        "3 refused 6 key 2\n4 ok\nnotice w 0\ngain 1\n(Quote\n(Symbol\n-INTC\n)Symbol\n-2\n)Quote\nend\n",
+        "delta quotes\n(Quote\n(Symbol\n-INTC\n)Symbol\n-1\n)Quote\n(Quote\n)Quote\n.\n\
+         delta quotes\n(Quote\n(Symbol\n-INTC\n)Symbol\n-2\n)Quote\n.\n",
+        "3 refused 6 key 2\n4 ok\nnotice w 0\ngain 1\n(Quote\n(Symbol\n-INTC\n)Symbol\n-2\n)Quote\n\
+         end\n",
     ),
-    // Neighbouring texts are one text, white space at its ends is dropped, and tab and carriage return are escaped.
+    // Neighbouring texts are one text, white space at its ends is dropped, and tab and carriage
+    // return are escaped.
     (
         "delta quotes\n(Quote\n- \n(Symbol\n- IN\n-TC \n)Symbol\n-\ta\tb\rc\r\r\n)Quote\n.\n",
         "3 ok\nnotice w 0\ngain 1\n(Quote\n(Symbol\n-INTC\n)Symbol\n-a\\tb\\rc\n)Quote\nend\n",
@@ -223,28 +233,36 @@ fn a_notice_is_the_difference_of_two_answers(rt: HostRuntime) -> Result<(), Fail
     for (script, want) in DIFFERENCES {
         let script = joined(alloc, &[SOURCE, WATCH, *script])?;
         let want = joined(alloc, &["1 ok\n2 ok\n", *want])?;
-        expect_output(&rt, alloc, &script, &want, "")?;
+        expect_output(&rt, &rt, &script, &want, "")?;
     }
     Ok(())
 }
 
-/// Scripts behind a source and the query, where the key is another child than the one that the query is about.
+/// Scripts behind a source and the query, where the key is another child than the one that the
+/// query is about.
 const COUNTS: &[Case<'_>] = &[
-    // Two children fit: the element is gained twice. With one of them it is another element, gained once, and
-    // it stands behind, since `)` is above `(`.
+    // Two children fit: the element is gained twice. With one of them it is another element, gained
+    // once, and it stands behind, since `)` is above `(`.
     (
-        "delta quotes\n(Quote\n(Id\n-1\n)Id\n(Symbol\n-INTC\n)Symbol\n(Symbol\n-INTC\n)Symbol\n)Quote\n.\ndelta quotes\n(Quote\n(Id\n-1\n)Id\n(Symbol\n-INTC\n)Symbol\n)Quote\n.\n",
-        "3 ok\nnotice w 0\ngain 2\n(Quote\n(Id\n-1\n)Id\n(Symbol\n-INTC\n)Symbol\n(Symbol\n-INTC\n)Symbol\n)Quote\nend\n4 ok\nnotice w 0\nlose 2\n(Quote\n(Id\n-1\n)Id\n(Symbol\n-INTC\n)Symbol\n(Symbol\n-INTC\n)Symbol\n)Quote\ngain 1\n(Quote\n(Id\n-1\n)Id\n(Symbol\n-INTC\n)Symbol\n)Quote\nend\n",
+        "delta quotes\n(Quote\n(Id\n-1\n)Id\n(Symbol\n-INTC\n)Symbol\n(Symbol\n-INTC\n)Symbol\n\
+         )Quote\n.\ndelta quotes\n(Quote\n(Id\n-1\n)Id\n(Symbol\n-INTC\n)Symbol\n)Quote\n.\n",
+        "3 ok\nnotice w 0\ngain 2\n(Quote\n(Id\n-1\n)Id\n(Symbol\n-INTC\n)Symbol\n(Symbol\n-INTC\n\
+         )Symbol\n)Quote\nend\n4 ok\nnotice w 0\nlose 2\n(Quote\n(Id\n-1\n)Id\n(Symbol\n-INTC\n\
+         )Symbol\n(Symbol\n-INTC\n)Symbol\n)Quote\ngain 1\n(Quote\n(Id\n-1\n)Id\n(Symbol\n-INTC\n\
+         )Symbol\n)Quote\nend\n",
     ),
     // Without the child, and with it one level deeper, it is no answer.
     (
-        "delta quotes\n(Quote\n(Id\n-1\n)Id\n)Quote\n(Quote\n(Id\n-2\n)Id\n(a\n(Symbol\n-INTC\n)Symbol\n)a\n)Quote\n.\n",
+        "delta quotes\n(Quote\n(Id\n-1\n)Id\n)Quote\n(Quote\n(Id\n-2\n)Id\n(a\n(Symbol\n-INTC\n\
+         )Symbol\n)a\n)Quote\n.\n",
         "3 ok\n",
     ),
     // Two answers stand by the bytes of their lines, whatever the order of their puts.
     (
-        "delta quotes\n(Quote\n(Id\n-b\n)Id\n(Symbol\n-INTC\n)Symbol\n)Quote\n(Quote\n(Id\n-a\n)Id\n(Symbol\n-INTC\n)Symbol\n)Quote\n.\n",
-        "3 ok\nnotice w 0\ngain 1\n(Quote\n(Id\n-a\n)Id\n(Symbol\n-INTC\n)Symbol\n)Quote\ngain 1\n(Quote\n(Id\n-b\n)Id\n(Symbol\n-INTC\n)Symbol\n)Quote\nend\n",
+        "delta quotes\n(Quote\n(Id\n-b\n)Id\n(Symbol\n-INTC\n)Symbol\n)Quote\n(Quote\n(Id\n-a\n\
+         )Id\n(Symbol\n-INTC\n)Symbol\n)Quote\n.\n",
+        "3 ok\nnotice w 0\ngain 1\n(Quote\n(Id\n-a\n)Id\n(Symbol\n-INTC\n)Symbol\n)Quote\ngain 1\n\
+         (Quote\n(Id\n-b\n)Id\n(Symbol\n-INTC\n)Symbol\n)Quote\nend\n",
     ),
 ];
 
@@ -255,7 +273,7 @@ fn an_element_counts_once_for_each_child_that_fits(rt: HostRuntime) -> Result<()
         let source = "source quotes root Quotes key Id\n";
         let script = joined(alloc, &[source, WATCH, *script])?;
         let want = joined(alloc, &["1 ok\n2 ok\n", *want])?;
-        expect_output(&rt, alloc, &script, &want, "")?;
+        expect_output(&rt, &rt, &script, &want, "")?;
     }
     Ok(())
 }
@@ -268,7 +286,8 @@ const SEVERAL: &[Parts<'_>] = &[
             SOURCE,
             "source companies root Companies key Symbol\n",
             "source others root Others key Symbol\n",
-            "create v WHERE <Quotes><Quote><Symbol>$s</></></> IN quotes, <Companies><Company><Symbol>$s</></></> IN companies CONSTRUCT $s DO print\n.\n",
+            "create v WHERE <Quotes><Quote><Symbol>$s</></></> IN quotes, \
+             <Companies><Company><Symbol>$s</></></> IN companies CONSTRUCT $s DO print\n.\n",
             "delta quotes\n(Quote\n(Symbol\n-A\n)Symbol\n)Quote\n.\n",
             "delta others\n(Other\n(Symbol\n-A\n)Symbol\n)Other\n.\n",
             "delta companies\n(Company\n(Symbol\n-A\n)Symbol\n)Company\n.\n",
@@ -284,20 +303,23 @@ const SEVERAL: &[Parts<'_>] = &[
     (
         &[
             SOURCE,
-            "create v WHERE <Quotes><Quote><Symbol>$a</><Tag>$t</></><Quote><Symbol>$b</><Tag>$t</></></> IN quotes CONSTRUCT <p a=$a b=$b/> DO print\n.\n",
+            "create v WHERE <Quotes><Quote><Symbol>$a</><Tag>$t</></><Quote><Symbol>$b</><Tag>$t</>\
+             </></> IN quotes CONSTRUCT <p a=$a b=$b/> DO print\n.\n",
             "delta quotes\n(Quote\n(Symbol\n-A\n)Symbol\n(Tag\n-x\n)Tag\n)Quote\n.\n",
             "delta quotes\n(Quote\n(Symbol\n-B\n)Symbol\n(Tag\n-x\n)Tag\n)Quote\n.\n",
             "delta quotes\n!A\n.\n",
         ],
         &[
             "1 ok\n2 ok\n3 ok\nnotice v 0\ngain 1\n(p\nAa A\nAb A\n)p\nend\n",
-            "4 ok\nnotice v 0\ngain 1\n(p\nAa A\nAb B\n)p\ngain 1\n(p\nAa B\nAb A\n)p\ngain 1\n(p\nAa B\nAb B\n)p\nend\n",
-            "5 ok\nnotice v 0\nlose 1\n(p\nAa A\nAb A\n)p\nlose 1\n(p\nAa A\nAb B\n)p\nlose 1\n(p\nAa B\nAb A\n)p\nend\n",
+            "4 ok\nnotice v 0\ngain 1\n(p\nAa A\nAb B\n)p\ngain 1\n(p\nAa B\nAb A\n)p\ngain 1\n(p\n\
+             Aa B\nAb B\n)p\nend\n",
+            "5 ok\nnotice v 0\nlose 1\n(p\nAa A\nAb A\n)p\nlose 1\n(p\nAa A\nAb B\n)p\nlose 1\n(p\n\
+             Aa B\nAb A\n)p\nend\n",
         ],
     ),
 ];
 
 #[test]
 fn a_query_may_ask_several_sources(rt: HostRuntime) -> Result<(), Fail> {
-    expect_parts(&rt, rt.alloc(), SEVERAL)
+    expect_parts(&rt, &rt, SEVERAL)
 }

@@ -8,8 +8,9 @@ use std::alloc::Global;
 use std::process::Abort;
 use std::test::Fail;
 
-/// A place between four commands that are accepted: the commands in front of it and behind it, the answers in front of
-/// it, the number of the command that stands there, and the answers behind it where that one is refused.
+/// A place between four commands that are accepted: the commands in front of it and behind it, the
+/// answers in front of it, the number of the command that stands there, and the answers behind it
+/// where that one is refused.
 struct Place<'a> {
     front: &'a [&'a str],
     behind: &'a [&'a str],
@@ -134,7 +135,8 @@ const COMMANDS: &[(&str, [&str; 5])] = &[
         ],
     ),
     (
-        "create v WHERE <Quotes><Quote/></> IN quotes CONSTRUCT <hit/> DO fax EXPIRE 1 START 2\n.\n",
+        "create v WHERE <Quotes><Quote/></> IN quotes CONSTRUCT <hit/> DO fax EXPIRE 1 START 2\n\
+         .\n",
         [
             "4 no-source",
             "13 action",
@@ -144,7 +146,8 @@ const COMMANDS: &[(&str, [&str; 5])] = &[
         ],
     ),
     (
-        "create v WHERE <Quotes><Quote/></> IN quotes CONSTRUCT <hit/> DO print EXPIRE 1 START 2\n.\n",
+        "create v WHERE <Quotes><Quote/></> IN quotes CONSTRUCT <hit/> DO print EXPIRE 1 START 2\n\
+         .\n",
         [
             "4 no-source",
             "14 times",
@@ -158,18 +161,19 @@ const COMMANDS: &[(&str, [&str; 5])] = &[
 /// The commands round this place are answered as ever where this command is refused there.
 fn expect_refused(
     rt: &impl Abort,
-    alloc: Global,
+    host: &HostRuntime,
     place: &Place<'_>,
     command: &str,
     refusal: &str,
 ) -> Result<(), Fail> {
+    let alloc = host.alloc();
     let mut script = joined(alloc, place.front)?;
     script.extend_from_slice(command.as_bytes())?;
     script.extend_from_slice(&joined(alloc, place.behind)?)?;
     let mut want = joined(alloc, place.answered)?;
     want.extend_from_slice(&joined(alloc, &[place.number, " refused ", refusal, "\n"])?)?;
     want.extend_from_slice(&joined(alloc, place.then)?)?;
-    expect_output(rt, alloc, &script, &want, command)
+    expect_output(rt, host, &script, &want, command)
 }
 
 #[test]
@@ -177,7 +181,7 @@ fn the_commands_round_it_are_answered_as_ever(rt: HostRuntime) -> Result<(), Fai
     for (command, refusals) in COMMANDS {
         for (place, refusal) in PLACES.iter().zip(refusals) {
             if !refusal.is_empty() {
-                expect_refused(&rt, rt.alloc(), place, command, refusal)?;
+                expect_refused(&rt, &rt, place, command, refusal)?;
             }
         }
     }
@@ -186,7 +190,8 @@ fn the_commands_round_it_are_answered_as_ever(rt: HostRuntime) -> Result<(), Fai
 
 /// A query over a source that is never declared.
 const ELSEWHERE: &str =
-    "create w WHERE <Companies><Company><Area>x</></> ELEMENT_AS $g</> IN \"companies\" CONSTRUCT $g DO print\n.\n";
+    "create w WHERE <Companies><Company><Area>x</></> ELEMENT_AS $g</> IN \"companies\" CONSTRUCT \
+     $g DO print\n.\n";
 
 /// What one command leaves to the next.
 const LEFT: &[(&[&str], &[&str])] = &[
@@ -256,7 +261,8 @@ const LEFT: &[(&[&str], &[&str])] = &[
     (
         &[
             SOURCE,
-            "create w WHERE <Quotes><Quote><Symbol>INTC</></> ELEMENT_AS $g</> IN \"quotes\" CONSTRUCT $g DO print\n",
+            "create w WHERE <Quotes><Quote><Symbol>INTC</></> ELEMENT_AS $g</> IN \"quotes\" \
+             CONSTRUCT $g DO print\n",
         ],
         &["1 ok\n2 refused 16 unfinished\n"],
     ),
@@ -273,25 +279,29 @@ const LEFT: &[(&[&str], &[&str])] = &[
 
 #[test]
 fn a_command_leaves_its_state_to_the_next(rt: HostRuntime) -> Result<(), Fail> {
-    expect_parts(&rt, rt.alloc(), LEFT)
+    expect_parts(&rt, &rt, LEFT)
 }
 
 /// One fault in each command, behind the declared source.
 const FAULTS: &[Case<'_>] = &[
     (
-        "create w WHERE <Quote><Quote><Symbol>INTC</></> ELEMENT_AS $g</> IN \"quotes\" CONSTRUCT $g DO print\n.\n",
+        "create w WHERE <Quote><Quote><Symbol>INTC</></> ELEMENT_AS $g</> IN \"quotes\" CONSTRUCT \
+         $g DO print\n.\n",
         "2 refused 12 root\n",
     ),
     (
-        "create w WHERE <Quotes><Quote><Symbol>INTC</></> ELEMENT_AS $g</> IN \"quotes\" CONSTRUCT $h DO print\n.\n",
+        "create w WHERE <Quotes><Quote><Symbol>INTC</></> ELEMENT_AS $g</> IN \"quotes\" CONSTRUCT \
+         $h DO print\n.\n",
         "2 refused 11 unbound\n",
     ),
     (
-        "create w WHERE <Quotes><Quote><Symbol>INTC</></> ELEMENT_AS $g</> IN \"x\" CONSTRUCT $g DO print\n.\n",
+        "create w WHERE <Quotes><Quote><Symbol>INTC</></> ELEMENT_AS $g</> IN \"x\" CONSTRUCT $g \
+         DO print\n.\n",
         "2 refused 4 no-source\n",
     ),
     (
-        "create w WHERE <Quotes><Quote><Symbol>INTC</></> ELEMENT_AS $g</> IN \"quotes\" CONSTRUCT $g\n.\n",
+        "create w WHERE <Quotes><Quote><Symbol>INTC</></> ELEMENT_AS $g</> IN \"quotes\" CONSTRUCT \
+         $g\n.\n",
         "2 refused 10 query\n",
     ),
     (SOURCE, "2 refused 3 source-exists\n"),
@@ -300,102 +310,123 @@ const FAULTS: &[Case<'_>] = &[
 
 #[test]
 fn a_fault_is_named(rt: HostRuntime) -> Result<(), Fail> {
-    expect_each(&rt, rt.alloc(), (SOURCE, "1 ok\n"), FAULTS)
+    expect_each(&rt, &rt, (SOURCE, "1 ok\n"), FAULTS)
 }
 
-/// Behind the source, a clock and a live `w`: each fault of a create by itself, and each two of them at once, where the
-/// first in their order is told.
+/// Behind the source, a clock and a live `w`: each fault of a create by itself, and each two of
+/// them at once, where the first in their order is told.
 const FIRST_FAULTS: &[Case<'_>] = &[
     (
-        "create w WHERE <Quotes><Quote><Symbol>$s</></></> IN quotes, <Quotes><Quote><Symbol>$s</></></> IN quotes CONSTRUCT $s DO print\n.\n",
+        "create w WHERE <Quotes><Quote><Symbol>$s</></></> IN quotes, \
+         <Quotes><Quote><Symbol>$s</></></> IN quotes CONSTRUCT $s DO print\n.\n",
         "4 refused 8 name-taken\n",
     ),
     (
-        "create v WHERE <Quotes><Quote><Symbol>$s</></></> IN x, <Quotes><Quote><Symbol>$s</></></> IN quotes CONSTRUCT $s DO print\n.\n",
+        "create v WHERE <Quotes><Quote><Symbol>$s</></></> IN x, \
+         <Quotes><Quote><Symbol>$s</></></> IN quotes CONSTRUCT $s DO print\n.\n",
         "4 refused 4 no-source\n",
     ),
     (
-        "create v WHERE <Quotes><Quote><Symbol>$s</></></> IN quotes, <Quote><Quote><Symbol>$s</></></> IN quotes CONSTRUCT $s DO print\n.\n",
+        "create v WHERE <Quotes><Quote><Symbol>$s</></></> IN quotes, \
+         <Quote><Quote><Symbol>$s</></></> IN quotes CONSTRUCT $s DO print\n.\n",
         "4 refused 12 root\n",
     ),
     (
-        "create v WHERE <Quotes><Quote><Symbol>$s</></></> IN quotes, <Quotes><Quote><Symbol>$s</></></> IN quotes CONSTRUCT $t DO print\n.\n",
+        "create v WHERE <Quotes><Quote><Symbol>$s</></></> IN quotes, \
+         <Quotes><Quote><Symbol>$s</></></> IN quotes CONSTRUCT $t DO print\n.\n",
         "4 refused 11 unbound\n",
     ),
     (
-        "create v WHERE <Quotes><Quote><Symbol>$s</></></> IN quotes, <Quotes><Quote><Symbol>$s</></></> IN quotes CONSTRUCT $s DO mailto\n.\n",
+        "create v WHERE <Quotes><Quote><Symbol>$s</></></> IN quotes, \
+         <Quotes><Quote><Symbol>$s</></></> IN quotes CONSTRUCT $s DO mailto\n.\n",
         "4 refused 13 action\n",
     ),
     (
-        "create v WHERE <Quotes><Quote><Symbol>$s</></></> IN quotes, <Quotes><Quote><Symbol>$s</></></> IN quotes CONSTRUCT $s DO print EXPIRE 4\n.\n",
+        "create v WHERE <Quotes><Quote><Symbol>$s</></></> IN quotes, \
+         <Quotes><Quote><Symbol>$s</></></> IN quotes CONSTRUCT $s DO print EXPIRE 4\n.\n",
         "4 refused 14 times\n",
     ),
     (
-        "create w WHERE <Quotes><Quote><Symbol>$s</></></> IN x, <Quotes><Quote><Symbol>$s</></></> IN quotes CONSTRUCT $s DO print\n.\n",
+        "create w WHERE <Quotes><Quote><Symbol>$s</></></> IN x, \
+         <Quotes><Quote><Symbol>$s</></></> IN quotes CONSTRUCT $s DO print\n.\n",
         "4 refused 8 name-taken\n",
     ),
     (
-        "create w WHERE <Quotes><Quote><Symbol>$s</></></> IN quotes, <Quote><Quote><Symbol>$s</></></> IN quotes CONSTRUCT $s DO print\n.\n",
+        "create w WHERE <Quotes><Quote><Symbol>$s</></></> IN quotes, \
+         <Quote><Quote><Symbol>$s</></></> IN quotes CONSTRUCT $s DO print\n.\n",
         "4 refused 8 name-taken\n",
     ),
     (
-        "create w WHERE <Quotes><Quote><Symbol>$s</></></> IN quotes, <Quotes><Quote><Symbol>$s</></></> IN quotes CONSTRUCT $t DO print\n.\n",
+        "create w WHERE <Quotes><Quote><Symbol>$s</></></> IN quotes, \
+         <Quotes><Quote><Symbol>$s</></></> IN quotes CONSTRUCT $t DO print\n.\n",
         "4 refused 8 name-taken\n",
     ),
     (
-        "create w WHERE <Quotes><Quote><Symbol>$s</></></> IN quotes, <Quotes><Quote><Symbol>$s</></></> IN quotes CONSTRUCT $s DO mailto\n.\n",
+        "create w WHERE <Quotes><Quote><Symbol>$s</></></> IN quotes, \
+         <Quotes><Quote><Symbol>$s</></></> IN quotes CONSTRUCT $s DO mailto\n.\n",
         "4 refused 8 name-taken\n",
     ),
     (
-        "create w WHERE <Quotes><Quote><Symbol>$s</></></> IN quotes, <Quotes><Quote><Symbol>$s</></></> IN quotes CONSTRUCT $s DO print EXPIRE 4\n.\n",
+        "create w WHERE <Quotes><Quote><Symbol>$s</></></> IN quotes, \
+         <Quotes><Quote><Symbol>$s</></></> IN quotes CONSTRUCT $s DO print EXPIRE 4\n.\n",
         "4 refused 8 name-taken\n",
     ),
     (
-        "create v WHERE <Quotes><Quote><Symbol>$s</></></> IN x, <Quote><Quote><Symbol>$s</></></> IN quotes CONSTRUCT $s DO print\n.\n",
+        "create v WHERE <Quotes><Quote><Symbol>$s</></></> IN x, <Quote><Quote><Symbol>$s</></></> \
+         IN quotes CONSTRUCT $s DO print\n.\n",
         "4 refused 4 no-source\n",
     ),
     (
-        "create v WHERE <Quotes><Quote><Symbol>$s</></></> IN x, <Quotes><Quote><Symbol>$s</></></> IN quotes CONSTRUCT $t DO print\n.\n",
+        "create v WHERE <Quotes><Quote><Symbol>$s</></></> IN x, \
+         <Quotes><Quote><Symbol>$s</></></> IN quotes CONSTRUCT $t DO print\n.\n",
         "4 refused 4 no-source\n",
     ),
     (
-        "create v WHERE <Quotes><Quote><Symbol>$s</></></> IN x, <Quotes><Quote><Symbol>$s</></></> IN quotes CONSTRUCT $s DO mailto\n.\n",
+        "create v WHERE <Quotes><Quote><Symbol>$s</></></> IN x, \
+         <Quotes><Quote><Symbol>$s</></></> IN quotes CONSTRUCT $s DO mailto\n.\n",
         "4 refused 4 no-source\n",
     ),
     (
-        "create v WHERE <Quotes><Quote><Symbol>$s</></></> IN x, <Quotes><Quote><Symbol>$s</></></> IN quotes CONSTRUCT $s DO print EXPIRE 4\n.\n",
+        "create v WHERE <Quotes><Quote><Symbol>$s</></></> IN x, \
+         <Quotes><Quote><Symbol>$s</></></> IN quotes CONSTRUCT $s DO print EXPIRE 4\n.\n",
         "4 refused 4 no-source\n",
     ),
     (
-        "create v WHERE <Quotes><Quote><Symbol>$s</></></> IN quotes, <Quote><Quote><Symbol>$s</></></> IN quotes CONSTRUCT $t DO print\n.\n",
+        "create v WHERE <Quotes><Quote><Symbol>$s</></></> IN quotes, \
+         <Quote><Quote><Symbol>$s</></></> IN quotes CONSTRUCT $t DO print\n.\n",
         "4 refused 12 root\n",
     ),
     (
-        "create v WHERE <Quotes><Quote><Symbol>$s</></></> IN quotes, <Quote><Quote><Symbol>$s</></></> IN quotes CONSTRUCT $s DO mailto\n.\n",
+        "create v WHERE <Quotes><Quote><Symbol>$s</></></> IN quotes, \
+         <Quote><Quote><Symbol>$s</></></> IN quotes CONSTRUCT $s DO mailto\n.\n",
         "4 refused 12 root\n",
     ),
     (
-        "create v WHERE <Quotes><Quote><Symbol>$s</></></> IN quotes, <Quote><Quote><Symbol>$s</></></> IN quotes CONSTRUCT $s DO print EXPIRE 4\n.\n",
+        "create v WHERE <Quotes><Quote><Symbol>$s</></></> IN quotes, \
+         <Quote><Quote><Symbol>$s</></></> IN quotes CONSTRUCT $s DO print EXPIRE 4\n.\n",
         "4 refused 12 root\n",
     ),
     (
-        "create v WHERE <Quotes><Quote><Symbol>$s</></></> IN quotes, <Quotes><Quote><Symbol>$s</></></> IN quotes CONSTRUCT $t DO mailto\n.\n",
+        "create v WHERE <Quotes><Quote><Symbol>$s</></></> IN quotes, \
+         <Quotes><Quote><Symbol>$s</></></> IN quotes CONSTRUCT $t DO mailto\n.\n",
         "4 refused 11 unbound\n",
     ),
     (
-        "create v WHERE <Quotes><Quote><Symbol>$s</></></> IN quotes, <Quotes><Quote><Symbol>$s</></></> IN quotes CONSTRUCT $t DO print EXPIRE 4\n.\n",
+        "create v WHERE <Quotes><Quote><Symbol>$s</></></> IN quotes, \
+         <Quotes><Quote><Symbol>$s</></></> IN quotes CONSTRUCT $t DO print EXPIRE 4\n.\n",
         "4 refused 11 unbound\n",
     ),
     (
-        "create v WHERE <Quotes><Quote><Symbol>$s</></></> IN quotes, <Quotes><Quote><Symbol>$s</></></> IN quotes CONSTRUCT $s DO mailto EXPIRE 4\n.\n",
+        "create v WHERE <Quotes><Quote><Symbol>$s</></></> IN quotes, \
+         <Quotes><Quote><Symbol>$s</></></> IN quotes CONSTRUCT $s DO mailto EXPIRE 4\n.\n",
         "4 refused 13 action\n",
     ),
 ];
 
 #[test]
 fn the_first_fault_of_a_create_is_told(rt: HostRuntime) -> Result<(), Fail> {
-    let before =
-        "source quotes root Quotes key Symbol\nclock 5\ncreate w WHERE <Quotes><Quote><Symbol>$s</></></> IN quotes CONSTRUCT $s DO print\n.\n";
+    let before = "source quotes root Quotes key Symbol\nclock 5\n\
+         create w WHERE <Quotes><Quote><Symbol>$s</></></> IN quotes CONSTRUCT $s DO print\n.\n";
     let answers = "1 ok\n2 ok\n3 ok\n";
-    expect_each(&rt, rt.alloc(), (before, answers), FIRST_FAULTS)
+    expect_each(&rt, &rt, (before, answers), FIRST_FAULTS)
 }

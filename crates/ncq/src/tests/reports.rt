@@ -5,10 +5,12 @@ use std::test::Fail;
 
 /// Queries beside `w`: of another symbol, and of the same one with another answer.
 const OTHERS: &str =
-    "create b WHERE <Quotes><Quote><Symbol>MSFT</></> ELEMENT_AS $g</> IN \"quotes\" CONSTRUCT $g DO print\n.\n";
+    "create b WHERE <Quotes><Quote><Symbol>MSFT</></> ELEMENT_AS $g</> IN \"quotes\" CONSTRUCT $g \
+     DO print\n.\n";
 
 const SAME_PLAN: &str =
-    "create c WHERE <Quotes><Quote><Symbol>INTC</></> ELEMENT_AS $g</> IN \"quotes\" CONSTRUCT <hit>$g</> DO print\n.\n";
+    "create c WHERE <Quotes><Quote><Symbol>INTC</></> ELEMENT_AS $g</> IN \"quotes\" CONSTRUCT \
+     <hit>$g</> DO print\n.\n";
 
 const NOTHING: &str = "files 0\ngroups 0\nend\n";
 
@@ -22,7 +24,7 @@ const ONE_CONSTANT: &str = "files 2\ngroups 2\ngroup 1 eq(scan(quotes,Quote(Symb
 fn a_report_tells_what_is_shared(rt: HostRuntime) -> Result<(), Fail> {
     expect_parts(
         &rt,
-        rt.alloc(),
+        &rt,
         &[
             (
                 &["report\n"],

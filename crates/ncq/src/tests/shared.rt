@@ -132,7 +132,8 @@ fn query_of(letter: u8) -> &'static str {
         b'R' => "<Quotes><Quote><Symbol>$s</></></> IN quotes, $s >= 1, $s < 10",
         b'E' => "<Quotes><Quote><Symbol>$s</></></> IN quotes, $s = INTC, $s = MSFT",
         b'J' => {
-            "<Quotes><Quote><Symbol>INTC</></></> IN quotes, <Companies><Company><Symbol>$s</></></> IN companies"
+            "<Quotes><Quote><Symbol>INTC</></></> IN quotes, \
+             <Companies><Company><Symbol>$s</></></> IN companies"
         }
         b'S' => { "<Quotes><Quote><Symbol>INTC</></><Quote><Symbol>INTC</></></> IN quotes" }
         b'C' => "<Companies><Company><Symbol>$s</></></> IN companies",
@@ -146,7 +147,8 @@ fn signature_of(letter: u8) -> &'static str {
         b'E' => "eq(eq(scan(quotes,Quote(Symbol=)),0,\"INTC\"),0)\n",
         b'W' => "eq(scan(quotes,Quote(Symbol=)),0)\n",
         b'S' => {
-            "join(eq(scan(quotes,Quote(Symbol=)),0,\"INTC\"),eq(scan(quotes,Quote(Symbol=)),0,\"INTC\"),)\n"
+            "join(eq(scan(quotes,Quote(Symbol=)),0,\"INTC\"),eq(scan(quotes,Quote(Symbol=)),0,\"INT\
+             C\"),)\n"
         }
         b'J' => {
             "join(eq(scan(quotes,Quote(Symbol=)),0,\"INTC\"),scan(companies,Company(Symbol=)),)\n"
@@ -233,7 +235,7 @@ fn files_stand_while_a_query_needs_them(rt: HostRuntime) -> Result<(), Fail> {
             room: 65536,
             ..in_pieces(64)
         };
-        expect_end(&rt, alloc, &script, outside, Status::Done, &want, "")?;
+        expect_end(&rt, &rt, &script, outside, Status::Done, &want, "")?;
     }
     Ok(())
 }
@@ -251,7 +253,8 @@ const HIGH: &str =
     "create high WHERE <Es><E id=$i v=$v/></> IN s, $v > 2, $v < 20 CONSTRUCT $i DO print\n.\n";
 
 const SAME: &str =
-    "create same WHERE <Es><E id=$a v=$v/><E id=$b v=$v/></> IN s, $a != $b CONSTRUCT <p>$a $b</> DO print\n.\n";
+    "create same WHERE <Es><E id=$a v=$v/><E id=$b v=$v/></> IN s, $a != $b CONSTRUCT <p>$a $b</> \
+     DO print\n.\n";
 
 /// They come and go between changes, and each is told what it takes while it is there.
 const READERS: &[Parts<'_>] = &[(
@@ -264,7 +267,8 @@ const READERS: &[Parts<'_>] = &[(
         "delta s\n(E\nAid a\nAv 1\n)E\n(E\nAid b\nAv ab\n)E\n.\n",
         // A second constant comes over live data.
         TEXT,
-        "delta s\n(E\nAid c\nAv 1.0\n)E\n!b\n(E\nAid d\nAv 3\n)E\n(E\nAid e\nAv 10.000001\n)E\n(E\nAid f\nAv -2\n)E\n.\n",
+        "delta s\n(E\nAid c\nAv 1.0\n)E\n!b\n(E\nAid d\nAv 3\n)E\n(E\nAid e\nAv 10.000001\n)E\n(E\n\
+         Aid f\nAv -2\n)E\n.\n",
         // One constant and one interval go.
         "delete one\ndelete low\n",
         "delta s\n(E\nAid a\nAv 3\n)E\n!c\n(E\nAid g\nAv 5\n)E\n.\n",
@@ -309,5 +313,5 @@ const READERS: &[Parts<'_>] = &[(
 
 #[test]
 fn readers_of_one_file_are_told_what_they_take(rt: HostRuntime) -> Result<(), Fail> {
-    expect_parts(&rt, rt.alloc(), READERS)
+    expect_parts(&rt, &rt, READERS)
 }

@@ -1,8 +1,8 @@
 //! Joins whose two sides are elements of one source, so that one change has rows of both, worked
 //! out by hand.
 //!
-//! An element is on the left or on the right by its tag, and has a key `k` and a letter `n`. What is
-//! told names the two letters: `+2ab;` is the gain of two rows of `a` with `b`.
+//! An element is on the left or on the right by its tag, and has a key `k` and a letter `n`. What
+//! is told names the two letters: `+2ab;` is the gain of two rows of `a` with `b`.
 
 use super::{expect_output, joined, push_notice};
 use std::alloc::AllocError;
@@ -37,8 +37,8 @@ const RE: &str = "(R\nAid Re\nAk +02.00\nAn e\n)R\n";
 
 const RF: &str = "(R\nAid Rf\nAk x \nAn f\n)R\n";
 
-/// Joins that compare nothing, the key, and both the key and the letter; and one whose sides are the
-/// same.
+/// Joins that compare nothing, the key, and both the key and the letter; and one whose sides are
+/// the same.
 const NO_PAIRS: &str =
     "create j WHERE <S><L k=$k n=$a/><R k=$l n=$b/></> IN s CONSTRUCT <p>$a $b</> DO print\n.\n";
 
@@ -154,7 +154,7 @@ fn a_join_is_told_what_both_sides_make(rt: HostRuntime) -> Result<(), Fail> {
         push_notice(b"notice j 0\n", before, &mut want)?;
         want.extend_from_slice(b"4 ok\n")?;
         push_notice(b"notice j 0\n", change, &mut want)?;
-        expect_output(&rt, alloc, &script, &want, "")?;
+        expect_output(&rt, &rt, &script, &want, "")?;
     }
     Ok(())
 }
@@ -172,7 +172,7 @@ fn a_join_over_one_change_is_told_the_next(rt: HostRuntime) -> Result<(), Fail> 
         push_notice(b"notice j 0\n", before, &mut want)?;
         want.extend_from_slice(b"4 ok\n")?;
         push_notice(b"notice j 0\n", change, &mut want)?;
-        expect_output(&rt, alloc, &script, &want, "")?;
+        expect_output(&rt, &rt, &script, &want, "")?;
     }
     Ok(())
 }
@@ -188,7 +188,7 @@ fn a_join_behind_two_changes_tells_all(rt: HostRuntime) -> Result<(), Fail> {
         script.extend_from_slice(join.as_bytes())?;
         let mut want = joined(alloc, &["1 ok\n2 ok\n3 ok\n4 ok\n"])?;
         push_notice(b"notice j 0\n", after, &mut want)?;
-        expect_output(&rt, alloc, &script, &want, "")?;
+        expect_output(&rt, &rt, &script, &want, "")?;
     }
     Ok(())
 }

@@ -9,7 +9,8 @@ use std::test::Fail;
 /// What stands in front of a place and behind it.
 type Place<'a> = (&'a str, &'a str);
 
-/// The whole statement; here stands `create w WHERE <Quotes><a><b>c</></> ELEMENT_AS $g</> IN "quotes" CONSTRUCT $g DO print`.
+/// The whole statement; here stands `create w WHERE <Quotes><a><b>c</></> ELEMENT_AS $g</> IN
+/// "quotes" CONSTRUCT $g DO print`.
 const WHOLE: Place<'_> = ("", "");
 
 /// The name; here stands `w`.
@@ -60,15 +61,16 @@ const ACTION: Place<'_> = (
 /// Each statement with such a piece in this place, behind the declared source, is answered so.
 fn expect_answer(
     rt: &impl Abort,
-    alloc: Global,
+    host: &HostRuntime,
     answer: &str,
     place: Place<'_>,
     pieces: &[&str],
 ) -> Result<(), Fail> {
+    let alloc = host.alloc();
     let want = joined(alloc, &["1 ok\n2 ", answer, "\n"])?;
     for piece in pieces {
         let script = joined(alloc, &[SOURCE, place.0, *piece, place.1, "\n.\n"])?;
-        expect_output(rt, alloc, &script, &want, piece)?;
+        expect_output(rt, host, &script, &want, piece)?;
     }
     Ok(())
 }
@@ -77,8 +79,10 @@ fn expect_answer(
 const SPELLED: &[&str] = &[
     "CREATE w where <Quotes><a><b>c</></> element_as $g</> in \"quotes\" construct $g do PRINT",
     "Create w Where <Quotes><a><b>c</></> Element_As $g</> In \"quotes\" Construct $g Do Print",
-    " create\tw\rWHERE <Quotes ><a\t><b\r>c</ b></\na > ELEMENT_AS  $g</> IN \"quotes\" CONSTRUCT $g DO print ",
-    "create\n\nw\nWHERE\n<Quotes\n><a>\n<b>\nc\n</></>\nELEMENT_AS\n$g</>\r\nIN\n\"quotes\"\nCONSTRUCT\n$g\nDO\nprint\n",
+    " create\tw\rWHERE <Quotes ><a\t><b\r>c</ b></\n\
+     a > ELEMENT_AS  $g</> IN \"quotes\" CONSTRUCT $g DO print ",
+    "create\n\nw\nWHERE\n<Quotes\n><a>\n<b>\nc\n</></>\nELEMENT_AS\n$g</>\r\nIN\n\"quotes\"\n\
+     CONSTRUCT\n$g\nDO\nprint\n",
     "create w WHERE<Quotes><a><b>c</></>ELEMENT_AS$g</>IN\"quotes\"CONSTRUCT$g DO print",
     // A variable has any name, the same in both places.
     "create w WHERE <Quotes><a><b>c</></> ELEMENT_AS $_9</> IN \"quotes\" CONSTRUCT $_9 DO print",
@@ -94,7 +98,8 @@ const MATCHES: &[&str] = &[
     "<Quotes><é><_>c</></é> ELEMENT_AS $g</>",
 ];
 
-/// A literal is a quoted text or a run of words; a word has any bytes but blanks and `<`, `>`, `=`, `"`, `$`, `,`.
+/// A literal is a quoted text or a run of words; a word has any bytes but blanks and `<`, `>`, `=`,
+/// `"`, `$`, `,`.
 const LITERALS: &[&str] = &[
     "c",
     " c\n  d ",
@@ -133,23 +138,24 @@ const ACTIONS: &[&str] = &[
 
 #[test]
 fn a_statement_has_many_spellings(rt: HostRuntime) -> Result<(), Fail> {
-    let alloc = rt.alloc();
-    expect_answer(&rt, alloc, "ok", WHOLE, SPELLED)?;
-    expect_answer(&rt, alloc, "ok", NAME, NAMES)?;
-    expect_answer(&rt, alloc, "ok", MATCH, MATCHES)?;
-    expect_answer(&rt, alloc, "ok", TEXT, LITERALS)?;
-    expect_answer(&rt, alloc, "ok", SOURCE_NAME, SOURCES)?;
-    expect_answer(&rt, alloc, "ok", ACTION, ACTIONS)
+    expect_answer(&rt, &rt, "ok", WHOLE, SPELLED)?;
+    expect_answer(&rt, &rt, "ok", NAME, NAMES)?;
+    expect_answer(&rt, &rt, "ok", MATCH, MATCHES)?;
+    expect_answer(&rt, &rt, "ok", TEXT, LITERALS)?;
+    expect_answer(&rt, &rt, "ok", SOURCE_NAME, SOURCES)?;
+    expect_answer(&rt, &rt, "ok", ACTION, ACTIONS)
 }
 
 /// Statements of one meaning: each is told the put of its quote.
 const INSTALLED: &[(&str, &str)] = &[
     (
-        "CREATE w where\n  <Quotes><Quote><Symbol>\"INTC\"</Symbol></Quote> element_as $any</Quotes> in quotes, CONSTRUCT $any DO Print EVERY 0\n.\n",
+        "CREATE w where\n  <Quotes><Quote><Symbol>\"INTC\"</Symbol></Quote> element_as \
+         $any</Quotes> in quotes, CONSTRUCT $any DO Print EVERY 0\n.\n",
         "2 ok\n",
     ),
     (
-        "create w WHERE<Quotes><Quote><Price>95.50</></>ELEMENT_AS$g</>IN\"quotes\"CONSTRUCT$g DO print\n.\n",
+        "create w WHERE<Quotes><Quote><Price>95.50</></>ELEMENT_AS$g</>IN\"quotes\"CONSTRUCT$g DO \
+         print\n.\n",
         "2 ok\n",
     ),
 ];
@@ -160,7 +166,7 @@ fn a_spelling_changes_no_answer(rt: HostRuntime) -> Result<(), Fail> {
     for (statement, answer) in INSTALLED {
         let script = joined(alloc, &[SOURCE, *statement, PUT_95])?;
         let want = joined(alloc, &["1 ok\n", *answer, "3 ok\n", TOLD_95])?;
-        expect_output(&rt, alloc, &script, &want, statement)?;
+        expect_output(&rt, &rt, &script, &want, statement)?;
     }
     Ok(())
 }
@@ -174,7 +180,8 @@ const CUT: &[&str] = &[
     "create w <Quotes><a><b>c</></> ELEMENT_AS $g</> IN \"quotes\" CONSTRUCT $g DO print",
     "create w WHERES <Quotes><a><b>c</></> ELEMENT_AS $g</> IN \"quotes\" CONSTRUCT $g DO print",
     "create w WHERE <Quotes><a><b>c</></> ELEMENT_AS $g</> \"quotes\" CONSTRUCT $g DO print",
-    "create v WHERE <Quotes><a/></> IN q CONSTRUCT $g DO print\ncreate w WHERE <Quotes><a/></> IN q CONSTRUCT $g DO print",
+    "create v WHERE <Quotes><a/></> IN q CONSTRUCT $g DO print\n\
+     create w WHERE <Quotes><a/></> IN q CONSTRUCT $g DO print",
 ];
 
 const NO_NAMES: &[&str] = &["", "w w", "1w", "w.1", "-w", "$w", "\"w\""];
@@ -196,7 +203,8 @@ const NO_MATCHES: &[&str] = &[
     ", <Quotes><a/></>",
 ];
 
-/// An attribute has a value in marks or a variable, and its name stands once. One suffix at most, with a variable.
+/// An attribute has a value in marks or a variable, and its name stands once. One suffix at most,
+/// with a variable.
 const NO_PATTERNS: &[&str] = &[
     "<-a/>",
     "<:a/>",
@@ -292,19 +300,19 @@ const NO_ACTIONS: &[&str] = &[
 
 #[test]
 fn a_text_that_is_no_statement_is_refused(rt: HostRuntime) -> Result<(), Fail> {
-    let alloc = rt.alloc();
     let answer = "refused 10 query";
-    expect_answer(&rt, alloc, answer, WHOLE, CUT)?;
-    expect_answer(&rt, alloc, answer, NAME, NO_NAMES)?;
-    expect_answer(&rt, alloc, answer, MATCH, NO_MATCHES)?;
-    expect_answer(&rt, alloc, answer, PATTERN, NO_PATTERNS)?;
-    expect_answer(&rt, alloc, answer, TEXT, NO_CONTENTS)?;
-    expect_answer(&rt, alloc, answer, SOURCE_NAME, NO_SOURCES)?;
-    expect_answer(&rt, alloc, answer, TEMPLATE, NO_TEMPLATES)?;
-    expect_answer(&rt, alloc, answer, ACTION, NO_ACTIONS)
+    expect_answer(&rt, &rt, answer, WHOLE, CUT)?;
+    expect_answer(&rt, &rt, answer, NAME, NO_NAMES)?;
+    expect_answer(&rt, &rt, answer, MATCH, NO_MATCHES)?;
+    expect_answer(&rt, &rt, answer, PATTERN, NO_PATTERNS)?;
+    expect_answer(&rt, &rt, answer, TEXT, NO_CONTENTS)?;
+    expect_answer(&rt, &rt, answer, SOURCE_NAME, NO_SOURCES)?;
+    expect_answer(&rt, &rt, answer, TEMPLATE, NO_TEMPLATES)?;
+    expect_answer(&rt, &rt, answer, ACTION, NO_ACTIONS)
 }
 
-/// Any number of patterns, with attributes, texts, parts and suffixes. An end closes the tag or stands in it.
+/// Any number of patterns, with attributes, texts, parts and suffixes. An end closes the tag or
+/// stands in it.
 const PATTERNS: &[&str] = &[
     "<a><b>c</></> ELEMENT_AS $g <a/>",
     "<a/> <a><b>c</></> ELEMENT_AS $g",
@@ -358,12 +366,11 @@ const OTHER_ACTIONS: &[&str] = &[
 
 #[test]
 fn a_statement_has_many_forms(rt: HostRuntime) -> Result<(), Fail> {
-    let alloc = rt.alloc();
-    expect_answer(&rt, alloc, "ok", PATTERN, PATTERNS)?;
-    expect_answer(&rt, alloc, "ok", PART, PARTS)?;
-    expect_answer(&rt, alloc, "ok", SOURCE_NAME, ITEMS)?;
-    expect_answer(&rt, alloc, "ok", TEMPLATE, TEMPLATES)?;
-    expect_answer(&rt, alloc, "ok", ACTION, OTHER_ACTIONS)
+    expect_answer(&rt, &rt, "ok", PATTERN, PATTERNS)?;
+    expect_answer(&rt, &rt, "ok", PART, PARTS)?;
+    expect_answer(&rt, &rt, "ok", SOURCE_NAME, ITEMS)?;
+    expect_answer(&rt, &rt, "ok", TEMPLATE, TEMPLATES)?;
+    expect_answer(&rt, &rt, "ok", ACTION, OTHER_ACTIONS)
 }
 
 /// Patterns without the variable of the template. Variables are compared byte by byte.
@@ -384,11 +391,10 @@ const UNBOUND_TEMPLATES: &[&str] = &[
 
 #[test]
 fn a_used_variable_is_in_a_pattern(rt: HostRuntime) -> Result<(), Fail> {
-    let alloc = rt.alloc();
     let answer = "refused 11 unbound";
-    expect_answer(&rt, alloc, answer, PATTERN, UNBOUND_PATTERNS)?;
-    expect_answer(&rt, alloc, answer, SOURCE_NAME, UNBOUND_ITEMS)?;
-    expect_answer(&rt, alloc, answer, TEMPLATE, UNBOUND_TEMPLATES)
+    expect_answer(&rt, &rt, answer, PATTERN, UNBOUND_PATTERNS)?;
+    expect_answer(&rt, &rt, answer, SOURCE_NAME, UNBOUND_ITEMS)?;
+    expect_answer(&rt, &rt, answer, TEMPLATE, UNBOUND_TEMPLATES)
 }
 
 /// An action that is not there, an argument too much, and one too few. A dot with a blank ends no
@@ -416,9 +422,8 @@ const NO_TIMES: &[&str] = &[
 
 #[test]
 fn a_statement_has_an_action_and_times(rt: HostRuntime) -> Result<(), Fail> {
-    let alloc = rt.alloc();
-    expect_answer(&rt, alloc, "refused 13 action", ACTION, NO_HANDLERS)?;
-    expect_answer(&rt, alloc, "refused 14 times", ACTION, NO_TIMES)
+    expect_answer(&rt, &rt, "refused 13 action", ACTION, NO_HANDLERS)?;
+    expect_answer(&rt, &rt, "refused 14 times", ACTION, NO_TIMES)
 }
 
 /// The name of a source is the text without its marks, byte by byte.
@@ -453,16 +458,9 @@ const BOTH: &[&str] = &[
 
 #[test]
 fn a_statement_names_a_source_and_its_root(rt: HostRuntime) -> Result<(), Fail> {
-    let alloc = rt.alloc();
-    expect_answer(
-        &rt,
-        alloc,
-        "refused 4 no-source",
-        SOURCE_NAME,
-        OTHER_SOURCES,
-    )?;
-    expect_answer(&rt, alloc, "refused 4 no-source", WHOLE, BOTH)?;
-    expect_answer(&rt, alloc, "refused 12 root", MATCH, OTHER_ROOTS)
+    expect_answer(&rt, &rt, "refused 4 no-source", SOURCE_NAME, OTHER_SOURCES)?;
+    expect_answer(&rt, &rt, "refused 4 no-source", WHOLE, BOTH)?;
+    expect_answer(&rt, &rt, "refused 12 root", MATCH, OTHER_ROOTS)
 }
 
 /// Where the lines of a statement begin and end.
@@ -489,5 +487,5 @@ const BLOCKS: &[(&str, &str)] = &[
 
 #[test]
 fn a_statement_ends_with_a_dot(rt: HostRuntime) -> Result<(), Fail> {
-    expect_each(&rt, rt.alloc(), (SOURCE, "1 ok\n"), BLOCKS)
+    expect_each(&rt, &rt, (SOURCE, "1 ok\n"), BLOCKS)
 }

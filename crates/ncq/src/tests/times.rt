@@ -7,7 +7,8 @@ use std::test::Fail;
 
 /// The query of `WATCH` up to its times, and the end of its block.
 const TIMED: &str =
-    "create w WHERE <Quotes><Quote><Symbol>INTC</></> ELEMENT_AS $g</> IN \"quotes\" CONSTRUCT $g DO print ";
+    "create w WHERE <Quotes><Quote><Symbol>INTC</></> ELEMENT_AS $g</> IN \"quotes\" CONSTRUCT $g \
+     DO print ";
 
 const DOT: &str = "\n.\n";
 
@@ -28,7 +29,8 @@ const GAIN_95: &str =
 const GAIN_96: &str = "gain 1\n(Quote\n(Symbol\n-INTC\n)Symbol\n(Price\n-96\n)Price\n)Quote\nend\n";
 
 const FROM_95_TO_96: &str =
-    "lose 1\n(Quote\n(Symbol\n-INTC\n)Symbol\n(Price\n-95.5\n)Price\n)Quote\ngain 1\n(Quote\n(Symbol\n-INTC\n)Symbol\n(Price\n-96\n)Price\n)Quote\nend\n";
+    "lose 1\n(Quote\n(Symbol\n-INTC\n)Symbol\n(Price\n-95.5\n)Price\n)Quote\ngain 1\n(Quote\n\
+     (Symbol\n-INTC\n)Symbol\n(Price\n-96\n)Price\n)Quote\nend\n";
 
 /// "The start is the written one or now, whichever is later."
 const STARTS: &[Parts<'_>] = &[
@@ -167,18 +169,20 @@ const TIMERS: &[Parts<'_>] = &[
         &[
             "1 ok\n2 ok\n3 ok\nnotice w 0\n",
             GAIN_95,
-            "4 ok\n5 ok\nnotice w 10\nlose 1\n(Quote\n(Symbol\n-INTC\n)Symbol\n(Price\n-95.5\n)Price\n)Quote\nend\n",
+            "4 ok\n5 ok\nnotice w 10\nlose 1\n(Quote\n(Symbol\n-INTC\n)Symbol\n(Price\n-95.5\n\
+             )Price\n)Quote\nend\n",
         ],
     ),
 ];
 
 #[test]
 fn a_subscription_fires_at_its_instants(rt: HostRuntime) -> Result<(), Fail> {
-    expect_parts(&rt, rt.alloc(), STARTS)?;
-    expect_parts(&rt, rt.alloc(), TIMERS)
+    expect_parts(&rt, &rt, STARTS)?;
+    expect_parts(&rt, &rt, TIMERS)
 }
 
-/// "Every subscription whose expiry is below the instant is deleted", behind the notices of the move.
+/// "Every subscription whose expiry is below the instant is deleted", behind the notices of the
+/// move.
 const EXPIRIES: &[Parts<'_>] = &[
     (
         &[
@@ -214,7 +218,8 @@ const EXPIRIES: &[Parts<'_>] = &[
         ],
         &["1 ok\n2 ok\n3 refused 14 times\n4 ok\n"],
     ),
-    // At its expiry a subscription is live. Its name is free behind it, and its old answers are told anew.
+    // At its expiry a subscription is live. Its name is free behind it, and its old answers are
+    // told anew.
     (
         &[
             SOURCE,
@@ -268,7 +273,8 @@ const DELETES: &[Parts<'_>] = &[
             TOLD_95,
             "4 ok\n5 ok\n6 ok\nnotice w 0\n",
             GAIN_96,
-            "7 ok\nnotice w 0\nlose 1\n(Quote\n(Symbol\n-INTC\n)Symbol\n(Price\n-96\n)Price\n)Quote\nend\n",
+            "7 ok\nnotice w 0\nlose 1\n(Quote\n(Symbol\n-INTC\n)Symbol\n(Price\n-96\n)Price\n\
+             )Quote\nend\n",
         ],
     ),
     (
@@ -302,7 +308,8 @@ const DELETES: &[Parts<'_>] = &[
             TOLD_95,
             "5 ok\n6 ok\n",
             TOLD_96,
-            "7 ok\nnotice w 0\nlose 1\n(Quote\n(Symbol\n-INTC\n)Symbol\n(Price\n-96\n)Price\n)Quote\nend\n",
+            "7 ok\nnotice w 0\nlose 1\n(Quote\n(Symbol\n-INTC\n)Symbol\n(Price\n-96\n)Price\n\
+             )Quote\nend\n",
         ],
     ),
     (
@@ -313,8 +320,8 @@ const DELETES: &[Parts<'_>] = &[
 
 #[test]
 fn a_subscription_is_live_up_to_its_end(rt: HostRuntime) -> Result<(), Fail> {
-    expect_parts(&rt, rt.alloc(), EXPIRIES)?;
-    expect_parts(&rt, rt.alloc(), DELETES)
+    expect_parts(&rt, &rt, EXPIRIES)?;
+    expect_parts(&rt, &rt, DELETES)
 }
 
 /// "The notices of one command stand by instant, then by install number."
@@ -376,5 +383,5 @@ const ORDERS: &[Parts<'_>] = &[
 
 #[test]
 fn notices_stand_by_instant_and_create(rt: HostRuntime) -> Result<(), Fail> {
-    expect_parts(&rt, rt.alloc(), ORDERS)
+    expect_parts(&rt, &rt, ORDERS)
 }

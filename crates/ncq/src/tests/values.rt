@@ -84,13 +84,14 @@ const UNMET: &[(&str, &str)] = &[
 /// Behind the query with this literal the put of this text is answered so.
 fn expect_put(
     rt: &impl Abort,
-    alloc: Global,
+    host: &HostRuntime,
     literal: &str,
     text: &str,
     want: &[u8],
 ) -> Result<(), Fail> {
+    let alloc = host.alloc();
     let script = joined(alloc, &[SOURCE, CREATE, literal, AS_PRINT, PUT, text, DOT])?;
-    expect_output(rt, alloc, &script, want, text)
+    expect_output(rt, host, &script, want, text)
 }
 
 #[test]
@@ -98,7 +99,7 @@ fn a_literal_meets_the_texts_of_its_value(rt: HostRuntime) -> Result<(), Fail> {
     let alloc = rt.alloc();
     for (literal, text) in MET {
         let want = joined(alloc, &[GAIN, *text, END])?;
-        expect_put(&rt, alloc, literal, text, &want)?;
+        expect_put(&rt, &rt, literal, text, &want)?;
     }
     Ok(())
 }
@@ -106,7 +107,7 @@ fn a_literal_meets_the_texts_of_its_value(rt: HostRuntime) -> Result<(), Fail> {
 #[test]
 fn a_literal_meets_no_other_text(rt: HostRuntime) -> Result<(), Fail> {
     for (literal, text) in UNMET {
-        expect_put(&rt, rt.alloc(), literal, text, b"1 ok\n2 ok\n3 ok\n")?;
+        expect_put(&rt, &rt, literal, text, b"1 ok\n2 ok\n3 ok\n")?;
     }
     Ok(())
 }

@@ -9,7 +9,7 @@ loop-key-init c =
     let files = c.args.shelf.now in
     let made = c.into_iter-key-iterator.ensures.into_iter_gives in
     record {
-      right = subst (AreRight files) (sym made.0) (all_right files c.requires.grounded c.args.groups.now.counts.entries c.requires.counted made.4);
+      right = subst (AreRight files) (sym made.0) (all_right files c.requires.grounded c.args.counts.now.entries c.requires.counted made.4);
       left = λ i. c.new-lines.ensures.items i ++ map (line_of (exprs_of files)) (signatures_of files (made.0 i));
     }
 
@@ -32,7 +32,7 @@ pub returns : goal.returns
 returns c =
     let files = c.args.shelf.now in
     let made = c.into_iter-key-iterator.ensures.into_iter_gives in
-    let entries = c.args.groups.now.counts.entries in (
+    let entries = c.args.counts.now.entries in (
       signatures_of files entries,
       are_signatures files c.requires.grounded entries c.requires.counted made.4,
       lines_all files c.loop-key.key-iterator c.loop-key.lines.items _ c.in-None.ensures.steps.0 c.loop-key.invariant.left,

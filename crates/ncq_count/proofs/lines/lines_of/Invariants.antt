@@ -8,5 +8,5 @@ use Rattle.ncq_count.proofs.lines.lines_of.Given as goal
 abbrev pub invariant-loop-key : goal.invariant-loop-key
 invariant-loop-key l = record {
   right : AreRight l.shelf l.key-iterator;
-  left : l.lines.items ++ map (line_of (exprs_of l.shelf)) (signatures_of l.shelf l.key-iterator) ≡ map (line_of (exprs_of l.shelf)) (signatures_of l.shelf l.groups.counts.entries);
+  left : l.lines.items ++ map (line_of (exprs_of l.shelf)) (signatures_of l.shelf l.key-iterator) ≡ map (line_of (exprs_of l.shelf)) (signatures_of l.shelf l.counts.entries);
 }

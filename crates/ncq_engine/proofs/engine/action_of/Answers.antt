@@ -6,7 +6,7 @@ use Rattle.ncq_callback.specs.Labels.{labels}
 use Rattle.ncq_callback.specs.declared.notice.Kind.{Kind}
 use Rattle.ncq_engine.specs.Notices.{kind_in}
 use Rattle.ncq_engine.specs.Output.{is_at_odds}
-use Rattle.ncq_engine.proofs.Actions.{found_kind, kind_is, no_kind, odds_of_mail, odds_of_print, other_tests, same_tests}
+use Rattle.ncq_engine.proofs.Actions.{found_kind, found_name, kind_is, no_kind, odds_of_mail, odds_of_print, other_tests, same_tests}
 use Rattle.ncq_engine.proofs.engine.action_of.Goals as goal
 use Rattle.ncq_engine.proofs.engine.action_of.Goals.{in-Print, in-MailTo}
 
@@ -46,3 +46,11 @@ returns-else-is_some-wants-clause-none g c =
       | in-Print w ↦ odds_of_print c.kind.result c.args.statement.now.argument w.in-Print.is ∙ other ∙ ap not w.wants-is
       | in-MailTo w ↦ odds_of_mail c.kind.result c.args.statement.now.argument w.in-MailTo.is ∙ ap not (other ∙ ap not w.wants-is)
     ])
+
+pub returns-then-is_some-wants-clause-named : goal.returns-then-is_some-wants-clause-named
+returns-then-is_some-wants-clause-named g c =
+    let all = labels c.args.handlers.now.items.items (λ h. h.name) (λ h. h.kind) in
+    let at = c.in-Some.at in
+    let placed : position (λ label. bytes_eq c.as_slice.result.now label.0) all ≡ Some at = sym c.find.ensures ∙ c.in-Some.is in
+    let found = position-Some (λ label. bytes_eq c.as_slice.result.now label.0) all at ([], c.kind.result) placed in
+    found_name c.as_slice.result.now all at ([], c.kind.result) found.0 found.1 ∙ ap (λ (name : List ℕ). Some name) c.as_slice.ensures

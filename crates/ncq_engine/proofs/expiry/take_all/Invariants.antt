@@ -3,4 +3,4 @@ use Rattle.ncq_engine.specs.Tellings.{IsLeftBy}
 use Rattle.ncq_engine.proofs.expiry.take_all.Given as goal
 
 abbrev pub invariant-loop-install : goal.invariant-loop-install
-invariant-loop-install l = IsLeftBy (take l.install-index l.installs) l.initial.roll l.roll
+invariant-loop-install l = IsLeftBy (take l.install-index l.installs) l.initial.live_table l.live_table

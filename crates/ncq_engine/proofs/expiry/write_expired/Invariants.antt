@@ -5,4 +5,4 @@ use Rattle.ncq_engine.proofs.expiry.write_expired.Given as goal
 
 abbrev pub invariant-loop-install : goal.invariant-loop-install
 invariant-loop-install l = l.out.items
-    ≡ l.initial.out.items ++ flat_map (expired_of l.book.members) (take l.install-index l.installs)
+    ≡ l.initial.out.items ++ flat_map (expired_of l.book.subscriptions) (take l.install-index l.installs)

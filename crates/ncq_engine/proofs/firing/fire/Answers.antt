@@ -2,7 +2,7 @@ use Rattle.std.proofs.Common.{◌≡◌, ◌∙◌, length, refl, rules, sym}
 use Rattle.std.specs.Prelude.{◌==◌}
 use Rattle.ncq_news.specs.News.{entries_of}
 use Rattle.ncq_engine.specs.Engines.{news_of}
-use Rattle.ncq_engine.proofs.MemberLaws.{span_none, span_some, text_none, text_some}
+use Rattle.ncq_engine.proofs.KeptLaws.{span_none, span_some, text_none, text_some}
 use Rattle.ncq_engine.proofs.firing.fire.Goals as goal
 
 pub news_for-requires-clause-can : goal.news_for-requires-clause-can
@@ -11,7 +11,7 @@ news_for-requires-clause-can g c = (_, c.requires.can)
 pub returns-then-is_empty : goal.returns-then-is_empty
 returns-then-is_empty g c =
     let can = c.requires.can in
-    let m = c.args.member.now in
+    let m = c.args.subscription.now in
     let are : c.in_ok-told.told.entries ≡ entries_of m.query (news_of c.args.store.now c.args.groups.now.files m) = c.in_ok-told.ensures.entries in
     let count = (λ i. length (sym c.as_slice.ensures i) == 0) ∙ sym c.is_empty.ensures in
     record {
@@ -23,16 +23,16 @@ returns-then-is_empty g c =
 pub returns : goal.returns
 returns g c =
     let can = c.requires.can in
-    let m = c.args.member.now in
+    let m = c.args.subscription.now in
     let are : c.in_ok-told.told.entries ≡ entries_of m.query (news_of c.args.store.now c.args.groups.now.files m) = c.in_ok-told.ensures.entries in
     let count = (λ i. length (sym c.as_slice.ensures i) == 0) ∙ sym c.is_empty.ensures in
     let written = text_some _ c.args.store.now c.args.groups.now.files m can.action c.args.instant c.in_ok-told.told.entries are
-    c.as_slice-2.result.now c.in_ok-copy.field-0 c.args.out.now.items c.call.new.out.items (count ∙ c.if-is_empty.false) c.as_slice-2.ensures c.in_ok-copy.ensures c.in_ok-call.ensures.ok in
+    c.as_slice-argument.result.now c.in_ok-copy.field-0 c.args.out.now.items c.call.new.out.items (count ∙ c.if-is_empty.false) c.as_slice-argument.ensures c.in_ok-copy.ensures c.in_ok-call.ensures.ok in
     let begins : c.len-from.result ≡ length c.args.out.now.items = search rules in
-    let ends : c.len.result ≡ length c.call.new.out.items = search rules in
+    let ends : c.len-to.result ≡ length c.call.new.out.items = search rules in
     record {
       text = written;
-      span = span_some _ c.args.store.now c.args.groups.now.files m can.action c.args.instant c.in_ok-told.told.entries are c.in_ok-copy.field-0 c.args.out.now.items c.call.new.out.items c.len-from.result c.len.result
+      span = span_some _ c.args.store.now c.args.groups.now.files m can.action c.args.instant c.in_ok-told.told.entries are c.in_ok-copy.field-0 c.args.out.now.items c.call.new.out.items c.len-from.result c.len-to.result
           c.args.spans.now c.push.new.self (count ∙ c.if-is_empty.false) c.in_ok-copy.ensures begins ends written c.in_ok-push.ensures.ok;
       latest = c.in_ok-told.ensures.latest;
     }

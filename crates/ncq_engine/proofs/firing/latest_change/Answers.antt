@@ -1,7 +1,7 @@
 use Rattle.std.proofs.Common.{◌≡◌, ◌∙◌, ◌+◌, arith, take, sym, ap, max, [], ◌∷◌, ◌++◌, ℕ, List}
 use Rattle.std.proofs.lemmas.List.{take_more}
 use Rattle.ncq_engine.specs.Engines.{last_in, latest_in}
-use Rattle.ncq_engine.proofs.MemberLaws.{latest_push}
+use Rattle.ncq_engine.proofs.KeptLaws.{latest_push}
 use Rattle.ncq_engine.proofs.firing.latest_change.Goals as goal
 use Rattle.ncq_engine.proofs.firing.latest_change.Goals.{then-last-latest, else-last-latest}
 

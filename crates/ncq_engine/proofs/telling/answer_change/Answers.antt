@@ -10,16 +10,16 @@ use Rattle.ncq_engine.proofs.telling.answer_change.Goals as goal
 
 pub returns : goal.returns
 returns g c =
-    let roll = c.args.roll.now in
-    let slice : c.as_slice.result.now ≡ watchers_of c.args.fed.now roll.members = c.as_slice.ensures ∙ c.in_ok-watchers.ensures ∙ ap (λ (b : BookState). watchers_of c.args.fed.now b.members) c.book.ensures in
-    let text : Firing → List ℕ = firing_text (labels c.args.handlers.now.items.items (λ h. h.name) (λ h. h.kind)) c.args.store.now roll.table.files roll.members in
-    let starts : ℕ → List Firing = started_at roll.instant roll.members in
+    let live_table = c.args.live_table.now in
+    let slice : c.as_slice.result.now ≡ watchers_of c.args.fed.now live_table.subscriptions = c.as_slice.ensures ∙ c.in_ok-watchers.ensures ∙ ap (λ (b : BookState). watchers_of c.args.fed.now b.subscriptions) c.book.ensures in
+    let text : Firing → List ℕ = firing_text (labels c.args.handlers.now.items.items (λ h. h.name) (λ h. h.kind)) c.args.store.now live_table.table.files live_table.subscriptions in
+    let starts : ℕ → List Firing = started_at live_table.instant live_table.subscriptions in
     record {
       told = record {
         written = c.in_ok-spans.ensures.text ∙ (λ i. c.in_ok-answered.ensures.text i ++ flat_map text (flat_map starts (slice i)));
         from = ap (λ (a : Answered). a.from) c.with.ensures ∙ ap (λ (a : Answered). a.from) c.in_ok-answered.ensures.places ∙ ap length c.in_ok-answered.ensures.text;
         to = ap (λ (a : Answered). a.to) c.with.ensures;
         spans = ap (λ (a : Answered). a.spans) c.with.ensures ∙ c.in_ok-spans.ensures.spans
-            ∙ (λ i. spans_of (firing_name roll.members) text (length (c.in_ok-answered.ensures.text i)) (flat_map starts (slice i)));
+            ∙ (λ i. spans_of (firing_name live_table.subscriptions) text (length (c.in_ok-answered.ensures.text i)) (flat_map starts (slice i)));
       };
     }

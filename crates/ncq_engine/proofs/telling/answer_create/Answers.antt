@@ -1,7 +1,7 @@
 use Rattle.std.proofs.Common.{◌≡◌, ◌∙◌, ◌++◌, ◌∷◌, [], List, ℕ, length, ap, subst, sym}
 use Rattle.std.specs.Prelude.{IsSome}
 use Rattle.std.specs.List.{flat_map, AllByRecursion}
-use Rattle.ncq_book.specs.Books.{member_of}
+use Rattle.ncq_book.specs.Books.{subscription_of}
 use Rattle.ncq_callback.specs.Labels.{labels}
 use Rattle.ncq_event.specs.declared.firing.Firing.{Firing}
 use Rattle.ncq_engine.specs.declared.telling.Answered.{Answered}
@@ -12,30 +12,30 @@ use Rattle.ncq_engine.proofs.telling.answer_create.Goals as goal
 
 pub tell-requires-clause-there : goal.tell-requires-clause-there
 tell-requires-clause-there g c =
-    let roll = c.args.roll.now in
-    let own : c.in_ok-firings.firings ≡ flat_map (started_at roll.instant roll.members) (c.args.install ∷ []) =
-    c.in_ok-firings.ensures ∙ (λ i. flat_map (started_at (c.book.ensures i).instant (c.book.ensures i).members) (c.args.install ∷ [])) in
+    let live_table = c.args.live_table.now in
+    let own : c.in_ok-firings.firings ≡ flat_map (started_at live_table.instant live_table.subscriptions) (c.args.install ∷ []) =
+    c.in_ok-firings.ensures ∙ (λ i. flat_map (started_at (c.book.ensures i).instant (c.book.ensures i).subscriptions) (c.args.install ∷ [])) in
     let firings : c.as_slice.result.now ≡ c.in_ok-firings.firings = c.as_slice.ensures in
-    subst (λ (fs : List Firing). AllByRecursion (λ (f : Firing). IsSome (member_of f.install roll.members)) fs) (sym (firings ∙ own)) (started_there roll.instant roll.members (c.args.install ∷ []))
+    subst (λ (fs : List Firing). AllByRecursion (λ (f : Firing). IsSome (subscription_of f.install live_table.subscriptions)) fs) (sym (firings ∙ own)) (started_there live_table.instant live_table.subscriptions (c.args.install ∷ []))
 
 pub returns-clause-told : goal.returns-clause-told
 returns-clause-told g c =
-    let roll = c.args.roll.now in
-    let own : c.in_ok-firings.firings ≡ flat_map (started_at roll.instant roll.members) (c.args.install ∷ []) =
-    c.in_ok-firings.ensures ∙ (λ i. flat_map (started_at (c.book.ensures i).instant (c.book.ensures i).members) (c.args.install ∷ [])) in
+    let live_table = c.args.live_table.now in
+    let own : c.in_ok-firings.firings ≡ flat_map (started_at live_table.instant live_table.subscriptions) (c.args.install ∷ []) =
+    c.in_ok-firings.ensures ∙ (λ i. flat_map (started_at (c.book.ensures i).instant (c.book.ensures i).subscriptions) (c.args.install ∷ [])) in
     let firings : c.as_slice.result.now ≡ c.in_ok-firings.firings = c.as_slice.ensures in
-    let text : Firing → List ℕ = firing_text (labels c.args.handlers.now.items.items (λ h. h.name) (λ h. h.kind)) c.args.store.now roll.table.files roll.members in
+    let text : Firing → List ℕ = firing_text (labels c.args.handlers.now.items.items (λ h. h.name) (λ h. h.kind)) c.args.store.now live_table.table.files live_table.subscriptions in
     record {
       written = c.in_ok-spans.ensures.text ∙ (λ i. c.in_ok-answered.ensures.text i ++ flat_map text (firings i));
       from = ap (λ (a : Answered). a.from) c.with.ensures ∙ ap (λ (a : Answered). a.from) c.in_ok-answered.ensures.places ∙ ap length c.in_ok-answered.ensures.text;
       to = ap (λ (a : Answered). a.to) c.with.ensures;
       spans = ap (λ (a : Answered). a.spans) c.with.ensures ∙ c.in_ok-spans.ensures.spans
-          ∙ (λ i. spans_of (firing_name roll.members) text (length (c.in_ok-answered.ensures.text i)) (firings i));
+          ∙ (λ i. spans_of (firing_name live_table.subscriptions) text (length (c.in_ok-answered.ensures.text i)) (firings i));
     }
 
 pub returns-clause-firings : goal.returns-clause-firings
 returns-clause-firings g c =
-    let roll = c.args.roll.now in
-    let own : c.in_ok-firings.firings ≡ flat_map (started_at roll.instant roll.members) (c.args.install ∷ []) =
-    c.in_ok-firings.ensures ∙ (λ i. flat_map (started_at (c.book.ensures i).instant (c.book.ensures i).members) (c.args.install ∷ [])) in
+    let live_table = c.args.live_table.now in
+    let own : c.in_ok-firings.firings ≡ flat_map (started_at live_table.instant live_table.subscriptions) (c.args.install ∷ []) =
+    c.in_ok-firings.ensures ∙ (λ i. flat_map (started_at (c.book.ensures i).instant (c.book.ensures i).subscriptions) (c.args.install ∷ [])) in
     own

@@ -14,10 +14,10 @@ loop-firing-preserved c =
     let here : at < length firings = c.loop-firing-test.true in
     let left : drop at firings ≡ one ∷ drop (at + 1) firings = drop_more firings at (record { instant = 0; install = 0 }) here in
     record {
-      members = ap (noted_by number (drop (at + 1) firings)) c.note.ensures.members
-          ∙ noted_twice number one (drop (at + 1) firings) c.loop-firing.roll.members
-          ∙ ap (λ (fs : List Firing). noted_by number fs c.loop-firing.roll.members) (sym left)
-          ∙ c.loop-firing.invariant.members;
+      subscriptions = ap (noted_by number (drop (at + 1) firings)) c.note.ensures.subscriptions
+          ∙ noted_twice number one (drop (at + 1) firings) c.loop-firing.live_table.subscriptions
+          ∙ ap (λ (fs : List Firing). noted_by number fs c.loop-firing.live_table.subscriptions) (sym left)
+          ∙ c.loop-firing.invariant.subscriptions;
       table = c.note.ensures.table ∙ c.loop-firing.invariant.table;
       instant = c.note.ensures.instant ∙ c.loop-firing.invariant.instant;
     }
@@ -26,5 +26,5 @@ pub returns : goal.returns
 returns c =
     let past : length c.args.firings.now ≤ c.loop-firing.firing-index = omega (arith, c.loop-firing-test.false) in
     let inv = c.loop-firing.invariant in
-    let members = sym (noted_none c.args.number c.loop-firing.roll.members) ∙ ap (λ (fs : List Firing). noted_by c.args.number fs c.loop-firing.roll.members) (sym (drop_all c.loop-firing.firing-index c.args.firings.now past)) ∙ inv.members in
-    λ i. record { table = inv.table i; members = members i; instant = inv.instant i }
+    let subscriptions = sym (noted_none c.args.number c.loop-firing.live_table.subscriptions) ∙ ap (λ (fs : List Firing). noted_by c.args.number fs c.loop-firing.live_table.subscriptions) (sym (drop_all c.loop-firing.firing-index c.args.firings.now past)) ∙ inv.subscriptions in
+    λ i. record { table = inv.table i; subscriptions = subscriptions i; instant = inv.instant i }

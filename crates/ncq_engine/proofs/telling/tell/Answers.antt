@@ -2,13 +2,13 @@ use Rattle.std.proofs.Common.{◌≡◌, ◌++◌, ◌∷◌, [], List, ℕ, len
 use Rattle.std.specs.Prelude.{Some, IfSome, IsSome}
 use Rattle.std.specs.List.{flat_map}
 use Rattle.std.proofs.lemmas.List.{take_more, take_all}
-use Rattle.ncq_book.specs.declared.member.Member.{Member}
-use Rattle.ncq_book.specs.Books.{BookState, member_of}
+use Rattle.ncq_book.specs.declared.subscription.Subscription.{Subscription as Kept}
+use Rattle.ncq_book.specs.Books.{BookState, subscription_of}
 use Rattle.ncq_callback.specs.Labels.{Label, labels}
 use Rattle.ncq_event.specs.declared.firing.Firing.{Firing}
 use Rattle.ncq_group.specs.Tables.{TableState}
 use Rattle.ncq_shelf.specs.KeptFiles.{Files}
-use Rattle.ncq_engine.specs.Engines.{CanTell, told_text}
+use Rattle.ncq_engine.specs.Engines.{CanTell, notice_text}
 use Rattle.ncq_engine.specs.Spans.{span_of, spans_of}
 use Rattle.ncq_engine.specs.Tellings.{IsLatest, firing_name, firing_text}
 use Rattle.ncq_engine.proofs.TellingLoops.{each_here, found_has, name_found, not_missing, spans_on, text_found, text_on}
@@ -17,17 +17,17 @@ use Rattle.ncq_engine.proofs.telling.tell.Goals as goal
 pub unreachable-requires : goal.unreachable-requires
 unreachable-requires g c =
     let item : Firing = get_or c.args.firings.now c.loop-firing.firing-index (record { instant = 0; install = 0 }) in
-    not_missing c.get.result (member_of item.install c.args.roll.now.members) (c.get.ensures ∙ ap (λ (b : BookState). member_of item.install b.members) c.book.ensures) c.in_default.is
-    (each_here (λ (f : Firing). IsSome (member_of f.install c.args.roll.now.members)) c.args.firings.now c.loop-firing.firing-index (record { instant = 0; install = 0 }) c.loop-firing-test.true c.requires.there)
+    not_missing c.get.result (subscription_of item.install c.args.live_table.now.subscriptions) (c.get.ensures ∙ ap (λ (b : BookState). subscription_of item.install b.subscriptions) c.book.ensures) c.in_default.is
+    (each_here (λ (f : Firing). IsSome (subscription_of f.install c.args.live_table.now.subscriptions)) c.args.firings.now c.loop-firing.firing-index (record { instant = 0; install = 0 }) c.loop-firing-test.true c.requires.there)
 
 pub fire-requires : goal.fire-requires
 fire-requires g c =
     let all : List Label = labels c.args.handlers.now.items.items (λ h. h.name) (λ h. h.kind) in
     let item : Firing = get_or c.args.firings.now c.loop-firing.firing-index (record { instant = 0; install = 0 }) in
-    let found : member_of item.install c.args.roll.now.members ≡ Some c.in-Some.member.now = sym (c.in-Some.ensures ∙ ap (λ (b : BookState). member_of item.install b.members) c.book.ensures) in
+    let found : subscription_of item.install c.args.live_table.now.subscriptions ≡ Some c.in-Some.subscription.now = sym (c.in-Some.ensures ∙ ap (λ (b : BookState). subscription_of item.install b.subscriptions) c.book.ensures) in
     record {
-      can = subst (λ (t : TableState). CanTell all c.args.store.now t c.in-Some.member.now) (sym c.groups.ensures)
-          (found_has (CanTell all c.args.store.now c.args.roll.now.table) item.install c.args.roll.now.members c.in-Some.member.now c.requires.can found);
+      can = subst (λ (t : TableState). CanTell all c.args.store.now t c.in-Some.subscription.now) (sym c.groups.ensures)
+          (found_has (CanTell all c.args.store.now c.args.live_table.now.table) item.install c.args.live_table.now.subscriptions c.in-Some.subscription.now c.requires.can found);
       latest = subst (λ (t : TableState). IfSome c.loop-firing.latest (IsLatest t.files)) (sym c.groups.ensures) c.loop-firing.invariant.latest;
     }
 
@@ -35,27 +35,27 @@ pub loop-firing-preserved : goal.loop-firing-preserved
 loop-firing-preserved g c =
     let all : List Label = labels c.args.handlers.now.items.items (λ h. h.name) (λ h. h.kind) in
     let store = c.args.store.now in
-    let files : Files = c.args.roll.now.table.files in
-    let members : List Member = c.args.roll.now.members in
+    let files : Files = c.args.live_table.now.table.files in
+    let subscriptions : List Kept = c.args.live_table.now.subscriptions in
     let firings = c.args.firings.now in
     let at = c.loop-firing.firing-index in
     let here : at < length firings = c.loop-firing-test.true in
     let item : Firing = get_or firings at (record { instant = 0; install = 0 }) in
     let one : take (at + 1) firings ≡ take at firings ++ item ∷ [] = take_more firings at (record { instant = 0; install = 0 }) here in
-    let m : Member = c.in-Some.member.now in
-    let found : Some m ≡ member_of item.install members = c.in-Some.ensures ∙ ap (λ (b : BookState). member_of item.install b.members) c.book.ensures in
-    let text : told_text all store c.groups.result.now.files m item.instant ≡ firing_text all store files members item =
-    ap (λ (t : TableState). told_text all store t.files m item.instant) c.groups.ensures ∙ text_found all store files members item m found in
+    let m : Kept = c.in-Some.subscription.now in
+    let found : Some m ≡ subscription_of item.install subscriptions = c.in-Some.ensures ∙ ap (λ (b : BookState). subscription_of item.install b.subscriptions) c.book.ensures in
+    let text : notice_text all store c.groups.result.now.files m item.instant ≡ firing_text all store files subscriptions item =
+    ap (λ (t : TableState). notice_text all store t.files m item.instant) c.groups.ensures ∙ text_found all store files subscriptions item m found in
     let before : List ℕ = c.loop-firing.out.items in
     let after : List ℕ = c.fire.new.out.items in
-    let written : after ≡ before ++ firing_text all store files members item = c.in_ok-told.ensures.text ∙ ap (λ (l : List ℕ). before ++ l) text in
-    let name : m.name ≡ firing_name members item = name_found members item m found in
-    let placed : c.fire.new.spans ≡ c.loop-firing.spans ++ span_of (firing_name members item) (length before) (firing_text all store files members item) =
+    let written : after ≡ before ++ firing_text all store files subscriptions item = c.in_ok-told.ensures.text ∙ ap (λ (l : List ℕ). before ++ l) text in
+    let name : m.name ≡ firing_name subscriptions item = name_found subscriptions item m found in
+    let placed : c.fire.new.spans ≡ c.loop-firing.spans ++ span_of (firing_name subscriptions item) (length before) (firing_text all store files subscriptions item) =
     c.in_ok-told.ensures.span ∙ (λ i. c.loop-firing.spans ++ span_of (name i) (length before) (text i)) in
     record {
-      text = text_on firings at item one (firing_text all store files members) c.args.out.now.items before after c.loop-firing.invariant.text written;
-      spans = spans_on firings at item one (firing_name members) (firing_text all store files members) (length c.args.out.now.items) (length before) c.loop-firing.spans c.fire.new.spans c.loop-firing.invariant.spans
-          (ap length c.loop-firing.invariant.text ∙ length-append c.args.out.now.items (flat_map (firing_text all store files members) (take at firings))) placed;
+      text = text_on firings at item one (firing_text all store files subscriptions) c.args.out.now.items before after c.loop-firing.invariant.text written;
+      spans = spans_on firings at item one (firing_name subscriptions) (firing_text all store files subscriptions) (length c.args.out.now.items) (length before) c.loop-firing.spans c.fire.new.spans c.loop-firing.invariant.spans
+          (ap length c.loop-firing.invariant.text ∙ length-append c.args.out.now.items (flat_map (firing_text all store files subscriptions) (take at firings))) placed;
       latest = subst (λ (t : TableState). IsLatest t.files c.in_ok-told.told) c.groups.ensures c.in_ok-told.ensures.latest;
     }
 
@@ -63,7 +63,7 @@ pub returns-clause-text : goal.returns-clause-text
 returns-clause-text g c =
     let past : length c.args.firings.now ≤ c.loop-firing.firing-index = omega (arith, c.loop-firing-test.false) in
     c.loop-firing.invariant.text
-    ∙ ap (λ (fs : List Firing). c.args.out.now.items ++ flat_map (firing_text (labels c.args.handlers.now.items.items (λ h. h.name) (λ h. h.kind)) c.args.store.now c.args.roll.now.table.files c.args.roll.now.members) fs)
+    ∙ ap (λ (fs : List Firing). c.args.out.now.items ++ flat_map (firing_text (labels c.args.handlers.now.items.items (λ h. h.name) (λ h. h.kind)) c.args.store.now c.args.live_table.now.table.files c.args.live_table.now.subscriptions) fs)
     (take_all c.loop-firing.firing-index c.args.firings.now past)
 
 pub returns-clause-spans : goal.returns-clause-spans
@@ -71,5 +71,5 @@ returns-clause-spans g c =
     let past : length c.args.firings.now ≤ c.loop-firing.firing-index = omega (arith, c.loop-firing-test.false) in
     let all : List Label = labels c.args.handlers.now.items.items (λ h. h.name) (λ h. h.kind) in
     c.loop-firing.invariant.spans
-    ∙ ap (spans_of (firing_name c.args.roll.now.members) (firing_text all c.args.store.now c.args.roll.now.table.files c.args.roll.now.members) (length c.args.out.now.items))
+    ∙ ap (spans_of (firing_name c.args.live_table.now.subscriptions) (firing_text all c.args.store.now c.args.live_table.now.table.files c.args.live_table.now.subscriptions) (length c.args.out.now.items))
     (take_all c.loop-firing.firing-index c.args.firings.now past)

@@ -9,8 +9,8 @@ use Rattle.ncq_engine.proofs.telling.tell.Given as goal
 abbrev pub invariant-loop-firing : goal.invariant-loop-firing
 invariant-loop-firing g l = record {
   text : l.out.items ≡ l.initial.out.items
-      ++ flat_map (firing_text (labels l.handlers.items.items (λ h. h.name) (λ h. h.kind)) l.store l.roll.table.files l.roll.members) (take l.firing-index l.firings);
-  spans : l.spans ≡ spans_of (firing_name l.roll.members) (firing_text (labels l.handlers.items.items (λ h. h.name) (λ h. h.kind)) l.store l.roll.table.files l.roll.members)
+      ++ flat_map (firing_text (labels l.handlers.items.items (λ h. h.name) (λ h. h.kind)) l.store l.live_table.table.files l.live_table.subscriptions) (take l.firing-index l.firings);
+  spans : l.spans ≡ spans_of (firing_name l.live_table.subscriptions) (firing_text (labels l.handlers.items.items (λ h. h.name) (λ h. h.kind)) l.store l.live_table.table.files l.live_table.subscriptions)
       (length l.initial.out.items) (take l.firing-index l.firings);
-  latest : IfSome l.latest (IsLatest l.roll.table.files);
+  latest : IfSome l.latest (IsLatest l.live_table.table.files);
 }

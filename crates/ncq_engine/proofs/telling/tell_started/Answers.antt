@@ -10,36 +10,36 @@ use Rattle.ncq_engine.proofs.telling.tell_started.Goals as goal
 
 pub loop-install-preserved : goal.loop-install-preserved
 loop-install-preserved g c =
-    let roll = c.args.roll.now in
+    let live_table = c.args.live_table.now in
     let installs = c.args.installs.now in
     let at = c.loop-install.install-index in
     let here : at < length installs = c.loop-install-test.true in
     let item : ℕ = get_or installs at 0 in
-    let text : Firing → List ℕ = firing_text (labels c.args.handlers.now.items.items (λ h. h.name) (λ h. h.kind)) c.args.store.now roll.table.files roll.members in
-    let starts : ℕ → List Firing = started_at roll.instant roll.members in
+    let text : Firing → List ℕ = firing_text (labels c.args.handlers.now.items.items (λ h. h.name) (λ h. h.kind)) c.args.store.now live_table.table.files live_table.subscriptions in
+    let starts : ℕ → List Firing = started_at live_table.instant live_table.subscriptions in
     let before : List Firing = flat_map starts (take at installs) in
     let after : List Firing = flat_map starts (take (at + 1) installs) in
     let all : after ≡ before ++ starts item = made_more starts installs at 0 here in
     record {
       text = texts_onto before (starts item) after all text c.args.out.now.items c.loop-install.out.items c.tell_one.new.out.items c.loop-install.invariant.text c.in_ok-latest.ensures.text;
-      spans = spans_onto before (starts item) after all (firing_name roll.members) text (length c.args.out.now.items) (length c.loop-install.out.items) c.loop-install.spans c.tell_one.new.spans c.loop-install.invariant.spans
+      spans = spans_onto before (starts item) after all (firing_name live_table.subscriptions) text (length c.args.out.now.items) (length c.loop-install.out.items) c.loop-install.spans c.tell_one.new.spans c.loop-install.invariant.spans
           (ap length c.loop-install.invariant.text ∙ length-append c.args.out.now.items (flat_map text before)) c.in_ok-latest.ensures.spans;
       latest = c.in_ok-latest.ensures.latest;
     }
 
 pub returns-clause-text : goal.returns-clause-text
 returns-clause-text g c =
-    let roll = c.args.roll.now in
+    let live_table = c.args.live_table.now in
     let past : length c.args.installs.now ≤ c.loop-install.install-index = omega (arith, c.loop-install-test.false) in
     c.loop-install.invariant.text
-    ∙ ap (λ (ns : List ℕ). c.args.out.now.items ++ flat_map (firing_text (labels c.args.handlers.now.items.items (λ h. h.name) (λ h. h.kind)) c.args.store.now roll.table.files roll.members) (flat_map (started_at roll.instant roll.members) ns))
+    ∙ ap (λ (ns : List ℕ). c.args.out.now.items ++ flat_map (firing_text (labels c.args.handlers.now.items.items (λ h. h.name) (λ h. h.kind)) c.args.store.now live_table.table.files live_table.subscriptions) (flat_map (started_at live_table.instant live_table.subscriptions) ns))
     (take_all c.loop-install.install-index c.args.installs.now past)
 
 pub returns-clause-spans : goal.returns-clause-spans
 returns-clause-spans g c =
-    let roll = c.args.roll.now in
+    let live_table = c.args.live_table.now in
     let past : length c.args.installs.now ≤ c.loop-install.install-index = omega (arith, c.loop-install-test.false) in
     c.loop-install.invariant.spans
-    ∙ ap (λ (ns : List ℕ). spans_of (firing_name roll.members) (firing_text (labels c.args.handlers.now.items.items (λ h. h.name) (λ h. h.kind)) c.args.store.now roll.table.files roll.members) (length c.args.out.now.items)
-    (flat_map (started_at roll.instant roll.members) ns))
+    ∙ ap (λ (ns : List ℕ). spans_of (firing_name live_table.subscriptions) (firing_text (labels c.args.handlers.now.items.items (λ h. h.name) (λ h. h.kind)) c.args.store.now live_table.table.files live_table.subscriptions) (length c.args.out.now.items)
+    (flat_map (started_at live_table.instant live_table.subscriptions) ns))
     (take_all c.loop-install.install-index c.args.installs.now past)

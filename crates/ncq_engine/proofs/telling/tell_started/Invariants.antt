@@ -9,8 +9,8 @@ use Rattle.ncq_engine.proofs.telling.tell_started.Given as goal
 abbrev pub invariant-loop-install : goal.invariant-loop-install
 invariant-loop-install g l = record {
   text : l.out.items ≡ l.initial.out.items
-      ++ flat_map (firing_text (labels l.handlers.items.items (λ h. h.name) (λ h. h.kind)) l.store l.roll.table.files l.roll.members) (flat_map (started_at l.roll.instant l.roll.members) (take l.install-index l.installs));
-  spans : l.spans ≡ spans_of (firing_name l.roll.members) (firing_text (labels l.handlers.items.items (λ h. h.name) (λ h. h.kind)) l.store l.roll.table.files l.roll.members)
-      (length l.initial.out.items) (flat_map (started_at l.roll.instant l.roll.members) (take l.install-index l.installs));
-  latest : IfSome l.latest (IsLatest l.roll.table.files);
+      ++ flat_map (firing_text (labels l.handlers.items.items (λ h. h.name) (λ h. h.kind)) l.store l.live_table.table.files l.live_table.subscriptions) (flat_map (started_at l.live_table.instant l.live_table.subscriptions) (take l.install-index l.installs));
+  spans : l.spans ≡ spans_of (firing_name l.live_table.subscriptions) (firing_text (labels l.handlers.items.items (λ h. h.name) (λ h. h.kind)) l.store l.live_table.table.files l.live_table.subscriptions)
+      (length l.initial.out.items) (flat_map (started_at l.live_table.instant l.live_table.subscriptions) (take l.install-index l.installs));
+  latest : IfSome l.latest (IsLatest l.live_table.table.files);
 }

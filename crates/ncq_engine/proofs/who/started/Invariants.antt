@@ -4,4 +4,4 @@ use Rattle.ncq_engine.specs.Tellings.{started_at}
 use Rattle.ncq_engine.proofs.who.started.Given as goal
 
 abbrev pub invariant-loop-install : goal.invariant-loop-install
-invariant-loop-install l = l.firings ≡ flat_map (started_at l.book.instant l.book.members) (take l.install-index l.installs)
+invariant-loop-install l = l.firings ≡ flat_map (started_at l.book.instant l.book.subscriptions) (take l.install-index l.installs)

@@ -60,7 +60,7 @@ place-returns-clause-cost g t c =
 pub place_inputs-place-requires : goal.place_inputs-place-requires
 place_inputs-place-requires g t c κs within =
     let one = equal_one c.args.expr.now c.get.result.now c.in-EqSel.input c.in-EqSel.slot c.in-EqSel.constant c.in-EqSel.is c.get.ensures in
-    (search (rules, the_lemmas), (within, (c.requires.ready, (c.requires.below, (one.formed c.requires.formed, room_in_one c.args.expr.now c.get.result.now one c.args.filed.now.next c.requires.room)))))
+    (search (rules, the_lemmas), (within, (c.requires.ready, (c.requires.counted, (c.requires.below, (one.formed c.requires.formed, room_in_one c.args.expr.now c.get.result.now one c.args.filed.now.next c.requires.room))))))
 
 pub place_inputs-returns-in_err-number-in-EqSel-clause-grown : goal.place_inputs-returns-in_err-number-in-EqSel-clause-grown
 place_inputs-returns-in_err-number-in-EqSel-clause-grown g t c =
@@ -92,7 +92,7 @@ place_inputs-returns-in_ok-number-in-EqSel-clause-cost g t c =
 pub place_inputs-place-requires-in-RangeSel : goal.place_inputs-place-requires-in-RangeSel
 place_inputs-place-requires-in-RangeSel g t c κs within =
     let one = range_one c.args.expr.now c.get-in-RangeSel.result.now c.in-RangeSel.input c.in-RangeSel.slot c.in-RangeSel.interval c.in-RangeSel.is c.get-in-RangeSel.ensures in
-    (search (rules, the_lemmas), (within, (c.requires.ready, (c.requires.below, (one.formed c.requires.formed, room_in_one c.args.expr.now c.get-in-RangeSel.result.now one c.args.filed.now.next c.requires.room)))))
+    (search (rules, the_lemmas), (within, (c.requires.ready, (c.requires.counted, (c.requires.below, (one.formed c.requires.formed, room_in_one c.args.expr.now c.get-in-RangeSel.result.now one c.args.filed.now.next c.requires.room))))))
 
 pub place_inputs-returns-in_err-number-in-RangeSel-clause-grown : goal.place_inputs-returns-in_err-number-in-RangeSel-clause-grown
 place_inputs-returns-in_err-number-in-RangeSel-clause-grown g t c =
@@ -124,7 +124,7 @@ place_inputs-returns-in_ok-number-in-RangeSel-clause-cost g t c =
 pub place_inputs-place-requires-in-Join : goal.place_inputs-place-requires-in-Join
 place_inputs-place-requires-in-Join g t c κs within =
     let two = join_two c.args.expr.now c.get-in-Join.result.now c.in-Join.right c.in-Join.left c.in-Join.right c.in-Join.pairs c.in-Join.is c.get-in-Join.ensures refl in
-    (grind (arith, the_lemmas), (within, (c.requires.ready, (c.requires.below, (two.left_formed c.requires.formed, room_in_left c.args.expr.now c.get-in-Join.result.now c.in-Join.right two c.args.filed.now.next c.requires.room)))))
+    (grind (arith, the_lemmas), (within, (c.requires.ready, (c.requires.counted, (c.requires.below, (two.left_formed c.requires.formed, room_in_left c.args.expr.now c.get-in-Join.result.now c.in-Join.right two c.args.filed.now.next c.requires.room))))))
 
 pub place_inputs-returns-in_err-first-in-Join-clause-grown : goal.place_inputs-returns-in_err-first-in-Join-clause-grown
 place_inputs-returns-in_err-first-in-Join-clause-grown g t c =
@@ -140,7 +140,7 @@ place_inputs-returns-in_err-first-in-Join-clause-cost g t c =
 pub place_inputs-place-requires-in-Join-2 : goal.place_inputs-place-requires-in-Join-2
 place_inputs-place-requires-in-Join-2 g t c κs within =
     let two = join_two c.args.expr.now c.get-in-Join.result.now c.get-in-Join-2.result.now c.in-Join.left c.in-Join.right c.in-Join.pairs c.in-Join.is c.get-in-Join.ensures c.get-in-Join-2.ensures in
-    (grind (arith, the_lemmas), (within, (c.place-in-Join.ensures.grown.ready, (c.place-in-Join.ensures.grown.below, (two.right_formed c.requires.formed, room_in_right c.args.expr.now c.get-in-Join.result.now c.get-in-Join-2.result.now two c.args.filed.now.next c.place-in-Join.new.filed.next c.place-in-Join.ensures.grown.room c.requires.room)))))
+    (grind (arith, the_lemmas), (within, (c.place-in-Join.ensures.grown.ready, (c.place-in-Join.ensures.counted, (c.place-in-Join.ensures.grown.below, (two.right_formed c.requires.formed, room_in_right c.args.expr.now c.get-in-Join.result.now c.get-in-Join-2.result.now two c.args.filed.now.next c.place-in-Join.new.filed.next c.place-in-Join.ensures.grown.room c.requires.room))))))
 
 pub place_inputs-returns-in_err-second-in-Join-clause-grown : goal.place_inputs-returns-in_err-second-in-Join-clause-grown
 place_inputs-returns-in_err-second-in-Join-clause-grown g t c =

@@ -1,5 +1,8 @@
 use Rattle.ncq_group.proofs.Cuts.{cut_step}
 use Rattle.ncq_group.proofs.undo.cut.Goals as goal
 
-pub loop-next-preserved : goal.loop-next-preserved
-loop-next-preserved c = cut_step c.args.low c.loop-next.next c.args.shelf.now c.loop-next.shelf c.drop_idle.new.shelf c.requires.unused c.loop-next-test.true c.loop-next.invariant c.drop_idle.ensures
+pub loop-filed-preserved : goal.loop-filed-preserved
+loop-filed-preserved c = record {
+  cut = cut_step c.args.low c.loop-filed.filed.next c.args.filed.now.shelf c.loop-filed.filed.shelf c.drop_idle.new.filed.shelf c.requires.unused c.loop-filed-test.true c.loop-filed.invariant.cut c.drop_idle.ensures.dropped;
+  counted = c.drop_idle.ensures.counted;
+}

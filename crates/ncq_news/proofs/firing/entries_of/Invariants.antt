@@ -4,7 +4,7 @@ use Rattle.std.specs.List.{AllByRecursion}
 use Rattle.ncq_plan.specs.Residuals.{passes}
 use Rattle.ncq_plan.specs.WellFormed.{arms_width}
 use Rattle.ncq_callback.specs.Gathered.{answer_of, counts_after}
-use Rattle.ncq_news.specs.News.{unnumbered}
+use Rattle.ncq_delta.specs.Leads.{unnumbered}
 use Rattle.ncq_news.proofs.firing.entries_of.Given as goal
 
 -- what is counted already, with the rows that are left

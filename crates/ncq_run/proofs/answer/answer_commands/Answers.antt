@@ -1,89 +1,100 @@
-use Rattle.std.proofs.Common.{[], arith, refl, ◌∙◌}
-use Rattle.std.proofs.KnownBytes.{Appends-nil}
+use Rattle.std.proofs.Common.{◌≡◌, arith, refl, ◌∙◌}
+use Rattle.std.specs.Prelude.{Err}
 use Rattle.std.proofs.lemmas.Result.{err_from_is_err_and}
-use Rattle.ncq_script.specs.Script.{known_script}
-use Rattle.ncq_script.specs.ScriptReading.{is_finished, limit_of}
 use Rattle.ncq_script.proofs.CallerLemmas.{given_few}
-use Rattle.std.specs.Option.{option_copied}
-use Rattle.ncq_engine.specs.Languages.{language_of}
-use Rattle.ncq_engine.specs.Output.{after}
-use Rattle.ncq_run.proofs.Outputs.{done_front, done_next, follows_counted, same_next, stopped_next}
-use Rattle.ncq_run.proofs.WorkLaws.{done_work, left_work, tried_work}
+use Rattle.ncq_run.proofs.Answered.{advanced_more, advanced_none, advances_all, advances_not, advances_tried, answered_next, writes_all, writes_front, writes_stopped}
+use Rattle.ncq_run.proofs.SinkLaws.{sink_later, sink_unwritten, sink_written}
 use Rattle.ncq_run.proofs.answer.answer_commands.Goals as goal
 
 pub answer_one-requires-clause-few : goal.answer_one-requires-clause-few
 answer_one-requires-clause-few g c =
-    let some = c.commands.invariant.some in
+    let so = c.requires.so_far in
+    let now = c.commands.invariant.advanced.up_to so.0 so.1 so.3 in
     let next = rw c.in-Ok-Command.field-0-is at c.in-Ok-Command.ensures.next in
-    omega (arith, given_few _ _ _ _ _ (next some.0 c.commands.engine.count some.1).0, some.2)
+    omega (arith, given_few _ _ _ _ _ (next so.0 c.commands.engine.count now.follows).0, so.2)
 
-pub returns-in_err-answer_one-in-Ok-Command-clause-write : goal.returns-in_err-answer_one-in-Ok-Command-clause-write
-returns-in_err-answer_one-in-Ok-Command-clause-write g c failed pushed history follows stands =
-    let p = err_from_is_err_and c.from_residual.result c.from_residual.ensures.1 in
-    let e = p.1 in let f = p.2 in
-    let next = rw c.in-Ok-Command.field-0-is at c.in-Ok-Command.ensures.next in
-    let was = c.commands.invariant.written pushed history follows stands in
-    let this = (next pushed c.commands.engine.count (c.commands.invariant.follows pushed follows)).0 in
-    let at = same_next _ _ _ _ pushed c.commands.engine.count _ c.commands.invariant.limit c.commands.invariant.finished this in
-    stopped_next _ _ _ _ _ c.commands.engine history _ _ _ c.commands.invariant.labels at was (c.in_err-answer_one-in-Ok-Command.ensures.write (cc) was.1 was.3)
+pub answer_one-requires-clause-stands : goal.answer_one-requires-clause-stands
+answer_one-requires-clause-stands g c = let so = c.requires.so_far in (_, (c.commands.invariant.advanced.up_to so.0 so.1 so.3).stands)
+
+pub answer_one-requires-clause-handlers : goal.answer_one-requires-clause-handlers
+answer_one-requires-clause-handlers g c = c.commands.invariant.advanced.labels ∙ c.requires.handlers
 
 pub commands-init : goal.commands-init
-commands-init g c = record {
-  some = c.requires.some;
-  stands = c.requires.stands;
-  labels = refl;
-  follows = λ pushed f. f;
-  written = λ pushed history f s. ([], history, Appends-nil _, s, refl, refl);
-  work = λ pushed history f s bound works. (history, bound, s, works, omega arith);
-  sure = refl;
-  later = omega arith;
-  limit = refl;
-  finished = refl;
-}
+commands-init g c = record { advanced = advanced_none _ _ _; written = λ bytes before begun so. so; sure = refl; later = omega arith }
 
 pub commands-preserved : goal.commands-preserved
 commands-preserved g c =
     let next = rw c.in-Ok-Command.field-0-is at c.in-Ok-Command.ensures.next in
-    let some = c.commands.invariant.some in
-    let counted = c.in_ok-answer_one-in-Ok-Command.ensures.counted in
+    let asks = c.in_ok-answer_one-in-Ok-Command.ensures.asks in
     record {
-      some = (some.0, follows_counted _ some.0 _ _ counted (next some.0 c.commands.engine.count some.1).1, some.2);
-      stands = let was = c.commands.invariant.stands in (after (language_of c.commands.engine.labels) was.0 _, (c.in_ok-answer_one-in-Ok-Command.ensures.ok was.0 was.1).1);
-      labels = c.in_ok-answer_one-in-Ok-Command.ensures.labels ∙ c.commands.invariant.labels;
-      follows = λ pushed f. follows_counted _ pushed _ _ counted (next pushed c.commands.engine.count (c.commands.invariant.follows pushed f)).1;
-      written = λ pushed history f s.
-          let was = c.commands.invariant.written pushed history f s in
-          let this = (next pushed c.commands.engine.count (c.commands.invariant.follows pushed f)).0 in
-          let at = same_next _ _ _ _ pushed c.commands.engine.count _ c.commands.invariant.limit c.commands.invariant.finished this in
-          done_next _ _ _ _ _ c.commands.engine history _ _ _ c.commands.invariant.labels at was _ counted c.in_ok-answer_one-in-Ok-Command.ensures.ok;
-      work = λ pushed history f s bound works.
-          let this = (next pushed c.commands.engine.count (c.commands.invariant.follows pushed f)).0 in
-          let at = same_next _ _ _ _ pushed c.commands.engine.count _ c.commands.invariant.limit c.commands.invariant.finished this in
-          done_work _ c.commands.engine _ _ c.commands.invariant.labels at _ _ _ bound c.answer_one.ensures.work (c.commands.invariant.work pushed history f s bound works)
-          _ counted (λ now stands. (c.in_ok-answer_one-in-Ok-Command.ensures.ok now stands).1);
-      sure = c.answer_one.ensures.sure ∙ c.commands.invariant.sure;
-      later = omega (arith, c.commands.invariant.later, c.answer_one.ensures.later);
-      limit = c.in-Ok-Command.ensures.limit ∙ c.commands.invariant.limit;
-      finished = c.in-Ok-Command.ensures.finished ∙ c.commands.invariant.finished;
+      advanced = advanced_more c.commands.invariant.advanced _ c.in-Ok-Command.ensures.limit c.in-Ok-Command.ensures.finished _ next _ asks;
+      written = λ bytes before begun so.
+          let was = c.commands.invariant.written bytes before begun so in
+          let now = next bytes c.commands.engine.count was.up_to.follows in
+          answered_next bytes c.commands.reader c.next.new.self c.in-Ok-Command.ensures.limit c.in-Ok-Command.ensures.finished c.commands.engine c.answer_one.new.engine _ _ _ now.0 _ asks now.1 was
+          (c.in_ok-answer_one-in-Ok-Command.ensures.written _ was.up_to.stands);
+      sure = c.answer_one.ensures.sink.stays ∙ c.commands.invariant.sure;
+      later = let before = c.commands.invariant.later in let here = c.answer_one.ensures.sink.later in omega (arith, before, here);
     }
 
-pub returns-in_err-answer_one-in-Ok-Command-clause-work : goal.returns-in_err-answer_one-in-Ok-Command-clause-work
-returns-in_err-answer_one-in-Ok-Command-clause-work g c pushed history follows stands bound works =
+pub returns-in_err-answer_one-in-Ok-Command-clause-advances : goal.returns-in_err-answer_one-in-Ok-Command-clause-advances
+returns-in_err-answer_one-in-Ok-Command-clause-advances g c =
+    let p = err_from_is_err_and c.from_residual.result c.from_residual.ensures.1 in
     let next = rw c.in-Ok-Command.field-0-is at c.in-Ok-Command.ensures.next in
-    let this = (next pushed c.commands.engine.count (c.commands.invariant.follows pushed follows)).0 in
-    let at = same_next _ _ _ _ pushed c.commands.engine.count _ c.commands.invariant.limit c.commands.invariant.finished this in
-    tried_work _ c.commands.engine _ _ c.commands.invariant.labels at _ _ _ bound c.answer_one.ensures.work (c.commands.invariant.work pushed history follows stands bound works)
+    advances_tried c.commands.invariant.advanced _ c.in-Ok-Command.ensures.limit c.in-Ok-Command.ensures.finished _ next _ _ p.0 p.1 c.in_err-answer_one-in-Ok-Command.ensures.asks
 
-pub returns-in-Err-clause-work : goal.returns-in-Err-clause-work
-returns-in-Err-clause-work g c pushed history follows stands bound works = left_work (language_of c.args.engine.now.labels) _ _ _ _ bound (c.commands.invariant.work pushed history follows stands bound works)
-
-pub returns-in_err-answer_one-in-Ok-Command-clause-no_memory : goal.returns-in_err-answer_one-in-Ok-Command-clause-no_memory
-returns-in_err-answer_one-in-Ok-Command-clause-no_memory g c failed pushed history follows stands =
+pub returns-in_err-answer_one-in-Ok-Command-clause-written : goal.returns-in_err-answer_one-in-Ok-Command-clause-written
+returns-in_err-answer_one-in-Ok-Command-clause-written g c bytes before begun so =
     let p = err_from_is_err_and c.from_residual.result c.from_residual.ensures.1 in
     let e = p.1 in let f = p.2 in
-    done_front (language_of c.args.engine.now.labels) (option_copied c.args.whose) (g.O.Sink.held c.args.output.now) (g.O.Sink.held c.commands.output) c.commands.engine history c.args.engine.now.count c.commands.engine.count
-    (known_script (limit_of c.args.reader.now) (is_finished c.args.reader.now) pushed) (c.commands.invariant.written pushed history follows stands) (g.O.Sink.held c.answer_one.new.output) (c.in_err-answer_one-in-Ok-Command.ensures.no_memory (cc))
+    let is : c.from_residual.result ≡ Err c.in_err-answer_one-in-Ok-Command.field-0.0 = cc in
+    let next = rw c.in-Ok-Command.field-0-is at c.in-Ok-Command.ensures.next in
+    let was = c.commands.invariant.written bytes before begun so in
+    let now = next bytes c.commands.engine.count was.up_to.follows in
+    let stopped = c.in_err-answer_one-in-Ok-Command.ensures in
+    writes_stopped bytes c.commands.reader c.next.new.self c.in-Ok-Command.ensures.limit c.in-Ok-Command.ensures.finished c.commands.engine c.answer_one.new.engine _ c.commands.steps c.answer_one.new.steps now.0 _ _ _ was stopped.asks.labels _ _ _ is (stopped.written _ was.up_to.stands)
 
-pub returns-in-Err-clause-no_memory : goal.returns-in-Err-clause-no_memory
-returns-in-Err-clause-no_memory g c failed pushed history follows stands = done_front (language_of c.args.engine.now.labels) (option_copied c.args.whose) (g.O.Sink.held c.args.output.now) (g.O.Sink.held c.commands.output) c.commands.engine history c.args.engine.now.count c.commands.engine.count
-    (known_script (limit_of c.args.reader.now) (is_finished c.args.reader.now) pushed) (c.commands.invariant.written pushed history follows stands) (g.O.Sink.held c.commands.output) refl
+pub returns-in_err-answer_one-in-Ok-Command-clause-sink : goal.returns-in_err-answer_one-in-Ok-Command-clause-sink
+returns-in_err-answer_one-in-Ok-Command-clause-sink g c =
+    let p = err_from_is_err_and c.from_residual.result c.from_residual.ensures.1 in
+    let e = p.1 in let f = p.2 in
+    let is : c.from_residual.result ≡ Err c.in_err-answer_one-in-Ok-Command.field-0.0 = cc in
+    sink_later _ _ _ _ _ _ _ _ _ c.commands.invariant.later c.commands.invariant.sure is c.in_err-answer_one-in-Ok-Command.ensures.sink
+
+pub returns-in-Ok-Wanting-clause-sink : goal.returns-in-Ok-Wanting-clause-sink
+returns-in-Ok-Wanting-clause-sink g c = sink_written _ _ _ _ _ c.commands.invariant.later c.commands.invariant.sure _
+
+pub returns-in-Ok-End-clause-sink : goal.returns-in-Ok-End-clause-sink
+returns-in-Ok-End-clause-sink g c = sink_written _ _ _ _ _ c.commands.invariant.later c.commands.invariant.sure _
+
+pub returns-in-Err-clause-sink : goal.returns-in-Err-clause-sink
+returns-in-Err-clause-sink g c = sink_unwritten _ _ _ _ _ c.commands.invariant.later c.commands.invariant.sure
+
+pub returns-in-Ok-Wanting-clause-advances : goal.returns-in-Ok-Wanting-clause-advances
+returns-in-Ok-Wanting-clause-advances g c =
+    let next = rw c.in-Ok-Wanting.field-0-is at c.in-Ok-Wanting.ensures.next in
+    advances_all c.commands.invariant.advanced _ c.in-Ok-Wanting.ensures.limit c.in-Ok-Wanting.ensures.finished _ (λ bytes count follows. let now = next bytes count follows in (now.1, now.2))
+
+pub returns-in-Ok-Wanting-clause-written : goal.returns-in-Ok-Wanting-clause-written
+returns-in-Ok-Wanting-clause-written g c bytes before begun so =
+    let was = c.commands.invariant.written bytes before begun so in
+    let next = rw c.in-Ok-Wanting.field-0-is at c.in-Ok-Wanting.ensures.next in
+    writes_all bytes c.commands.reader c.next.new.self c.in-Ok-Wanting.ensures.limit c.in-Ok-Wanting.ensures.finished c.commands.engine _ _ _ _ _ was (next bytes c.commands.engine.count was.up_to.follows).1
+
+pub returns-in-Ok-End-clause-advances : goal.returns-in-Ok-End-clause-advances
+returns-in-Ok-End-clause-advances g c =
+    let next = rw c.in-Ok-End.field-0-is at c.in-Ok-End.ensures.next in
+    advances_all c.commands.invariant.advanced _ c.in-Ok-End.ensures.limit c.in-Ok-End.ensures.finished _ (λ bytes count follows. let now = next bytes count follows in (now.1, now.2))
+
+pub returns-in-Ok-End-clause-written : goal.returns-in-Ok-End-clause-written
+returns-in-Ok-End-clause-written g c bytes before begun so =
+    let was = c.commands.invariant.written bytes before begun so in
+    let next = rw c.in-Ok-End.field-0-is at c.in-Ok-End.ensures.next in
+    writes_all bytes c.commands.reader c.next.new.self c.in-Ok-End.ensures.limit c.in-Ok-End.ensures.finished c.commands.engine _ _ _ _ _ was (next bytes c.commands.engine.count was.up_to.follows).1
+
+pub returns-in-Err-clause-advances : goal.returns-in-Err-clause-advances
+returns-in-Err-clause-advances g c = advances_not c.commands.invariant.advanced _ c.next.ensures.limit c.next.ensures.finished _
+
+pub returns-in-Err-clause-written : goal.returns-in-Err-clause-written
+returns-in-Err-clause-written g c bytes before begun so =
+    writes_front bytes c.commands.reader c.next.new.self c.next.ensures.limit c.next.ensures.finished c.commands.engine _ _ _ _ _ (c.commands.invariant.written bytes before begun so)

@@ -1,61 +1,67 @@
-use Rattle.std.proofs.Common.{arith, refl, ◌∙◌}
+use Rattle.std.proofs.Common.{arith, ◌∙◌}
+use Rattle.std.proofs.lemmas.Result.{err_from_is_err_and}
 use Rattle.ncq_script.proofs.CallerLemmas.{given_few}
-use Rattle.ncq_engine.specs.Languages.{language_of}
-use Rattle.ncq_engine.specs.Output.{after}
-use Rattle.ncq_run.proofs.Outputs.{follows_counted, same_next}
-use Rattle.ncq_run.proofs.TallyLaws.{counted_next}
-use Rattle.ncq_run.proofs.WorkLaws.{done_work, left_work, tried_work}
+use Rattle.ncq_run.proofs.Answered.{advanced_more, advanced_none, advances_all, advances_not, advances_tried, tallied_next, tallied_none}
 use Rattle.ncq_run.proofs.load.tally_commands.Goals as goal
 
 pub tally_one-requires-clause-few : goal.tally_one-requires-clause-few
 tally_one-requires-clause-few g c =
-    let some = c.commands.invariant.some in
+    let so = c.requires.so_far in
+    let now = c.commands.invariant.advanced.up_to so.0 so.1 so.3.up_to in
     let next = rw c.in-Ok-Command.field-0-is at c.in-Ok-Command.ensures.next in
-    omega (arith, given_few _ _ _ _ _ (next some.0 c.commands.engine.count some.1).0, some.2)
+    omega (arith, given_few _ _ _ _ _ (next so.0 c.commands.engine.count now.follows).0, so.2)
+
+pub tally_one-requires-clause-handlers : goal.tally_one-requires-clause-handlers
+tally_one-requires-clause-handlers g c = c.commands.invariant.advanced.labels ∙ c.requires.handlers
+
+pub tally_one-requires-clause-small : goal.tally_one-requires-clause-small
+tally_one-requires-clause-small g c = let so = c.requires.so_far in (c.commands.invariant.tallied so.0 so.1 so.3).small
 
 pub commands-init : goal.commands-init
-commands-init g c = record {
-  some = c.requires.some;
-  stands = c.requires.stands;
-  labels = refl;
-  follows = λ pushed f. f;
-  small = c.requires.small;
-  tallied = λ pushed history f s. (history, s, refl, refl);
-  work = λ pushed history f s bound works. (history, bound, s, works, omega arith);
-  limit = refl;
-  finished = refl;
-}
+commands-init g c = record { advanced = advanced_none _ _ _; tallied = λ bytes begun so. so }
 
 pub commands-preserved : goal.commands-preserved
 commands-preserved g c =
     let next = rw c.in-Ok-Command.field-0-is at c.in-Ok-Command.ensures.next in
-    let some = c.commands.invariant.some in
-    let counted = c.in_ok-tally_one-in-Ok-Command.ensures.counted in
+    let asks = c.in_ok-tally_one-in-Ok-Command.ensures.asks in
     record {
-      some = (some.0, follows_counted _ some.0 _ _ counted (next some.0 c.commands.engine.count some.1).1, some.2);
-      stands = let was = c.commands.invariant.stands in (after (language_of c.commands.engine.labels) was.0 _, (c.in_ok-tally_one-in-Ok-Command.ensures.ok was.0 was.1).1);
-      labels = c.in_ok-tally_one-in-Ok-Command.ensures.labels ∙ c.commands.invariant.labels;
-      follows = λ pushed f. follows_counted _ pushed _ _ counted (next pushed c.commands.engine.count (c.commands.invariant.follows pushed f)).1;
-      small = c.in_ok-tally_one-in-Ok-Command.ensures.small;
-      tallied = λ pushed history f s.
-          let this = (next pushed c.commands.engine.count (c.commands.invariant.follows pushed f)).0 in
-          let at = same_next _ _ _ _ pushed c.commands.engine.count _ c.commands.invariant.limit c.commands.invariant.finished this in
-          counted_next _ c.commands.engine _ _ history _ _ _ c.commands.invariant.labels at (c.commands.invariant.tallied pushed history f s) _ _ counted c.in_ok-tally_one-in-Ok-Command.ensures.ok;
-      work = λ pushed history f s bound works.
-          let this = (next pushed c.commands.engine.count (c.commands.invariant.follows pushed f)).0 in
-          let at = same_next _ _ _ _ pushed c.commands.engine.count _ c.commands.invariant.limit c.commands.invariant.finished this in
-          done_work _ c.commands.engine _ _ c.commands.invariant.labels at _ _ _ bound c.tally_one.ensures.work (c.commands.invariant.work pushed history f s bound works)
-          _ counted (λ now stands. (c.in_ok-tally_one-in-Ok-Command.ensures.ok now stands).1);
-      limit = c.in-Ok-Command.ensures.limit ∙ c.commands.invariant.limit;
-      finished = c.in-Ok-Command.ensures.finished ∙ c.commands.invariant.finished;
+      advanced = advanced_more c.commands.invariant.advanced _ c.in-Ok-Command.ensures.limit c.in-Ok-Command.ensures.finished _ next _ asks;
+      tallied = λ bytes begun so.
+          let was = c.commands.invariant.tallied bytes begun so in
+          let now = next bytes c.commands.engine.count was.up_to.follows in
+          tallied_next bytes c.commands.reader c.next.new.self c.in-Ok-Command.ensures.limit c.in-Ok-Command.ensures.finished c.commands.engine c.tally_one.new.engine _ _ _ now.0 _ asks now.1 was
+          (c.in_ok-tally_one-in-Ok-Command.ensures.tallied _ was.up_to.stands) c.in_ok-tally_one-in-Ok-Command.ensures.small;
     }
 
-pub returns-in_err-tally_one-in-Ok-Command-clause-work : goal.returns-in_err-tally_one-in-Ok-Command-clause-work
-returns-in_err-tally_one-in-Ok-Command-clause-work g c pushed history follows stands bound works =
+pub returns-in_err-tally_one-in-Ok-Command-clause-advances : goal.returns-in_err-tally_one-in-Ok-Command-clause-advances
+returns-in_err-tally_one-in-Ok-Command-clause-advances g c =
+    let p = err_from_is_err_and c.from_residual.result c.from_residual.ensures.1 in
     let next = rw c.in-Ok-Command.field-0-is at c.in-Ok-Command.ensures.next in
-    let this = (next pushed c.commands.engine.count (c.commands.invariant.follows pushed follows)).0 in
-    let at = same_next _ _ _ _ pushed c.commands.engine.count _ c.commands.invariant.limit c.commands.invariant.finished this in
-    tried_work _ c.commands.engine _ _ c.commands.invariant.labels at _ _ _ bound c.tally_one.ensures.work (c.commands.invariant.work pushed history follows stands bound works)
+    advances_tried c.commands.invariant.advanced _ c.in-Ok-Command.ensures.limit c.in-Ok-Command.ensures.finished _ next _ _ p.0 p.1 c.in_err-tally_one-in-Ok-Command.ensures.asks
 
-pub returns-in-Err-clause-work : goal.returns-in-Err-clause-work
-returns-in-Err-clause-work g c pushed history follows stands bound works = left_work (language_of c.args.engine.now.labels) _ _ _ _ bound (c.commands.invariant.work pushed history follows stands bound works)
+pub returns-in-Ok-Wanting-clause-advances : goal.returns-in-Ok-Wanting-clause-advances
+returns-in-Ok-Wanting-clause-advances g c =
+    let next = rw c.in-Ok-Wanting.field-0-is at c.in-Ok-Wanting.ensures.next in
+    advances_all c.commands.invariant.advanced _ c.in-Ok-Wanting.ensures.limit c.in-Ok-Wanting.ensures.finished _ (λ bytes count follows. let now = next bytes count follows in (now.1, now.2))
+
+pub returns-in-Ok-Wanting-clause-tallied : goal.returns-in-Ok-Wanting-clause-tallied
+returns-in-Ok-Wanting-clause-tallied g c bytes begun so =
+    let was = c.commands.invariant.tallied bytes begun so in
+    let next = rw c.in-Ok-Wanting.field-0-is at c.in-Ok-Wanting.ensures.next in
+    let now = next bytes c.commands.engine.count was.up_to.follows in
+    tallied_none bytes c.commands.reader c.next.new.self c.in-Ok-Wanting.ensures.limit c.in-Ok-Wanting.ensures.finished c.commands.engine _ _ _ now.1 now.2 was
+
+pub returns-in-Ok-End-clause-advances : goal.returns-in-Ok-End-clause-advances
+returns-in-Ok-End-clause-advances g c =
+    let next = rw c.in-Ok-End.field-0-is at c.in-Ok-End.ensures.next in
+    advances_all c.commands.invariant.advanced _ c.in-Ok-End.ensures.limit c.in-Ok-End.ensures.finished _ (λ bytes count follows. let now = next bytes count follows in (now.1, now.2))
+
+pub returns-in-Ok-End-clause-tallied : goal.returns-in-Ok-End-clause-tallied
+returns-in-Ok-End-clause-tallied g c bytes begun so =
+    let was = c.commands.invariant.tallied bytes begun so in
+    let next = rw c.in-Ok-End.field-0-is at c.in-Ok-End.ensures.next in
+    let now = next bytes c.commands.engine.count was.up_to.follows in
+    tallied_none bytes c.commands.reader c.next.new.self c.in-Ok-End.ensures.limit c.in-Ok-End.ensures.finished c.commands.engine _ _ _ now.1 now.2 was
+
+pub returns-in-Err-clause-advances : goal.returns-in-Err-clause-advances
+returns-in-Err-clause-advances g c = advances_not c.commands.invariant.advanced _ c.next.ensures.limit c.next.ensures.finished _

@@ -1,30 +1,13 @@
-use Rattle.std.proofs.Common.{◌≡◌, ◌<◌, ◌^◌, ℕ, List, length, drop}
-use Rattle.ncq_script.specs.Script.{known_script}
+use Rattle.std.proofs.Common.{ℕ, List}
 use Rattle.ncq_script.specs.NextOfScript.{script_size}
-use Rattle.ncq_script.specs.ScriptReading.{FollowsScript, limit_of, is_finished}
-use Rattle.ncq_engine.specs.History.{History}
-use Rattle.ncq_engine.specs.Languages.{language_of}
-use Rattle.ncq_run.specs.Session.{IsSmall}
-use Rattle.ncq_run.proofs.TallyLaws.{Counted}
-use Rattle.ncq_engine.specs.Stands.{Stands}
-use Rattle.ncq_engine.specs.Works.{AreWorkUpTo}
-use Rattle.ncq_run.proofs.WorkLaws.{LeavesWork}
+use Rattle.ncq_run.specs.Session.{IsTallied}
+use Rattle.ncq_run.proofs.Answered.{HasAdvanced}
 use Rattle.ncq_run.proofs.load.tally_commands.Given as goal
 
 abbrev pub invariant-commands : goal.invariant-commands
 invariant-commands g l = record {
-  some : (pushed : List ℕ) × FollowsScript l.reader pushed l.engine.count × (length pushed < 2 ^ 48);
-  stands : (history : History) × Stands l.engine history;
-  labels : l.engine.labels ≡ l.fn.engine.labels;
-  follows : (pushed : List ℕ) → FollowsScript l.fn.reader pushed l.fn.engine.count → FollowsScript l.reader pushed l.engine.count;
-  small : IsSmall l.tally l.engine.count;
-  tallied : (pushed : List ℕ) (history : History) → FollowsScript l.fn.reader pushed l.fn.engine.count → Stands l.fn.engine history →
-      Counted (language_of l.fn.engine.labels) l.engine l.fn.tally l.tally history l.fn.engine.count l.engine.count (known_script (limit_of l.fn.reader) (is_finished l.fn.reader) pushed);
-  work : (pushed : List ℕ) (history : History) → FollowsScript l.fn.reader pushed l.fn.engine.count → Stands l.fn.engine history → (bound : ℕ)
-      → AreWorkUpTo (language_of l.fn.engine.labels) history (drop l.fn.engine.count (known_script (limit_of l.fn.reader) (is_finished l.fn.reader) pushed)) bound
-      → LeavesWork (language_of l.fn.engine.labels) l.engine (known_script (limit_of l.fn.reader) (is_finished l.fn.reader) pushed) l.fn.steps l.steps bound;
-  limit : limit_of l.reader ≡ limit_of l.fn.reader;
-  finished : is_finished l.reader ≡ is_finished l.fn.reader;
+  advanced : HasAdvanced l.fn.reader l.fn.engine l.fn.steps l.reader l.engine l.steps;
+  tallied : (bytes : List ℕ) (begun : ℕ) → IsTallied bytes l.fn.reader l.fn.engine l.fn.tally begun l.fn.steps → IsTallied bytes l.reader l.engine l.tally begun l.steps;
 }
 
 abbrev pub decreases-commands : goal.decreases-commands

@@ -1,13 +1,13 @@
 use Rattle.std.proofs.Common.{◌≡◌, false}
 use Rattle.ncq_report.specs.Loads.{parts_text}
-use Rattle.ncq_script.specs.ScriptReading.{is_finished}
-use Rattle.ncq_engine.specs.Languages.{language_of}
-use Rattle.ncq_run.specs.Session.{LoadedSoFar}
+use Rattle.ncq_script.specs.ScriptReading.{is_finished, limit_of}
+use Rattle.ncq_run.specs.Session.{IsTallied}
 use Rattle.ncq_run.proofs.load.tally_load.Given as goal
 
 abbrev pub invariant-loop-number : goal.invariant-loop-number
 invariant-loop-number g l = record {
-  so_far : LoadedSoFar (language_of l.fn.engine.labels) l.fn.limit (parts_text l.fn.n l.number) l.reader l.engine l.tally l.fn.steps l.steps;
+  so_far : IsTallied (parts_text l.fn.n l.number) l.reader l.engine l.tally l.fn.steps l.steps;
   labels : l.engine.labels ≡ l.fn.engine.labels;
+  limit : limit_of l.reader ≡ l.fn.limit;
   is_open : is_finished l.reader ≡ false;
 }

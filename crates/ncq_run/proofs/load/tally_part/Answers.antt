@@ -1,32 +1,38 @@
-use Rattle.std.proofs.Common.{◌++◌, arith, length-append}
-use Rattle.std.proofs.lemmas.Result.{on_ok_weaker}
-use Rattle.ncq_engine.specs.Languages.{language_of}
-use Rattle.ncq_run.proofs.TallyLaws.{on_ok_both, part_loaded, part_unread, part_work, stands_before}
+use Rattle.std.proofs.Common.{◌++◌, ◌∙◌, arith, length-append}
+use Rattle.std.proofs.lemmas.Result.{err_from_is_err_and, on_ok_weaker}
+use Rattle.ncq_run.proofs.Answered.{tallied_pushed, unpushed_through, up_to_pushed}
 use Rattle.ncq_run.proofs.load.tally_part.Goals as goal
 
-pub tally_commands-requires-clause-some : goal.tally_commands-requires-clause-some
-tally_commands-requires-clause-some g c =
+pub tally_commands-requires-clause-so_far : goal.tally_commands-requires-clause-so_far
+tally_commands-requires-clause-so_far g c =
     let so = c.requires.so_far in
+    let pushed = c.in_ok-push.ensures in
     let long = length-append so.0 c.args.part.now in
-    let short = so.3 in
-    (so.0 ++ c.args.part.now, c.in_ok-push.ensures.ok so.0 _ so.4.follows, omega (arith, long, short))
+    let short = so.2 in
+    (so.0 ++ c.args.part.now, so.1, omega (arith, long, short), tallied_pushed so.0 c.args.part.now _ _ c.args.engine.now c.requires.is_open pushed.open pushed.limit pushed.ok so.3)
 
-pub tally_commands-requires-clause-stands : goal.tally_commands-requires-clause-stands
-tally_commands-requires-clause-stands g c = let so = c.requires.so_far in stands_before (language_of c.args.engine.now.labels) so.1 so.0 _ _ _ _ _ so.4
+pub returns-clause-through : goal.returns-clause-through
+returns-clause-through g c bytes begun so =
+    let pushed = c.in_ok-push.ensures in
+    c.tally_commands.ensures.advances.through (bytes ++ c.args.part.now) begun (up_to_pushed bytes c.args.part.now _ _ c.args.engine.now c.requires.is_open pushed.open pushed.limit pushed.ok so)
 
-pub tally_commands-requires-clause-small : goal.tally_commands-requires-clause-small
-tally_commands-requires-clause-small g c = c.requires.so_far.4.small
+pub returns-clause-tallied : goal.returns-clause-tallied
+returns-clause-tallied g c = on_ok_weaker c.tally_commands.result
+    (λ tallied bytes begun so.
+    let pushed = c.in_ok-push.ensures in
+    tallied (bytes ++ c.args.part.now) begun (tallied_pushed bytes c.args.part.now _ _ c.args.engine.now c.requires.is_open pushed.open pushed.limit pushed.ok so))
+    c.tally_commands.ensures.tallied
 
-pub returns-clause-so_far : goal.returns-clause-so_far
-returns-clause-so_far g c = on_ok_weaker c.tally_commands.result
-    (λ p pushed limit begun so. part_loaded (language_of c.args.engine.now.labels) limit pushed c.args.part.now _ _ _ _ _ _ _ _ _ _ so (c.in_ok-push.ensures.ok pushed _ so.follows)
-    c.in_ok-push.ensures.limit c.in_ok-push.ensures.open c.tally_commands.ensures.limit p.0.0 p.0.1 p.1.0 p.1.1 c.tally_commands.ensures.work)
-    (on_ok_both _ _ _ (on_ok_both _ _ _ c.tally_commands.ensures.follows c.tally_commands.ensures.all) (on_ok_both _ _ _ c.tally_commands.ensures.tallied c.tally_commands.ensures.small))
+pub returns-clause-limit : goal.returns-clause-limit
+returns-clause-limit g c = c.tally_commands.ensures.advances.limit ∙ c.in_ok-push.ensures.limit
 
-pub returns-clause-work : goal.returns-clause-work
-returns-clause-work g c pushed limit begun so more =
-    part_work (language_of c.args.engine.now.labels) limit pushed c.args.part.now _ _ _ _ _ _ _ so (c.in_ok-push.ensures.ok pushed _ so.follows)
-    c.in_ok-push.ensures.limit c.in_ok-push.ensures.open c.tally_commands.ensures.work more
+pub returns-clause-is_open : goal.returns-clause-is_open
+returns-clause-is_open g c = c.tally_commands.ensures.advances.finished ∙ c.in_ok-push.ensures.open
 
-pub returns-in_err-push-clause-work : goal.returns-in_err-push-clause-work
-returns-in_err-push-clause-work g c pushed limit begun so more = part_unread (language_of c.args.engine.now.labels) limit pushed c.args.part.now _ _ _ _ _ so more
+pub returns-clause-labels : goal.returns-clause-labels
+returns-clause-labels g c = c.tally_commands.ensures.advances.labels
+
+pub returns-in_err-push-clause-through : goal.returns-in_err-push-clause-through
+returns-in_err-push-clause-through g c bytes begun so =
+    let p = err_from_is_err_and c.from_residual.result c.from_residual.ensures.1 in
+    unpushed_through bytes c.args.part.now _ _ c.args.engine.now c.requires.is_open c.in_err-push.ensures.err _ p.0 p.1 so

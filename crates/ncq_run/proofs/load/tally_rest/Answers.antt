@@ -1,23 +1,31 @@
+use Rattle.std.proofs.Common.{◌∙◌}
 use Rattle.std.proofs.lemmas.Result.{on_ok_weaker}
-use Rattle.ncq_engine.specs.Languages.{language_of}
-use Rattle.ncq_run.proofs.TallyLaws.{on_ok_both, rest_loaded, rest_worked, stands_before}
+use Rattle.ncq_run.proofs.Answered.{tallied_end, up_to_end}
 use Rattle.ncq_run.proofs.load.tally_rest.Goals as goal
 
-pub tally_commands-requires-clause-some : goal.tally_commands-requires-clause-some
-tally_commands-requires-clause-some g c = let so = c.requires.so_far in (so.0, c.finish.ensures.follows so.0 _ so.4.follows, so.3)
+pub tally_commands-requires-clause-so_far : goal.tally_commands-requires-clause-so_far
+tally_commands-requires-clause-so_far g c =
+    let so = c.requires.so_far in
+    let marked = c.finish.ensures in
+    (so.0, so.1, so.2, tallied_end so.0 _ _ c.args.engine.now c.requires.is_open marked.closed marked.limit marked.follows so.3)
 
-pub tally_commands-requires-clause-stands : goal.tally_commands-requires-clause-stands
-tally_commands-requires-clause-stands g c = let so = c.requires.so_far in stands_before (language_of c.args.engine.now.labels) so.1 so.0 _ _ _ _ _ so.4
-
-pub tally_commands-requires-clause-small : goal.tally_commands-requires-clause-small
-tally_commands-requires-clause-small g c = c.requires.so_far.4.small
+pub returns-clause-through : goal.returns-clause-through
+returns-clause-through g c bytes begun so =
+    let marked = c.finish.ensures in
+    c.tally_commands.ensures.advances.through bytes begun (up_to_end bytes _ _ c.args.engine.now c.requires.is_open marked.closed marked.limit marked.follows so)
 
 pub returns-clause-tallied : goal.returns-clause-tallied
 returns-clause-tallied g c = on_ok_weaker c.tally_commands.result
-    (λ p pushed limit begun so. rest_loaded (language_of c.args.engine.now.labels) limit pushed _ _ _ _ _ _ _ _ so (c.finish.ensures.follows pushed _ so.follows)
-    c.finish.ensures.limit c.finish.ensures.closed p.0 p.1)
-    (on_ok_both _ _ _ c.tally_commands.ensures.all c.tally_commands.ensures.tallied)
+    (λ tallied bytes begun so.
+    let marked = c.finish.ensures in
+    tallied bytes begun (tallied_end bytes _ _ c.args.engine.now c.requires.is_open marked.closed marked.limit marked.follows so))
+    c.tally_commands.ensures.tallied
 
-pub returns-clause-work : goal.returns-clause-work
-returns-clause-work g c pushed limit begun so =
-    rest_worked (language_of c.args.engine.now.labels) limit pushed _ _ _ _ _ _ _ so (c.finish.ensures.follows pushed _ so.follows) c.finish.ensures.limit c.finish.ensures.closed c.tally_commands.ensures.work
+pub returns-clause-limit : goal.returns-clause-limit
+returns-clause-limit g c = c.tally_commands.ensures.advances.limit ∙ c.finish.ensures.limit
+
+pub returns-clause-closed : goal.returns-clause-closed
+returns-clause-closed g c = c.tally_commands.ensures.advances.finished ∙ c.finish.ensures.closed
+
+pub returns-clause-labels : goal.returns-clause-labels
+returns-clause-labels g c = c.tally_commands.ensures.advances.labels

@@ -1,33 +1,40 @@
-use Rattle.std.proofs.Common.{◌++◌}
-use Rattle.std.proofs.lemmas.Result.{on_ok_weaker}
-use Rattle.ncq_engine.specs.Languages.{language_of}
-use Rattle.ncq_run.proofs.Outputs.{known_open, piece_written, piece_stands, piece_prefix, piece_proper, nothing_more}
-use Rattle.ncq_run.proofs.WorkLaws.{piece_work, unread_work}
+use Rattle.std.proofs.Common.{◌++◌, ◌∙◌, arith, length-append, refl}
+use Rattle.ncq_run.proofs.Answered.{answered_pushed, unpushed_through, unpushed_writes, up_to_pushed}
+use Rattle.ncq_run.proofs.SinkLaws.{sink_unwritten}
 use Rattle.ncq_run.proofs.session.answer_piece.Goals as goal
 
+pub answer_commands-requires-clause-so_far : goal.answer_commands-requires-clause-so_far
+answer_commands-requires-clause-so_far g c =
+    let so = c.requires.so_far in
+    let pushed = c.in-Ok.ensures in
+    let long = length-append so.0 c.args.piece.now in
+    let short = so.2 in
+    (so.0 ++ c.args.piece.now, so.1, omega (arith, long, short), up_to_pushed so.0 c.args.piece.now _ _ c.args.engine.now c.requires.is_open pushed.open pushed.limit pushed.ok so.3)
+
+pub returns-in-Ok-clause-through : goal.returns-in-Ok-clause-through
+returns-in-Ok-clause-through g c bytes begun so =
+    let pushed = c.in-Ok.ensures in
+    c.answer_commands.ensures.advances.through (bytes ++ c.args.piece.now) begun (up_to_pushed bytes c.args.piece.now _ _ c.args.engine.now c.requires.is_open pushed.open pushed.limit pushed.ok so)
+
 pub returns-in-Ok-clause-written : goal.returns-in-Ok-clause-written
-returns-in-Ok-clause-written g c = on_ok_weaker c.answer_commands.result
-    (λ h pushed f counted stands before was.
-    let e = known_open _ _ _ (pushed ++ c.args.piece.now) c.in-Ok.ensures.limit c.in-Ok.ensures.open in
-    let now = h _ _ (c.in-Ok.ensures.ok pushed _ f) stands in
-    (piece_written _ _ _ _ _ _ _ pushed _ counted was c.args.piece.now e now.0, piece_stands _ _ _ pushed c.args.piece.now _ _ counted e now.1))
-    c.answer_commands.ensures.written
+returns-in-Ok-clause-written g c bytes before begun so =
+    let pushed = c.in-Ok.ensures in
+    c.answer_commands.ensures.written (bytes ++ c.args.piece.now) before begun (answered_pushed bytes c.args.piece.now _ _ c.args.engine.now c.requires.is_open pushed.open pushed.limit pushed.ok so)
 
-pub returns-in-Ok-clause-no_memory : goal.returns-in-Ok-clause-no_memory
-returns-in-Ok-clause-no_memory g c failed pushed f counted stands before was more = piece_prefix _ _ _ _ _ _ _ pushed _ counted was c.args.piece.now more
-    (known_open _ _ _ (pushed ++ c.args.piece.now) c.in-Ok.ensures.limit c.in-Ok.ensures.open) (c.answer_commands.ensures.no_memory failed _ _ (c.in-Ok.ensures.ok pushed _ f) stands)
+pub returns-in-Ok-clause-limit : goal.returns-in-Ok-clause-limit
+returns-in-Ok-clause-limit g c = c.answer_commands.ensures.advances.limit ∙ c.in-Ok.ensures.limit
 
-pub returns-in-Ok-clause-write : goal.returns-in-Ok-clause-write
-returns-in-Ok-clause-write g c failed pushed f counted stands before was more = piece_proper _ _ _ _ _ _ _ pushed _ counted was c.args.piece.now more
-    (known_open _ _ _ (pushed ++ c.args.piece.now) c.in-Ok.ensures.limit c.in-Ok.ensures.open) (c.answer_commands.ensures.write failed _ _ (c.in-Ok.ensures.ok pushed _ f) stands)
+pub returns-in-Ok-clause-is_open : goal.returns-in-Ok-clause-is_open
+returns-in-Ok-clause-is_open g c = c.answer_commands.ensures.advances.finished ∙ c.in-Ok.ensures.open
 
-pub returns-in-Err-clause-no_memory : goal.returns-in-Err-clause-no_memory
-returns-in-Err-clause-no_memory g c failed pushed f counted stands before was more = nothing_more _ _ _ _ _ pushed c.args.piece.now more was
+pub returns-in-Ok-clause-labels : goal.returns-in-Ok-clause-labels
+returns-in-Ok-clause-labels g c = c.answer_commands.ensures.advances.labels
 
-pub returns-in-Ok-clause-work : goal.returns-in-Ok-clause-work
-returns-in-Ok-clause-work g c pushed f counted stands before was =
-    piece_work (language_of c.args.engine.now.labels) _ pushed before _ _ _ _ c.args.piece.now counted (known_open _ _ _ (pushed ++ c.args.piece.now) c.in-Ok.ensures.limit c.in-Ok.ensures.open) was
-    (c.answer_commands.ensures.work _ _ (c.in-Ok.ensures.ok pushed _ f) stands)
+pub returns-in-Err-clause-through : goal.returns-in-Err-clause-through
+returns-in-Err-clause-through g c bytes begun so = unpushed_through bytes c.args.piece.now _ _ c.args.engine.now c.requires.is_open c.in-Err.ensures.err _ _ refl so
 
-pub returns-in-Err-clause-work : goal.returns-in-Err-clause-work
-returns-in-Err-clause-work g c pushed f counted stands before was = unread_work (language_of c.args.engine.now.labels) _ pushed before c.args.piece.now _ was
+pub returns-in-Err-clause-written : goal.returns-in-Err-clause-written
+returns-in-Err-clause-written g c bytes before begun so = unpushed_writes bytes c.args.piece.now _ _ c.args.engine.now c.requires.is_open c.in-Err.ensures.err so
+
+pub returns-in-Err-clause-sink : goal.returns-in-Err-clause-sink
+returns-in-Err-clause-sink g c = sink_unwritten _ _ _ _ _ (omega arith) refl

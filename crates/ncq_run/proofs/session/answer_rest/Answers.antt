@@ -1,30 +1,28 @@
-use Rattle.std.proofs.lemmas.Result.{on_ok_weaker}
-use Rattle.ncq_engine.specs.Languages.{language_of}
-use Rattle.ncq_run.proofs.Outputs.{known_closed, rest_stands, rest_written, rest_prefix, rest_proper}
-use Rattle.ncq_run.proofs.WorkLaws.{rest_work}
+use Rattle.std.proofs.Common.{◌∙◌}
+use Rattle.ncq_run.proofs.Answered.{answered_end, up_to_end}
 use Rattle.ncq_run.proofs.session.answer_rest.Goals as goal
 
+pub answer_commands-requires-clause-so_far : goal.answer_commands-requires-clause-so_far
+answer_commands-requires-clause-so_far g c =
+    let so = c.requires.so_far in
+    let marked = c.finish.ensures in
+    (so.0, so.1, so.2, up_to_end so.0 _ _ c.args.engine.now c.requires.is_open marked.closed marked.limit marked.follows so.3)
+
+pub returns-clause-through : goal.returns-clause-through
+returns-clause-through g c bytes begun so =
+    let marked = c.finish.ensures in
+    c.answer_commands.ensures.advances.through bytes begun (up_to_end bytes _ _ c.args.engine.now c.requires.is_open marked.closed marked.limit marked.follows so)
+
 pub returns-clause-written : goal.returns-clause-written
-returns-clause-written g c = on_ok_weaker c.answer_commands.result
-    (λ h pushed f counted stands before was. rest_written _ _ _ _ _ _ _ pushed _ counted was
-    (known_closed _ _ _ pushed c.finish.ensures.limit c.finish.ensures.closed) (h _ _ (c.finish.ensures.follows pushed _ f) stands).0)
-    c.answer_commands.ensures.written
+returns-clause-written g c bytes before begun so =
+    let marked = c.finish.ensures in
+    c.answer_commands.ensures.written bytes before begun (answered_end bytes _ _ c.args.engine.now c.requires.is_open marked.closed marked.limit marked.follows so)
 
-pub returns-clause-no_memory : goal.returns-clause-no_memory
-returns-clause-no_memory g c failed pushed f counted stands before was = rest_prefix _ _ _ _ _ _ _ pushed _ counted was
-    (known_closed _ _ _ pushed c.finish.ensures.limit c.finish.ensures.closed) (c.answer_commands.ensures.no_memory failed _ _ (c.finish.ensures.follows pushed _ f) stands)
+pub returns-clause-limit : goal.returns-clause-limit
+returns-clause-limit g c = c.answer_commands.ensures.advances.limit ∙ c.finish.ensures.limit
 
-pub returns-clause-write : goal.returns-clause-write
-returns-clause-write g c failed pushed f counted stands before was = rest_proper _ _ _ _ _ _ _ pushed _ counted was
-    (known_closed _ _ _ pushed c.finish.ensures.limit c.finish.ensures.closed) (c.answer_commands.ensures.write failed _ _ (c.finish.ensures.follows pushed _ f) stands)
+pub returns-clause-closed : goal.returns-clause-closed
+returns-clause-closed g c = c.answer_commands.ensures.advances.finished ∙ c.finish.ensures.closed
 
-pub returns-clause-stands : goal.returns-clause-stands
-returns-clause-stands g c = on_ok_weaker c.answer_commands.result
-    (λ h pushed f counted stands. rest_stands _ _ _ pushed _ _ counted
-    (known_closed _ _ _ pushed c.finish.ensures.limit c.finish.ensures.closed) (h _ _ (c.finish.ensures.follows pushed _ f) stands).1)
-    c.answer_commands.ensures.written
-
-pub returns-clause-work : goal.returns-clause-work
-returns-clause-work g c pushed f counted stands before was =
-    rest_work (language_of c.args.engine.now.labels) _ pushed before _ _ _ _ counted (known_closed _ _ _ pushed c.finish.ensures.limit c.finish.ensures.closed) was
-    (c.answer_commands.ensures.work _ _ (c.finish.ensures.follows pushed _ f) stands)
+pub returns-clause-labels : goal.returns-clause-labels
+returns-clause-labels g c = c.answer_commands.ensures.advances.labels

@@ -4,13 +4,22 @@ use Rattle.ncq_engine.specs.Languages.{language_of}
 use Rattle.ncq_words.specs.Forms.{texts_of}
 use Rattle.ncq_words.specs.Forms.Form.{run, alone, load}
 use Rattle.ncq_run.specs.Limits.{longest_line, longest_script}
-use Rattle.ncq_run.specs.Status.{StandsAs, WorksAs, is_load, told}
+use Rattle.ncq_run.specs.Status.{StandsAs, WorksAs, is_load, outside}
 use Rattle.ncq_run.specs.declared.session.Status.TheVariants.{NoMemory}
 use Rattle.ncq_run.proofs.FormLaws.{three_same, ended_for, if_none, load_is, load_never_reads, load_stands, no_work, nothing_stands, not_none, not_usage, not_usage_load, nothing_yet, of_any, of_form, of_none, reads}
 use Rattle.ncq_run.proofs.session.run.Goals as goal
 
+pub serve-requires-clause-fresh : goal.serve-requires-clause-fresh
+serve-requires-clause-fresh g c = (c.requires.stands, c.requires.fresh)
+
+pub serve-requires-in-Ok-Alone-clause-fresh : goal.serve-requires-in-Ok-Alone-clause-fresh
+serve-requires-in-Ok-Alone-clause-fresh g c = (c.requires.stands, c.requires.fresh)
+
+pub load-requires-clause-fresh : goal.load-requires-clause-fresh
+load-requires-clause-fresh g c = (c.requires.stands, c.requires.fresh)
+
 pub returns-in-Ok-Run-clause-usage : goal.returns-in-Ok-Run-clause-usage
-returns-in-Ok-Run-clause-usage g c = λ is. absurd (not_usage _ _ _ _ _ _ _ c.serve.ensures.ended is)
+returns-in-Ok-Run-clause-usage g c = λ is. absurd (not_usage _ _ _ _ _ _ _ c.serve.ensures.over.ended is)
 
 pub returns-in-Ok-Run-clause-no_form : goal.returns-in-Ok-Run-clause-no_form
 returns-in-Ok-Run-clause-no_form g c = not_none _ run _ (rw c.in-Ok-Run.field-0-is at c.in-Ok-Run.ensures.form)
@@ -19,16 +28,16 @@ pub returns-in-Ok-Run-clause-untouched : goal.returns-in-Ok-Run-clause-untouched
 returns-in-Ok-Run-clause-untouched g c = not_none _ run _ (rw c.in-Ok-Run.field-0-is at c.in-Ok-Run.ensures.form)
 
 pub returns-in-Ok-Run-clause-ended : goal.returns-in-Ok-Run-clause-ended
-returns-in-Ok-Run-clause-ended g c = of_form _ run _ (rw c.in-Ok-Run.field-0-is at c.in-Ok-Run.ensures.form) c.serve.ensures.ended
+returns-in-Ok-Run-clause-ended g c = of_form _ run _ (rw c.in-Ok-Run.field-0-is at c.in-Ok-Run.ensures.form) c.serve.ensures.over.ended
 
 pub returns-in-Ok-Run-clause-unread : goal.returns-in-Ok-Run-clause-unread
 returns-in-Ok-Run-clause-unread g c = of_form _ run _ (rw c.in-Ok-Run.field-0-is at c.in-Ok-Run.ensures.form) (reads run refl _)
 
 pub returns-in-Ok-Run-clause-stands : goal.returns-in-Ok-Run-clause-stands
-returns-in-Ok-Run-clause-stands g c = of_form _ run _ (rw c.in-Ok-Run.field-0-is at c.in-Ok-Run.ensures.form) c.serve.ensures.stands
+returns-in-Ok-Run-clause-stands g c = of_form _ run _ (rw c.in-Ok-Run.field-0-is at c.in-Ok-Run.ensures.form) c.serve.ensures.over.stands
 
 pub returns-in-Ok-Run-clause-work : goal.returns-in-Ok-Run-clause-work
-returns-in-Ok-Run-clause-work g c = of_form _ run _ (rw c.in-Ok-Run.field-0-is at c.in-Ok-Run.ensures.form) c.serve.ensures.work
+returns-in-Ok-Run-clause-work g c = of_form _ run _ (rw c.in-Ok-Run.field-0-is at c.in-Ok-Run.ensures.form) c.serve.ensures.over.work
 
 pub returns-in-Ok-Run-clause-within : goal.returns-in-Ok-Run-clause-within
 returns-in-Ok-Run-clause-within g c = c.serve.ensures.within
@@ -40,7 +49,7 @@ pub returns-in-Ok-Run-clause-sure_sink : goal.returns-in-Ok-Run-clause-sure_sink
 returns-in-Ok-Run-clause-sure_sink g c = c.serve.ensures.sure_sink
 
 pub returns-in-Ok-Alone-clause-usage : goal.returns-in-Ok-Alone-clause-usage
-returns-in-Ok-Alone-clause-usage g c = λ is. absurd (not_usage _ _ _ _ _ _ _ c.serve-in-Ok-Alone.ensures.ended is)
+returns-in-Ok-Alone-clause-usage g c = λ is. absurd (not_usage _ _ _ _ _ _ _ c.serve-in-Ok-Alone.ensures.over.ended is)
 
 pub returns-in-Ok-Alone-clause-no_form : goal.returns-in-Ok-Alone-clause-no_form
 returns-in-Ok-Alone-clause-no_form g c = not_none _ (alone c.in-Ok-Alone.name.now) _ (rw c.in-Ok-Alone.field-0-is at c.in-Ok-Alone.ensures.form)
@@ -50,16 +59,16 @@ returns-in-Ok-Alone-clause-untouched g c = not_none _ (alone c.in-Ok-Alone.name.
 
 pub returns-in-Ok-Alone-clause-ended : goal.returns-in-Ok-Alone-clause-ended
 returns-in-Ok-Alone-clause-ended g c = of_form _ (alone c.in-Ok-Alone.name.now) _ (rw c.in-Ok-Alone.field-0-is at c.in-Ok-Alone.ensures.form)
-    (ended_for (language_of c.args.engine.now.labels) c.in-Ok-Alone.name.now _ _ _ _ _ _ c.as_bytes.ensures.value c.serve-in-Ok-Alone.ensures.ended)
+    (ended_for (language_of c.args.engine.now.labels) c.in-Ok-Alone.name.now _ _ _ _ _ _ c.as_bytes.ensures.value c.serve-in-Ok-Alone.ensures.over.ended)
 
 pub returns-in-Ok-Alone-clause-unread : goal.returns-in-Ok-Alone-clause-unread
 returns-in-Ok-Alone-clause-unread g c = of_form _ (alone c.in-Ok-Alone.name.now) _ (rw c.in-Ok-Alone.field-0-is at c.in-Ok-Alone.ensures.form) (reads (alone c.in-Ok-Alone.name.now) refl _)
 
 pub returns-in-Ok-Alone-clause-stands : goal.returns-in-Ok-Alone-clause-stands
-returns-in-Ok-Alone-clause-stands g c = of_form _ (alone c.in-Ok-Alone.name.now) _ (rw c.in-Ok-Alone.field-0-is at c.in-Ok-Alone.ensures.form) c.serve-in-Ok-Alone.ensures.stands
+returns-in-Ok-Alone-clause-stands g c = of_form _ (alone c.in-Ok-Alone.name.now) _ (rw c.in-Ok-Alone.field-0-is at c.in-Ok-Alone.ensures.form) c.serve-in-Ok-Alone.ensures.over.stands
 
 pub returns-in-Ok-Alone-clause-work : goal.returns-in-Ok-Alone-clause-work
-returns-in-Ok-Alone-clause-work g c = of_form _ (alone c.in-Ok-Alone.name.now) _ (rw c.in-Ok-Alone.field-0-is at c.in-Ok-Alone.ensures.form) c.serve-in-Ok-Alone.ensures.work
+returns-in-Ok-Alone-clause-work g c = of_form _ (alone c.in-Ok-Alone.name.now) _ (rw c.in-Ok-Alone.field-0-is at c.in-Ok-Alone.ensures.form) c.serve-in-Ok-Alone.ensures.over.work
 
 pub returns-in-Ok-Alone-clause-within : goal.returns-in-Ok-Alone-clause-within
 returns-in-Ok-Alone-clause-within g c = c.serve-in-Ok-Alone.ensures.within
@@ -78,8 +87,8 @@ load-requires-clause-few g c = (load_is (texts_of c.args.words.now) c.in-Ok-Load
 
 pub returns-in-Ok-Load-clause-usage : goal.returns-in-Ok-Load-clause-usage
 returns-in-Ok-Load-clause-usage g c = λ is. absurd (not_usage_load (language_of c.args.engine.now.labels) longest_line c.in-Ok-Load.n
-    (told (g.I.Source.left c.args.input.now) (g.O.Sink.held c.args.output.now) (g.I.Source.given c.args.input.now) (g.I.Source.faults c.args.input.now) (g.O.Sink.faults c.args.output.now))
-    (told (g.I.Source.left c.args.input.now) (g.O.Sink.held c.load.new.output) (g.I.Source.given c.args.input.now) (g.I.Source.faults c.args.input.now) (g.O.Sink.faults c.load.new.output)) c.load.result (c.load.ensures.ended (g.I.Source.left c.args.input.now) (g.I.Source.left c.args.input.now) (g.I.Source.given c.args.input.now) (g.I.Source.given c.args.input.now) (g.I.Source.faults c.args.input.now) (g.I.Source.faults c.args.input.now)) is)
+    (outside (g.I.Source.left c.args.input.now) (g.O.Sink.held c.args.output.now) (g.I.Source.given c.args.input.now) (g.I.Source.faults c.args.input.now) (g.O.Sink.faults c.args.output.now))
+    (outside (g.I.Source.left c.args.input.now) (g.O.Sink.held c.load.new.output) (g.I.Source.given c.args.input.now) (g.I.Source.faults c.args.input.now) (g.O.Sink.faults c.load.new.output)) c.load.result (c.load.ensures.ended (g.I.Source.left c.args.input.now) (g.I.Source.left c.args.input.now) (g.I.Source.given c.args.input.now) (g.I.Source.given c.args.input.now) (g.I.Source.faults c.args.input.now) (g.I.Source.faults c.args.input.now)) is)
 
 pub returns-in-Ok-Load-clause-no_form : goal.returns-in-Ok-Load-clause-no_form
 returns-in-Ok-Load-clause-no_form g c = not_none _ (load c.in-Ok-Load.n) _ (rw c.in-Ok-Load.field-0-is at c.in-Ok-Load.ensures.form)
@@ -102,8 +111,8 @@ returns-in-Ok-Load-clause-work g c = of_form _ (load c.in-Ok-Load.n) _ (rw c.in-
 
 pub returns-in-Ok-Load-clause-sure_source : goal.returns-in-Ok-Load-clause-sure_source
 returns-in-Ok-Load-clause-sure_source g c = load_never_reads (language_of c.args.engine.now.labels) longest_line c.in-Ok-Load.n
-    (told (g.I.Source.left c.args.input.now) (g.O.Sink.held c.args.output.now) (g.I.Source.given c.args.input.now) (g.I.Source.faults c.args.input.now) (g.O.Sink.faults c.args.output.now))
-    (told (g.I.Source.left c.args.input.now) (g.O.Sink.held c.load.new.output) (g.I.Source.given c.args.input.now) (g.I.Source.faults c.args.input.now) (g.O.Sink.faults c.load.new.output)) c.load.result _ (c.load.ensures.ended (g.I.Source.left c.args.input.now) (g.I.Source.left c.args.input.now) (g.I.Source.given c.args.input.now) (g.I.Source.given c.args.input.now) (g.I.Source.faults c.args.input.now) (g.I.Source.faults c.args.input.now))
+    (outside (g.I.Source.left c.args.input.now) (g.O.Sink.held c.args.output.now) (g.I.Source.given c.args.input.now) (g.I.Source.faults c.args.input.now) (g.O.Sink.faults c.args.output.now))
+    (outside (g.I.Source.left c.args.input.now) (g.O.Sink.held c.load.new.output) (g.I.Source.given c.args.input.now) (g.I.Source.faults c.args.input.now) (g.O.Sink.faults c.load.new.output)) c.load.result _ (c.load.ensures.ended (g.I.Source.left c.args.input.now) (g.I.Source.left c.args.input.now) (g.I.Source.given c.args.input.now) (g.I.Source.given c.args.input.now) (g.I.Source.faults c.args.input.now) (g.I.Source.faults c.args.input.now))
 
 pub returns-in-Ok-Load-clause-sure_sink : goal.returns-in-Ok-Load-clause-sure_sink
 returns-in-Ok-Load-clause-sure_sink g c = c.load.ensures.sure_sink
@@ -148,3 +157,18 @@ returns-in-Err-OutOfMemory-clause-stands g c = of_any _ (λ form. StandsAs form 
 pub returns-in-Err-OutOfMemory-clause-work : goal.returns-in-Err-OutOfMemory-clause-work
 returns-in-Err-OutOfMemory-clause-work g c = of_any _ (λ form. WorksAs form (language_of c.args.engine.now.labels) longest_line (g.I.Source.left c.args.input.now) c.args.steps.now c.args.steps.now)
     (λ form. no_work form (language_of c.args.engine.now.labels) longest_line (g.I.Source.left c.args.input.now) c.args.steps.now)
+
+pub returns-in-Ok-Run-clause-no_steps : goal.returns-in-Ok-Run-clause-no_steps
+returns-in-Ok-Run-clause-no_steps g c = not_none _ run _ (rw c.in-Ok-Run.field-0-is at c.in-Ok-Run.ensures.form)
+
+pub returns-in-Ok-Alone-clause-no_steps : goal.returns-in-Ok-Alone-clause-no_steps
+returns-in-Ok-Alone-clause-no_steps g c = not_none _ (alone c.in-Ok-Alone.name.now) _ (rw c.in-Ok-Alone.field-0-is at c.in-Ok-Alone.ensures.form)
+
+pub returns-in-Ok-Load-clause-no_steps : goal.returns-in-Ok-Load-clause-no_steps
+returns-in-Ok-Load-clause-no_steps g c = not_none _ (load c.in-Ok-Load.n) _ (rw c.in-Ok-Load.field-0-is at c.in-Ok-Load.ensures.form)
+
+pub returns-in-Err-Usage-clause-no_steps : goal.returns-in-Err-Usage-clause-no_steps
+returns-in-Err-Usage-clause-no_steps g c = if_none _ _ refl
+
+pub returns-in-Err-OutOfMemory-clause-no_steps : goal.returns-in-Err-OutOfMemory-clause-no_steps
+returns-in-Err-OutOfMemory-clause-no_steps g c = if_none _ _ refl

@@ -5,54 +5,54 @@ use Rattle.std.specs.Prelude.{None}
 use Rattle.std.specs.Str.{bytes_eq}
 use Rattle.std.specs.BTreeMap.{insert_entry}
 use Rattle.std.specs.Ordering.{nat_cmp}
-use Rattle.ncq_book.specs.declared.member.Member.{Member}
+use Rattle.ncq_book.specs.declared.subscription.Subscription.{Subscription}
 use Rattle.ncq_book.specs.Books.{BookState, is_named}
 use Rattle.ncq_book.specs.Kept.{IsEnrolled, IsStruck}
 use Rattle.ncq_book.proofs.KeptLaws.{above_all, free_name, kept_alike, put, put_shown, put_back}
 use Rattle.ncq_book.proofs.book.Book.add.Goals as goal
 
-above_in : (inside now : BookState) (m : Member) → inside ≡ now → AllByRecursion (λ n. n.install < m.install) now.members → AllByRecursion (λ n. n.install < m.install) inside.members
-above_in inside now m is above = subst (λ (b : BookState). AllByRecursion (λ n. n.install < m.install) b.members) (sym is) above
+above_in : (inside now : BookState) (m : Subscription) → inside ≡ now → AllByRecursion (λ n. n.install < m.install) now.subscriptions → AllByRecursion (λ n. n.install < m.install) inside.subscriptions
+above_in inside now m is above = subst (λ (b : BookState). AllByRecursion (λ n. n.install < m.install) b.subscriptions) (sym is) above
 
-free_in : (inside now : BookState) (m : Member) → inside ≡ now → list_any (is_named m.name) now.members ≡ false → list_any (is_named m.name) inside.members ≡ false
-free_in inside now m is free = ap (λ (b : BookState). list_any (is_named m.name) b.members) is ∙ free
+free_in : (inside now : BookState) (m : Subscription) → inside ≡ now → list_any (is_named m.name) now.subscriptions ≡ false → list_any (is_named m.name) inside.subscriptions ≡ false
+free_in inside now m is free = ap (λ (b : BookState). list_any (is_named m.name) b.subscriptions) is ∙ free
 
 pub enroll-requires-clause-above : goal.enroll-requires-clause-above
 enroll-requires-clause-above c =
-    subst (λ (m : Member). AllByRecursion (λ e. e.0 < m.install) c.self.inside.finders.calendar.entries) (sym (c.get.ensures ∙ c.in_ok-held.ensures))
-    (above_all c.self.inside.members.entries _ c.self.inside.finders c.self.invariant c.args.member.install (above_in _ _ c.args.member c.self.view_is c.requires.above))
+    subst (λ (m : Subscription). AllByRecursion (λ e. e.0 < m.install) c.self.inside.finders.calendar.entries) (sym (c.get.ensures ∙ c.in_ok-held.ensures))
+    (above_all c.self.inside.subscriptions.entries _ c.self.inside.finders c.self.invariant c.args.subscription.install (above_in _ _ c.args.subscription c.self.view_is c.requires.above))
 
 pub enroll-requires-clause-free : goal.enroll-requires-clause-free
 enroll-requires-clause-free c =
-    subst (λ (m : Member). lookup (bytes_eq m.name) c.self.inside.finders.names ≡ None) (sym (c.get.ensures ∙ c.in_ok-held.ensures))
-    (free_name c.self.inside.members.entries _ c.self.inside.finders c.self.invariant c.args.member.name (free_in _ _ c.args.member c.self.view_is c.requires.free))
+    subst (λ (m : Subscription). lookup (bytes_eq m.name) c.self.inside.finders.names ≡ None) (sym (c.get.ensures ∙ c.in_ok-held.ensures))
+    (free_name c.self.inside.subscriptions.entries _ c.self.inside.finders c.self.invariant c.args.subscription.name (free_in _ _ c.args.subscription c.self.view_is c.requires.free))
 
 pub invariant_of-self : goal.invariant_of-self
 invariant_of-self c =
-    kept_alike c.self.inside.members.entries _ c.self.inside.finders c.enroll.new.self c.self.invariant c.in_err-enroll.ensures.err
+    kept_alike c.self.inside.subscriptions.entries _ c.self.inside.finders c.enroll.new.self c.self.invariant c.in_err-enroll.ensures.err
 
 pub invariant_of-self-in-Ok : goal.invariant_of-self-in-Ok
 invariant_of-self-in-Ok c =
-    put c.self.inside.members.entries c.self.inside.finders c.enroll.new.self c.self.invariant c.args.member
-    (above_in _ _ c.args.member c.self.view_is c.requires.above) (free_in _ _ c.args.member c.self.view_is c.requires.free)
+    put c.self.inside.subscriptions.entries c.self.inside.finders c.enroll.new.self c.self.invariant c.args.subscription
+    (above_in _ _ c.args.subscription c.self.view_is c.requires.above) (free_in _ _ c.args.subscription c.self.view_is c.requires.free)
     (subst (λ m. IsEnrolled m c.self.inside.finders c.enroll.new.self) (c.get.ensures ∙ c.in_ok-held.ensures) c.in_ok-enroll.ensures.ok) c.insert.new.self.entries
-    (c.in-Ok.ensures.entries ∙ ap (insert_entry nat_cmp c.self.inside.members.entries c.args.member.install) c.in_ok-held.ensures)
+    (c.in-Ok.ensures.entries ∙ ap (insert_entry nat_cmp c.self.inside.subscriptions.entries c.args.subscription.install) c.in_ok-held.ensures)
 
 pub returns-in-Ok-clause-ok : goal.returns-in-Ok-clause-ok
 returns-in-Ok-clause-ok c =
     let enrolled = subst (λ m. IsEnrolled m c.self.inside.finders c.enroll.new.self) (c.get.ensures ∙ c.in_ok-held.ensures) c.in_ok-enroll.ensures.ok in
     let is =
-    put_shown c.self.inside.members.entries c.self.inside.finders c.enroll.new.self c.self.invariant c.args.member
-    (above_in _ _ c.args.member c.self.view_is c.requires.above) (free_in _ _ c.args.member c.self.view_is c.requires.free)
+    put_shown c.self.inside.subscriptions.entries c.self.inside.finders c.enroll.new.self c.self.invariant c.args.subscription
+    (above_in _ _ c.args.subscription c.self.view_is c.requires.above) (free_in _ _ c.args.subscription c.self.view_is c.requires.free)
     enrolled c.insert.new.self.entries
-    (c.in-Ok.ensures.entries ∙ ap (insert_entry nat_cmp c.self.inside.members.entries c.args.member.install) c.in_ok-held.ensures) in
-    (λ i. record { members = is i; instant = (enrolled.calendar i).instant })
-    ∙ ap (λ (b : BookState). record b { members = b.members ++ c.args.member ∷ [] }) c.self.view_is
+    (c.in-Ok.ensures.entries ∙ ap (insert_entry nat_cmp c.self.inside.subscriptions.entries c.args.subscription.install) c.in_ok-held.ensures) in
+    (λ i. record { subscriptions = is i; instant = (enrolled.calendar i).instant })
+    ∙ ap (λ (b : BookState). record b { subscriptions = b.subscriptions ++ c.args.subscription ∷ [] }) c.self.view_is
 
 pub invariant_of-self-in-Err : goal.invariant_of-self-in-Err
 invariant_of-self-in-Err c =
-    put_back c.self.inside.members.entries c.self.inside.finders c.enroll.new.self c.self.invariant c.args.member
-    (above_in _ _ c.args.member c.self.view_is c.requires.above) (free_in _ _ c.args.member c.self.view_is c.requires.free)
+    put_back c.self.inside.subscriptions.entries c.self.inside.finders c.enroll.new.self c.self.invariant c.args.subscription
+    (above_in _ _ c.args.subscription c.self.view_is c.requires.above) (free_in _ _ c.args.subscription c.self.view_is c.requires.free)
     (subst (λ m. IsEnrolled m c.self.inside.finders c.enroll.new.self) (c.get.ensures ∙ c.in_ok-held.ensures) c.in_ok-enroll.ensures.ok)
     c.insert.new.self.entries c.strike.new.self
     (subst (λ m. IsStruck m c.enroll.new.self c.strike.new.self) (c.get-in-Err.ensures ∙ ap (λ p. p.1) c.in-Err.ensures.value_returned ∙ c.in_ok-held.ensures) c.strike.ensures) c.in-Err.ensures.err

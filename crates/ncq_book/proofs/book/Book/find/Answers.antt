@@ -8,4 +8,4 @@ pub returns : goal.returns
 returns c =
     c.find.ensures
     ∙ c.self.invariant.named c.args.name.now
-    ∙ ap (λ b. option_map (λ m. m.install) (find (is_named c.args.name.now) b.members)) c.self.view_is
+    ∙ ap (λ b. option_map (λ m. m.install) (find (is_named c.args.name.now) b.subscriptions)) c.self.view_is

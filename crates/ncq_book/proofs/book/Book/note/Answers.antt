@@ -3,7 +3,7 @@ use Rattle.std.specs.Map.{set_value}
 use Rattle.std.specs.BTreeMap.{is_at}
 use Rattle.std.specs.Ordering.{nat_cmp}
 use Rattle.ncq_book.specs.Books.{BookState, with_note}
-use Rattle.ncq_book.specs.Kept.{members_in, IsKept}
+use Rattle.ncq_book.specs.Kept.{subscriptions_in, IsKept}
 use Rattle.ncq_book.specs.contracts.book.Book.{the_view}
 use Rattle.ncq_book.proofs.NoteLaws.{noted_kept, noted_shown, noted_nobody}
 use Rattle.ncq_book.proofs.book.Book.note.Goals as goal
@@ -14,28 +14,28 @@ invariant_of-self c =
     elim c.match-get_mut.branch [
       | in-Some w ↦
           let written = w.note.new.self in
-          let set = (c.get_mut.follows.holds written).0 ∙ ap (set_value (is_at (nat_cmp c.args.install)) c.self.inside.members.entries) w.note.ensures in
-          subst (λ b. IsKept (members_in b.members.entries) b.members.entries b.finders) (sym w.self-inside-is)
-          (noted_kept c.args.install c.args.number c.self.inside.members.entries c.self.inside.finders c.self.invariant (c.get_mut.follows.lender written).entries w.in-Some.held.now
+          let set = (c.get_mut.follows.holds written).0 ∙ ap (set_value (is_at (nat_cmp c.args.install)) c.self.inside.subscriptions.entries) w.note.ensures in
+          subst (λ b. IsKept (subscriptions_in b.subscriptions.entries) b.subscriptions.entries b.finders) (sym w.self-inside-is)
+          (noted_kept c.args.install c.args.number c.self.inside.subscriptions.entries c.self.inside.finders c.self.invariant (c.get_mut.follows.lender written).entries w.in-Some.held.now
           (sym w.in-Some.ensures.value) set)
       | in_default w ↦
-          subst (λ b. IsKept (members_in b.members.entries) b.members.entries b.finders)
-          (sym (w.self-inside-is ∙ (λ i. record { members = c.get_mut.follows.holds-at-none i; finders = c.self.inside.finders }))) c.self.invariant
+          subst (λ b. IsKept (subscriptions_in b.subscriptions.entries) b.subscriptions.entries b.finders)
+          (sym (w.self-inside-is ∙ (λ i. record { subscriptions = c.get_mut.follows.holds-at-none i; finders = c.self.inside.finders }))) c.self.invariant
     ]
 
 pub returns : goal.returns
 returns c =
-    let turned = ap (λ (b : BookState). record b { members = map (with_note c.args.install c.args.number) b.members }) c.self.view_is in
+    let turned = ap (λ (b : BookState). record b { subscriptions = map (with_note c.args.install c.args.number) b.subscriptions }) c.self.view_is in
     elim c.match-get_mut.branch [
       | in-Some w ↦
           let written = w.note.new.self in
-          let set = (c.get_mut.follows.holds written).0 ∙ ap (set_value (is_at (nat_cmp c.args.install)) c.self.inside.members.entries) w.note.ensures in
+          let set = (c.get_mut.follows.holds written).0 ∙ ap (set_value (is_at (nat_cmp c.args.install)) c.self.inside.subscriptions.entries) w.note.ensures in
           let is =
-          noted_shown c.args.install c.args.number c.self.inside.members.entries c.self.inside.finders c.self.invariant (c.get_mut.follows.lender written).entries w.in-Some.held.now
+          noted_shown c.args.install c.args.number c.self.inside.subscriptions.entries c.self.inside.finders c.self.invariant (c.get_mut.follows.lender written).entries w.in-Some.held.now
           (sym w.in-Some.ensures.value) set in
-          ap the_view w.self-inside-is ∙ (λ i. record { members = is i; instant = c.self.inside.finders.calendar.instant }) ∙ turned
+          ap the_view w.self-inside-is ∙ (λ i. record { subscriptions = is i; instant = c.self.inside.finders.calendar.instant }) ∙ turned
       | in_default w ↦
-          let is = noted_nobody c.args.install c.args.number c.self.inside.members.entries c.self.inside.finders c.self.invariant (sym w.in_default.ensures.value) in
-          ap the_view (w.self-inside-is ∙ (λ i. record { members = c.get_mut.follows.holds-at-none i; finders = c.self.inside.finders }))
-          ∙ (λ i. record { members = is i; instant = c.self.inside.finders.calendar.instant }) ∙ turned
+          let is = noted_nobody c.args.install c.args.number c.self.inside.subscriptions.entries c.self.inside.finders c.self.invariant (sym w.in_default.ensures.value) in
+          ap the_view (w.self-inside-is ∙ (λ i. record { subscriptions = c.get_mut.follows.holds-at-none i; finders = c.self.inside.finders }))
+          ∙ (λ i. record { subscriptions = is i; instant = c.self.inside.finders.calendar.instant }) ∙ turned
     ]

@@ -1,38 +1,38 @@
 use Rattle.std.proofs.Common.{◌∙◌, ap, sym, subst, not}
 use Rattle.std.specs.Prelude.{Some}
 use Rattle.std.specs.List.{filter}
-use Rattle.ncq_book.specs.Books.{BookState, is_of, member_of}
+use Rattle.ncq_book.specs.Books.{BookState, is_of, subscription_of}
 use Rattle.ncq_book.specs.Kept.{IsStruck}
-use Rattle.ncq_book.proofs.MemberLaws.{get_is}
+use Rattle.ncq_book.proofs.SubscriptionLaws.{get_is}
 use Rattle.ncq_book.proofs.KeptLaws.{taken, taken_shown}
 use Rattle.ncq_book.proofs.book.Book.take.Goals as goal
 
 pub invariant_of-self-2 : goal.invariant_of-self-2
 invariant_of-self-2 c =
-    taken c.self.inside.members.entries c.remove.new.self.entries c.self.inside.finders c.self.invariant c.args.install c.remove.ensures.entries c.strike.new.self c.in_ok-held.held (sym c.in_ok-held.ensures.value)
+    taken c.self.inside.subscriptions.entries c.remove.new.self.entries c.self.inside.finders c.self.invariant c.args.install c.remove.ensures.entries c.strike.new.self c.in_ok-held.held (sym c.in_ok-held.ensures.value)
     (subst (λ m. IsStruck m c.self.inside.finders c.strike.new.self) c.get.ensures c.strike.ensures)
 
-pub returns-clause-members : goal.returns-clause-members
-returns-clause-members c =
-    let is = taken_shown c.self.inside.members.entries c.remove.new.self.entries c.self.inside.finders c.self.invariant c.args.install c.remove.ensures.entries in
-    (λ i. record { members = is i; instant = (c.strike.ensures.calendar i).instant })
-    ∙ ap (λ (b : BookState). record b { members = filter (λ m. not (is_of c.args.install m)) b.members }) c.self.view_is
+pub returns-clause-subscriptions : goal.returns-clause-subscriptions
+returns-clause-subscriptions c =
+    let is = taken_shown c.self.inside.subscriptions.entries c.remove.new.self.entries c.self.inside.finders c.self.invariant c.args.install c.remove.ensures.entries in
+    (λ i. record { subscriptions = is i; instant = (c.strike.ensures.calendar i).instant })
+    ∙ ap (λ (b : BookState). record b { subscriptions = filter (λ m. not (is_of c.args.install m)) b.subscriptions }) c.self.view_is
 
-pub returns-in_err-held-clause-members : goal.returns-in_err-held-clause-members
-returns-in_err-held-clause-members c =
-    let is = taken_shown c.self.inside.members.entries c.remove.new.self.entries c.self.inside.finders c.self.invariant c.args.install c.remove.ensures.entries in
-    (λ i. record { members = is i; instant = c.self.inside.finders.calendar.instant })
-    ∙ ap (λ (b : BookState). record b { members = filter (λ m. not (is_of c.args.install m)) b.members }) c.self.view_is
+pub returns-in_err-held-clause-subscriptions : goal.returns-in_err-held-clause-subscriptions
+returns-in_err-held-clause-subscriptions c =
+    let is = taken_shown c.self.inside.subscriptions.entries c.remove.new.self.entries c.self.inside.finders c.self.invariant c.args.install c.remove.ensures.entries in
+    (λ i. record { subscriptions = is i; instant = c.self.inside.finders.calendar.instant })
+    ∙ ap (λ (b : BookState). record b { subscriptions = filter (λ m. not (is_of c.args.install m)) b.subscriptions }) c.self.view_is
 
 pub returns-clause-taken : goal.returns-clause-taken
 returns-clause-taken c =
     ap Some c.into_inner.ensures
     ∙ c.in_ok-held.ensures.value
-    ∙ get_is c.self.inside.members.entries _ c.args.install c.self.invariant.numbered
-    ∙ ap (λ b. member_of c.args.install b.members) c.self.view_is
+    ∙ get_is c.self.inside.subscriptions.entries _ c.args.install c.self.invariant.numbered
+    ∙ ap (λ b. subscription_of c.args.install b.subscriptions) c.self.view_is
 
 pub returns-in_err-held-clause-taken : goal.returns-in_err-held-clause-taken
 returns-in_err-held-clause-taken c =
     c.from_residual.ensures ∙ c.in_err-held.ensures.value
-    ∙ get_is c.self.inside.members.entries _ c.args.install c.self.invariant.numbered
-    ∙ ap (λ b. member_of c.args.install b.members) c.self.view_is
+    ∙ get_is c.self.inside.subscriptions.entries _ c.args.install c.self.invariant.numbered
+    ∙ ap (λ b. subscription_of c.args.install b.subscriptions) c.self.view_is

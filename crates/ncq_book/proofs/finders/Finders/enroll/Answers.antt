@@ -8,7 +8,7 @@ use Rattle.ncq_book.proofs.finders.Finders.enroll.Goals as goal
 
 pub returns-then-is_err-2-clause-err : goal.returns-then-is_err-2-clause-err
 returns-then-is_err-2-clause-err c =
-    let m = c.args.member.now in
+    let m = c.args.subscription.now in
     let old = c.args.self.now in
     let put = at_ok c.add.result (sym c.is_err.ensures.value ∙ c.if-is_err.false) c.add.ensures.ok in
     record {
@@ -17,5 +17,5 @@ returns-then-is_err-2-clause-err c =
           c.remove.ensures
           ∙ (λ i. record (put i) { entries = remove_entry (is_at (nat_cmp m.install)) (put i).entries })
           ∙ (λ i. record old.calendar { entries = entry_gone m.install m.timing old.calendar.entries c.requires.above i });
-      watchers = at_err c.add-then-member-eq0.result (sym c.is_err-then-member-eq0.ensures.value ∙ c.if-is_err-2.true) c.add-then-member-eq0.ensures.err;
+      watchers = at_err c.add-then-subscription-eq0.result (sym c.is_err-then-subscription-eq0.ensures.value ∙ c.if-is_err-2.true) c.add-then-subscription-eq0.ensures.err;
     }

@@ -2,7 +2,7 @@ use Rattle.std.proofs.Common.{◌≡◌, cond, Some, sym, ap, ◌∙◌, subst}
 use Rattle.std.specs.Map.{lookup}
 use Rattle.std.specs.FinMap.{get, insert}
 use Rattle.ncq_plan.specs.declared.expr.Expr.{Expr}
-use Rattle.ncq_shelf.specs.Indexed.{is_expr}
+use Rattle.ncq_plan.specs.ExprLists.{is_expr}
 use Rattle.ncq_shelf.specs.declared.file.File.{File}
 use Rattle.ncq_shelf.specs.Shown.{shown, state_of}
 use Rattle.ncq_shelf.specs.Stands.{Stands}

@@ -3,10 +3,10 @@ use Rattle.std.proofs.lemmas.Result.{on_err_weaker}
 use Rattle.std.specs.Option.{option_map}
 use Rattle.std.specs.FinMap.{get, insert}
 use Rattle.ncq_shelf.specs.KeptFiles.{KeptFile}
-use Rattle.ncq_shelf.specs.Contents.{IsCompacted}
+use Rattle.ncq_shelf.specs.Contents.{HoldsItsContent, IsCompacted}
 use Rattle.ncq_shelf.specs.Shown.{shown, state_of}
 use Rattle.ncq_shelf.specs.declared.file.File.{File}
-use Rattle.ncq_shelf.proofs.Maps.{one_value, there, put_again}
+use Rattle.ncq_shelf.proofs.Maps.{one_value, there, put_again, put_same}
 use Rattle.ncq_shelf.proofs.ShownFiles.{get_shown}
 use Rattle.ncq_shelf.proofs.Indexes.{shown_at}
 use Rattle.ncq_shelf.proofs.SameFiles.{shown_written, shelved_written}
@@ -51,15 +51,31 @@ returns-clause-ok c =
     let w : File = record file { content = c.compact.new.self } in
     let written = shown_written c.self.inside.files.entries c.args.number file w (sym c.in-Some.ensures.value) refl refl refl
     (c.get_mut.follows.lender w).entries ((c.get_mut.follows.holds w).3 (search rules)).0 in
+    let here = shown_at c.self.inside.files.entries c.args.number file (sym c.in-Some.ensures.value) in
     let same : (state : KeptFile) → get c.args.self.now c.args.number ≡ Some state → state_of file ≡ state = λ state at.
-    one_value (shown_at c.self.inside.files.entries c.args.number file (sym c.in-Some.ensures.value)) (subst (λ f. get f c.args.number ≡ Some state) (sym c.self.view_is) at) in
-    compacted c.compact.result c.args.change file.content c.compact.new.self c.compact.ensures.base c.compact.ensures.gains c.compact.ensures.content c.compact.ensures.stays
+    one_value here (subst (λ f. get f c.args.number ≡ Some state) (sym c.self.view_is) at) in
+    compacted c.compact.result c.args.change file.content c.compact.new.self (c.requires.last (state_of file) (subst (λ f. get f c.args.number ≡ Some (state_of file)) c.self.view_is here)) c.compact.ensures.base c.compact.ensures.gains c.compact.ensures.content c.compact.ensures.stays
     (λ is state at. (
       state_of w,
       written ∙ (λ i. insert (c.self.view_is i) c.args.number (state_of w)),
       subst (λ (s : KeptFile). IsCompacted c.args.change s (state_of w)) (same state at)
-          (record { expr = refl; uses = refl; base = is.base; gains = is.gains; content = is.content; stays = is.stays }),
+          (record { expr = refl; uses = refl; base = is.base; stays = is.stays }),
     ))
+
+pub returns-clause-rows : goal.returns-clause-rows
+returns-clause-rows c =
+    let file = c.in-Some.file.now in
+    let w : File = record file { content = c.compact.new.self } in
+    let written = shown_written c.self.inside.files.entries c.args.number file w (sym c.in-Some.ensures.value) refl refl refl
+    (c.get_mut.follows.lender w).entries ((c.get_mut.follows.holds w).3 (search rules)).0 in
+    let here = shown_at c.self.inside.files.entries c.args.number file (sym c.in-Some.ensures.value) in
+    let same : (state : KeptFile) → get c.args.self.now c.args.number ≡ Some state → state_of file ≡ state = λ state at.
+    one_value here (subst (λ f. get f c.args.number ≡ Some state) (sym c.self.view_is) at) in
+    compacted c.compact.result c.args.change file.content c.compact.new.self (c.requires.last (state_of file) (subst (λ f. get f c.args.number ≡ Some (state_of file)) c.self.view_is here)) c.compact.ensures.base c.compact.ensures.gains c.compact.ensures.content c.compact.ensures.stays
+    (λ is state at kept after.
+    let kept_is : state_of w ≡ kept = one_value (ap (λ f. get f c.args.number) written ∙ put_same (shown c.self.inside.files.entries) c.args.number (state_of w)) after in
+    subst (λ (k : KeptFile). HoldsItsContent c.args.change state k) kept_is
+    (subst (λ (s : KeptFile). HoldsItsContent c.args.change s (state_of w)) (same state at) (record { gains = is.gains; content = is.content })))
 
 pub returns-clause-err : goal.returns-clause-err
 returns-clause-err c =

@@ -1,0 +1,28 @@
+//! A live subscription.
+use ncq_base::{Bytes, FileId, Sequence};
+use ncq_event::Timing;
+use ncq_plan::NormalQuery;
+
+/// A live subscription: what it asks, where the rows of that stand, and when it fires.
+#[derive(Drop)]
+pub struct Subscription {
+    /// What it is called.
+    pub name: Bytes,
+    /// The names of the sources that it asks.
+    pub sources: Sequence<Bytes>,
+    /// Its query in normal form.
+    pub query: NormalQuery,
+    /// The file of its plan: a change that feeds it concerns the subscription.
+    pub file: FileId,
+    /// When it fires and when it ends.
+    pub timing: Timing,
+    /// The place of its handler.
+    pub action: usize,
+    /// What its handler is given, empty where the statement has no argument.
+    pub argument: Bytes,
+    /// Its number among the accepted creates, from 1.
+    pub install: u64,
+    /// What is written down of when it fired: of one that fires at changes the number of changes at
+    /// its first firing, of a timer that at its latest; none before the first.
+    pub noted: Option<u64>,
+}

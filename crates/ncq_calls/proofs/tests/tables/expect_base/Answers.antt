@@ -1,4 +1,0 @@
-use Rattle.ncq_calls.proofs.tests.tables.expect_base.Goals as goal
-
-pub file-requires : goal.file-requires
-file-requires g c = c.expect_there.ensures

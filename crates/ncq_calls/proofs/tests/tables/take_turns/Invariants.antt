@@ -1,5 +1,0 @@
-use Rattle.ncq_calls.specs.Tables.{StandsFor}
-use Rattle.ncq_calls.proofs.tests.tables.take_turns.Given as goal
-
-abbrev pub invariant-loop-turn : goal.invariant-loop-turn
-invariant-loop-turn g l = StandsFor l.store l.table

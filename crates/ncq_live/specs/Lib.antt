@@ -1,0 +1,2 @@
+pub mod LiveTables
+pub mod Shares

@@ -1,0 +1,9 @@
+//! The live subscriptions and the files of their plans.
+//! Subscriptions come in one by one, each with the plan of its query, and go out by their install
+//! numbers. Subscriptions of one plan share its file: each subscription has the file of its plan,
+//! and each file is used by exactly its subscriptions.
+#![tactic(auto)]
+
+mod live_table;
+
+pub use live_table::LiveTable;

@@ -1,0 +1,267 @@
+//! The live table: subscriptions, and the files that they use.
+ghost use Rattle.std.specs.Prelude.{◌≡◌, ℕ, ◌+◌, ◌-◌, ◌<◌, ◌≤◌, ◌^◌, List, [], not, map, filter};
+ghost use Rattle.std.specs.Prelude.{length, false, Some, IfOk, OnOk, OnErr, IfSome, IfNone};
+ghost use Rattle.std.specs.FinMap.{empty, get};
+ghost use Rattle.std.specs.Option.{option_map};
+ghost use Rattle.std.specs.List.{list_any, AllByRecursion};
+ghost use Rattle.ncq_plan.specs.declared.expr.Expr.{Expr as an_expr};
+ghost use Rattle.ncq_plan.specs.WellFormed.{IsWellFormed};
+ghost use Rattle.ncq_change.specs.Stores.{world_in};
+ghost use Rattle.ncq_shelf.specs.Contents.{Fits, cut_to};
+ghost use Rattle.ncq_shelf.specs.KeptFiles.{KeptFile};
+ghost use Rattle.ncq_feed.specs.Feeds.{IsPreparedFrom, AreFed, NamesTheFed, world_after, feed_work};
+ghost use Rattle.ncq_group.specs.Installs.{NamesTheMissing, rows_of_all};
+ghost use Rattle.ncq_group.specs.Releases.{IsReleased};
+ghost use Rattle.ncq_group.specs.Tables.{Facts, mark_of};
+ghost use Rattle.ncq_book.specs.Books.{is_named, is_of, subscription_of, with_note};
+ghost use Rattle.ncq_book.specs.Books.{InstallsRise, NamesDiffer};
+ghost use Rattle.ncq_live.specs.LiveTables.{IsLiveTable, HasJoined, plan_in};
+ghost use Rattle.ncq_live.specs.Shares.{Shares};
+
+use ncq_base::{FileId, Sequence, Steps};
+use ncq_book::{Book, Subscription};
+use ncq_group::{GroupMark, GroupTable};
+use ncq_plan::Expr;
+use ncq_source::{Change, Store};
+use std::alloc::{AllocError, Global};
+use std::hash::RandomState;
+use std::marker::Model;
+use std::sync::ledger::Ledger;
+
+/// Live subscriptions at an instant of the clock, each with the file of its plan, and the table of
+/// these files. Contracts see the table, the subscriptions in the order of their creates and the
+/// instant.
+#[derive(Drop)]
+pub struct LiveTable {
+    groups: GroupTable,
+    book: Book,
+}
+
+impl Model for LiveTable {
+    ghost use Rattle.ncq_live.specs.LiveTables.{LiveState, live_code, IsLiveTable};
+
+    ghost Value = { LiveState };
+
+    ghost coded = { live_code };
+
+    ghost view = { λ r. record {
+      table = r.groups;
+      subscriptions = r.book.subscriptions;
+      instant = r.book.instant;
+    } };
+
+    ghost invariant = { λ r. IsLiveTable r.groups r.book.subscriptions };
+}
+
+impl LiveTable {
+    /// Nobody and no file, at instant 0 and change 0. Names are placed by the seed. It takes no
+    /// memory.
+    pub fn new(alloc: Global, seed: RandomState) -> LiveTable
+        ensures files { result.table.files ≡ empty }
+        ensures next_file { result.table.next_file ≡ 0 }
+        ensures number { result.table.number ≡ 0 }
+        ensures subscriptions { result.subscriptions ≡ [] }
+        ensures instant { result.instant ≡ 0 }
+    {
+        LiveTable {
+            groups: GroupTable::new(alloc),
+            book: Book::new(alloc, seed),
+        }
+    }
+
+    /// The subscriptions, and what finds them.
+    pub fn book(&self) -> &Book
+        ensures { result.now ≡ record {
+          subscriptions = self.now.subscriptions;
+          instant =
+              self.now.instant;
+        } }
+    {
+        &self.book
+    }
+
+    /// The table of the files.
+    pub fn groups(&self) -> &GroupTable
+        ensures { result.now ≡ self.now.table }
+    {
+        &self.groups
+    }
+
+    /// Every live table meets the facts: this call does nothing.
+    pub fn facts(&self)
+        ensures live_table { IsLiveTable self.now.table self.now.subscriptions }
+        ensures facts { Facts self.now.table }
+        ensures rise { InstallsRise self.now.subscriptions }
+        ensures names { NamesDiffer self.now.subscriptions }
+    {
+        self.groups.facts();
+        self.book.facts();
+    }
+
+    /// The files are those of the parts of the subscriptions' plans, one each: this call does
+    /// nothing.
+    pub fn shares(&self)
+        ensures { Shares self.now.subscriptions self.now.table }
+    {
+        self.facts();
+    }
+
+    /// How far the files are now. It takes no memory.
+    pub fn mark(&self) -> GroupMark
+        ensures { result ≡ mark_of self.now.table }
+    {
+        self.groups.mark()
+    }
+
+    /// One more subscription, under an install number above all others and a name that is free,
+    /// with the file of its plan: the file that it comes with does not count. It takes at most one
+    /// step for each row of a new file, whatever it answers. Where memory runs out, all is as
+    /// before.
+    pub fn add<L: Ledger>(
+        &mut self,
+        alloc: Global,
+        mut subscription: Subscription,
+        plan: &Expr,
+        store: &Store,
+        steps: &mut Steps<L>,
+    ) -> Result<(), AllocError>
+        requires formed { IsWellFormed subscription.query }
+        requires plan { plan.now ≡ plan_in subscription }
+        requires above { AllByRecursion (λ m. m.install < subscription.install)
+            self.old.subscriptions }
+        requires free { list_any (is_named subscription.name) self.old.subscriptions ≡ false }
+        requires few { length self.old.subscriptions < 2 ^ 64 - 1 }
+        requires number { store.now.changes ≡ self.old.table.number }
+        requires fits { Fits self.old.table.number (world_in store.now) self.old.table.files }
+        requires room { self.old.table.next_file ≤ 2 ^ 64 - 257 }
+        ensures ok { OnOk result (HasJoined plan.now subscription self.old self.new) }
+        ensures fits { Fits self.old.table.number (world_in store.now) self.new.table.files }
+        ensures number { self.new.table.number ≡ self.old.table.number }
+        ensures instant { self.new.instant ≡ self.old.instant }
+        ensures err { OnErr result (self.new ≡ self.old) }
+
+        // `missing` is any list that names each part of the plan without a file.
+        ensures cost { (missing : List an_expr)
+            → NamesTheMissing self.old.table.files plan.now missing
+            → steps.new ≤ steps.old + rows_of_all (world_in store.now) missing }
+    {
+        self.facts();
+        let before = self.groups.mark();
+        let file = self.groups.install(alloc, plan, store, steps)?;
+        self.groups.facts();
+        subscription.file = file;
+        match self.book.add(alloc, subscription) {
+            Ok(()) => Ok(()),
+            Err(AllocError) => {
+                self.groups.release(file);
+                self.groups.roll_back(before);
+                Err(AllocError)
+            }
+        }
+    }
+
+    /// Takes the subscription of this install number away, if it is there, and gives up its use of
+    /// its file. What no subscription and no other file needs any more is taken away. It takes no
+    /// memory.
+    pub fn remove(&mut self, install: u64)
+        ensures subscriptions { self.new.subscriptions
+            ≡ filter (λ m. not (is_of install m)) self.old.subscriptions }
+        ensures files { IfSome (subscription_of install self.old.subscriptions) (λ m.
+            IsReleased self.old.table.files m.file.0 self.new.table.files) }
+        ensures none { IfNone (subscription_of install self.old.subscriptions)
+            (self.new.table ≡ self.old.table) }
+        ensures next_file { self.new.table.next_file ≡ self.old.table.next_file }
+        ensures number { self.new.table.number ≡ self.old.table.number }
+        ensures instant { self.new.instant ≡ self.old.instant }
+    {
+        self.facts();
+        if let Some(used) = take_away(&mut self.book, install) {
+            self.groups.release(used);
+        }
+    }
+
+    /// Gives each file the signed rows that the change makes of its expression, under the number of
+    /// the change. The answer names each file that got rows. After an error the live table is as it
+    /// was. It takes at most one step for each signed row, whatever it answers. The only error is
+    /// that memory ran out.
+    pub fn feed<L: Ledger>(
+        &mut self,
+        alloc: Global,
+        change: &Change,
+        store: &Store,
+        steps: &mut Steps<L>,
+    ) -> Result<Sequence<u64>, AllocError>
+        requires change { IsPreparedFrom store.now change.now }
+        requires number { store.now.changes ≡ self.old.table.number }
+        requires more { self.old.table.number < 2 ^ 64 - 1 }
+        requires fits { Fits self.old.table.number (world_in store.now) self.old.table.files }
+        ensures number { OnOk result (self.new.table.number ≡ self.old.table.number + 1) }
+        ensures fed { OnOk result
+            (AreFed store.now change.now self.old.table.files self.new.table.files) }
+        ensures fits { OnOk result (Fits self.new.table.number (world_after store.now change.now)
+            self.new.table.files) }
+        ensures named { IfOk result (NamesTheFed store.now.changes self.new.table.files) }
+        ensures next_file { self.new.table.next_file ≡ self.old.table.next_file }
+        ensures subscriptions { self.new.subscriptions ≡ self.old.subscriptions }
+        ensures instant { self.new.instant ≡ self.old.instant }
+        ensures err { OnErr result (self.new.table ≡ self.old.table) }
+        ensures cost { steps.new ≤ steps.old + feed_work store.now change.now self.old.table.files }
+    {
+        self.groups.feed(alloc, change, store, steps)
+    }
+
+    /// Takes the signed rows of later changes than the mark's away from each file. It takes no
+    /// memory.
+    pub fn roll_back(&mut self, mark: GroupMark)
+        requires number { mark.number ≤ self.old.table.number }
+        requires next_file { mark.next_file ≤ self.old.table.next_file }
+        requires base { (number : ℕ) (file : KeptFile)
+            → get self.old.table.files number ≡ Some file → file.content.base ≤ mark.number }
+        requires below { (number : ℕ) (file : KeptFile)
+            → get self.old.table.files number ≡ Some file → number < mark.next_file }
+        ensures number { self.new.table.number ≡ mark.number }
+        ensures next_file { self.new.table.next_file ≡ mark.next_file }
+        ensures files { (number : ℕ) → get self.new.table.files number
+            ≡ option_map (cut_to mark.number) (get self.old.table.files number) }
+        ensures subscriptions { self.new.subscriptions ≡ self.old.subscriptions }
+        ensures instant { self.new.instant ≡ self.old.instant }
+    {
+        self.groups.roll_back(mark);
+    }
+
+    /// Notes this number for the subscription of this install number, if it is there. It takes no
+    /// memory.
+    pub fn note(&mut self, install: u64, number: u64)
+        ensures subscriptions { self.new.subscriptions ≡ map (with_note install number)
+            self.old.subscriptions }
+        ensures table { self.new.table ≡ self.old.table }
+        ensures instant { self.new.instant ≡ self.old.instant }
+    {
+        self.book.note(install, number);
+    }
+
+    /// Moves the clock. Where memory runs out, all is as before. It costs in proportion to what is
+    /// due.
+    pub fn move_to(&mut self, alloc: Global, to: u64) -> Result<(), AllocError>
+        requires { self.old.instant ≤ to }
+        ensures ok { OnOk result (self.new.instant ≡ to) }
+        ensures err { OnErr result (self.new.instant ≡ self.old.instant) }
+        ensures table { self.new.table ≡ self.old.table }
+        ensures subscriptions { self.new.subscriptions ≡ self.old.subscriptions }
+    {
+        self.book.move_to(alloc, to)
+    }
+}
+
+/// Takes the subscription of this install number away, if it is there, and tells its file. It takes
+/// no memory.
+fn take_away(book: &mut Book, install: u64) -> Option<FileId>
+    ensures subscriptions { book.new ≡ record book.old {
+      subscriptions = filter (λ m. not (is_of install m)) book.old.subscriptions;
+    } }
+    ensures file { result ≡ option_map (λ m. m.file) (subscription_of install
+        book.old.subscriptions) }
+{
+    let subscription = book.take(install)?;
+    Some(subscription.file)
+}

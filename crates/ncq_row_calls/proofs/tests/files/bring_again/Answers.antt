@@ -1,6 +1,0 @@
-use Rattle.std.proofs.lemmas.Result.{on_ok_weaker}
-use Rattle.ncq_row_calls.proofs.HistoryLaws.{one_slot}
-use Rattle.ncq_row_calls.proofs.tests.files.bring_again.Goals as goal
-
-pub returns-clause-wide : goal.returns-clause-wide
-returns-clause-wide g c = on_ok_weaker c.bring.result (one_slot c.bring.new.file.rows) c.bring.ensures.one

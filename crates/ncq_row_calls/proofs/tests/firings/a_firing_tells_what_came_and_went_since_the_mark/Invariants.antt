@@ -1,4 +1,0 @@
-use Rattle.ncq_row_calls.proofs.tests.firings.a_firing_tells_what_came_and_went_since_the_mark.Given as goal
-
-abbrev pub ghosts-right_firings : goal.ghosts-right_firings
-ghosts-right_firings g a = record { name = a.blank.name; parts = a.blank.parts }

@@ -1,5 +1,0 @@
-use Rattle.ncq_row_calls.proofs.HistoryLaws.{one_slot}
-use Rattle.ncq_row_calls.proofs.tests.histories.file_of.Goals as goal
-
-pub returns-clause-wide : goal.returns-clause-wide
-returns-clause-wide g c = one_slot c.loop-at.file.rows c.loop-at.invariant.one

@@ -1,5 +1,0 @@
-use Rattle.ncq_row_calls.proofs.HistoryLaws.{one_slot}
-use Rattle.ncq_row_calls.proofs.tests.histories.index_if.Goals as goal
-
-pub ensure_index-requires : goal.ensure_index-requires
-ensure_index-requires c = one_slot c.args.file.now.rows c.requires

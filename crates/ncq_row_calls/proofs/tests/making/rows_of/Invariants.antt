@@ -1,4 +1,0 @@
-use Rattle.ncq_row_calls.proofs.tests.making.rows_of.Given as goal
-
-abbrev pub ghosts-rows_in : goal.ghosts-rows_in
-ghosts-rows_in a = record { name = a.blank.name; parts = a.blank.parts }

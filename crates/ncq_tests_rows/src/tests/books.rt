@@ -1,0 +1,373 @@
+//! A book of three subscriptions, by values worked out by hand.
+ghost use Rattle.std.specs.Prelude.{◌≡◌, ◌<◌, ◌+◌, [], IfOk, OnOk};
+ghost use Rattle.std.specs.List.{AllByRecursion};
+
+use ncq_base::{Bytes, FileId, Sequence, bytes_of};
+use ncq_book::{Book, Subscription};
+use ncq_event::{Firings, Timing};
+use ncq_plan::{Arms, NormalQuery, SlotTemplate, Tests};
+use std::alloc::{AllocError, Global};
+use std::hash::RandomState;
+use std::process::Abort;
+use std::test::Fail;
+
+/// What subscriptions differ in: name; start, every, expiry; the number of the file.
+type Row = (&'static str, (u64, u64, Option<u64>), u64);
+
+/// It fires from 10 on, each 10, and changes of its file do not matter.
+const TIMER: Row = ("timer", (10, 10, None), 7);
+
+/// It fires at changes, up to 50.
+const CHANGES: Row = ("changes", (0, 0, Some(50)), 9);
+
+/// It fires at changes from 30 on, up to 40.
+const PENDING: Row = ("pending", (30, 0, Some(40)), 7);
+
+/// It fires at changes of the same file.
+const SHARER: Row = ("sharer", (0, 0, None), 7);
+
+/// The last instant, and the last file.
+const LAST: Row = (
+    "last",
+    (18446744073709551615, 0, Some(18446744073709551615)),
+    18446744073709551615,
+);
+
+/// Files, and whether the last subscription watches one of them.
+const LAST_WATCHERS: &[(&[u64], &[u64])] = &[
+    (&[18446744073709551614], &[]),
+    (&[18446744073709551615], &[18446744073709551615]),
+    (
+        &[18446744073709551614, 18446744073709551615],
+        &[18446744073709551615],
+    ),
+];
+
+/// The last firing of the last subscription.
+const LAST_DUE: &[(u64, &[(u64, u64)])] = &[
+    (18446744073709551614, &[]),
+    (
+        18446744073709551615,
+        &[(18446744073709551615, 18446744073709551615)],
+    ),
+];
+
+/// Files, and who watches one of them: install numbers rise whatever the order of the files, a file
+/// that is named twice counts once, and the timer is not told.
+const WATCHERS: &[(&[u64], &[u64])] = &[
+    (&[7], &[3]),
+    (&[9], &[2]),
+    (&[7, 9], &[2, 3]),
+    (&[9, 7], &[2, 3]),
+    (&[9, 9], &[2]),
+    (&[7, 9, 7], &[2, 3]),
+    (&[8, 9], &[2]),
+    (&[], &[]),
+    (&[8], &[]),
+    (&[0, 10], &[]),
+    (&[18446744073709551615], &[]),
+];
+
+/// The instant that the clock is moved to, from 0, and who is due.
+const DUE: &[(u64, &[(u64, u64)])] = &[
+    (0, &[]),
+    (9, &[]),
+    (10, &[(10, 1)]),
+    (29, &[(10, 1)]),
+    (30, &[(10, 1), (30, 3)]),
+];
+
+/// And from 10.
+const DUE_LATER: &[(u64, &[(u64, u64)])] = &[
+    (10, &[]),
+    (19, &[]),
+    (20, &[(20, 1)]),
+    (30, &[(20, 1), (30, 3)]),
+];
+
+/// An instant, and who has expired.
+const EXPIRED: &[(u64, &[u64])] = &[
+    (0, &[]),
+    (40, &[]),
+    (41, &[3]),
+    (50, &[3]),
+    (51, &[2, 3]),
+    (18446744073709551615, &[2, 3]),
+];
+
+/// A query that is not looked at.
+fn any_query(alloc: Global) -> NormalQuery {
+    NormalQuery {
+        arms: Arms::new(alloc),
+        residual: Tests::new(alloc),
+        template: SlotTemplate::Slot(0),
+    }
+}
+
+/// A subscription of this name and install number, and else of the row.
+fn subscription(
+    alloc: Global,
+    install: u64,
+    name: Bytes,
+    row: &Row,
+) -> Result<Subscription, AllocError>
+    ensures install { IfOk result (λ m. m.install ≡ install) }
+    ensures name { IfOk result (λ m. m.name ≡ name) }
+{
+    let (_, (start, every, expire), file) = *row;
+    Ok(Subscription {
+        name,
+        sources: Sequence::new(alloc),
+        query: any_query(alloc),
+        file: FileId(file),
+        timing: Timing {
+            start,
+            every,
+            expire,
+        },
+        action: 0,
+        argument: Bytes::new(alloc),
+        install,
+        noted: None,
+    })
+}
+
+/// Whether the subscription came in: its name was free.
+fn put(alloc: Global, book: &mut Book, install: u64, row: &Row) -> Result<bool, AllocError>
+    requires { AllByRecursion (λ m. m.install < install) book.old.subscriptions }
+    ensures { AllByRecursion (λ m. m.install < install + 1) book.new.subscriptions }
+{
+    let name = bytes_of(alloc, row.0.as_bytes())?;
+    if book.has(&name) {
+        return Ok(false);
+    }
+    let subscription = subscription(alloc, install, name, row)?;
+    book.add(alloc, subscription)?;
+    Ok(true)
+}
+
+/// Puts three subscriptions in, under 1, 2 and 3.
+fn put_three(alloc: Global, book: &mut Book) -> Result<(), AllocError>
+    requires { book.old.subscriptions ≡ [] }
+    ensures { OnOk result (AllByRecursion (λ m. m.install < 4) book.new.subscriptions) }
+{
+    put(alloc, book, 1, &TIMER)?;
+    put(alloc, book, 2, &CHANGES)?;
+    put(alloc, book, 3, &PENDING)?;
+    Ok(())
+}
+
+/// The three subscriptions.
+fn three(alloc: Global, seed: RandomState) -> Result<Book, AllocError>
+    ensures { IfOk result (λ book. AllByRecursion (λ m. m.install < 4) book.subscriptions) }
+{
+    let mut book = Book::new(alloc, seed);
+    put_three(alloc, &mut book)?;
+    Ok(book)
+}
+
+/// Whether the firings are those of these instants and install numbers.
+fn are_firings(firings: &Firings, want: &[(u64, u64)]) -> bool {
+    let told = firings.as_slice();
+    if told.len() != want.len() {
+        return false;
+    }
+    for i in 0..want.len() {
+        if (told[i].instant, told[i].install) != want[i] {
+            return false;
+        }
+    }
+    true
+}
+
+/// Whether the files are watched by these.
+fn are_watchers(
+    alloc: Global,
+    book: &Book,
+    files: &[u64],
+    want: &[u64],
+) -> Result<bool, AllocError> {
+    let told = book.watchers(alloc, files)?;
+    Ok(told.as_slice() == want)
+}
+
+/// Whether these have expired at this instant.
+fn are_expired(alloc: Global, book: &Book, at: u64, want: &[u64]) -> Result<bool, AllocError> {
+    let told = book.expired(alloc, at)?;
+    Ok(told.as_slice() == want)
+}
+
+/// Whether a move to this instant makes these due.
+fn are_due(alloc: Global, book: &Book, to: u64, want: &[(u64, u64)]) -> Result<bool, AllocError> {
+    let told = book.due(alloc, to)?;
+    Ok(are_firings(&told, want))
+}
+
+/// What is noted of the subscription, where there is a subscription and a note.
+fn note_of(book: &Book, install: u64) -> Option<u64> {
+    let Some(subscription) = book.get(install) else {
+        return None;
+    };
+    subscription.noted
+}
+
+/// The files of each row are watched by those of the row.
+fn expect_watchers(
+    rt: &impl Abort,
+    alloc: Global,
+    book: &Book,
+    rows: &[(&[u64], &[u64])],
+) -> Result<(), AllocError> {
+    for (files, want) in rows {
+        assert!(rt; are_watchers(alloc, book, files, want)?, "{files:?}");
+    }
+    Ok(())
+}
+
+/// At each instant of the rows those of its row have expired.
+fn expect_expired(
+    rt: &impl Abort,
+    alloc: Global,
+    book: &Book,
+    rows: &[(u64, &[u64])],
+) -> Result<(), AllocError> {
+    for (at, want) in rows {
+        assert!(rt; are_expired(alloc, book, *at, want)?, "{at}");
+    }
+    Ok(())
+}
+
+/// Moves to the instants of the rows make those of the row due.
+fn expect_due(
+    rt: &impl Abort,
+    alloc: Global,
+    book: &Book,
+    rows: &[(u64, &[(u64, u64)])],
+) -> Result<(), AllocError> {
+    for (to, want) in rows {
+        assert!(rt; are_due(alloc, book, *to, want)?, "{to}");
+    }
+    Ok(())
+}
+
+/// Whether a subscription has the name.
+fn has(alloc: Global, book: &Book, name: &str) -> Result<bool, AllocError> {
+    let name = bytes_of(alloc, name.as_bytes())?;
+    Ok(book.has(&name))
+}
+
+/// Takes the subscription of the name away, and tells whether it was there.
+fn take(alloc: Global, book: &mut Book, name: &str) -> Result<bool, AllocError>
+    requires { AllByRecursion (λ m. m.install < 4) book.old.subscriptions }
+    ensures { AllByRecursion (λ m. m.install < 4) book.new.subscriptions }
+{
+    let name = bytes_of(alloc, name.as_bytes())?;
+    let Some(install) = book.find(&name) else {
+        return Ok(false);
+    };
+    Ok(book.take(install).is_some())
+}
+
+fn expect_named(rt: &impl Abort, alloc: Global, book: &Book) -> Result<(), AllocError> {
+    assert!(rt; book.len() == 3);
+    assert!(rt; has(alloc, book, "pending")?);
+    assert!(rt; !has(alloc, book, "time")?);
+    assert!(rt; book.get(3).is_some() && book.get(4).is_none());
+    Ok(())
+}
+
+fn expect_moved(rt: &impl Abort, alloc: Global, book: &mut Book) -> Result<(), AllocError> {
+    expect_due(rt, alloc, book, DUE)?;
+    assert!(rt; book.instant() <= 10);
+    book.move_to(alloc, 10)?;
+    assert!(rt; book.instant() == 10);
+    expect_due(rt, alloc, book, DUE_LATER)
+}
+
+fn expect_noted(rt: &impl Abort, book: &mut Book) {
+    book.note(2, 4);
+    book.note(4, 9);
+    assert!(rt; note_of(book, 1).is_none() && note_of(book, 3).is_none());
+    assert!(rt; note_of(book, 2) == Some(4));
+    book.note(2, 0);
+    assert!(rt; note_of(book, 2) == Some(0));
+    assert!(rt; book.len() == 3);
+}
+
+fn expect_removed(rt: &impl Abort, alloc: Global, book: &mut Book) -> Result<(), AllocError>
+    requires { AllByRecursion (λ m. m.install < 4) book.old.subscriptions }
+{
+    assert!(rt; take(alloc, book, "changes")?);
+    assert!(rt; !take(alloc, book, "changes")?);
+    assert!(rt; book.len() == 2);
+    expect_watchers(
+        rt,
+        alloc,
+        book,
+        &[(&[7], &[3]), (&[9, 7], &[3]), (&[9], &[])],
+    )?;
+    expect_expired(rt, alloc, book, &[(51, &[3])])?;
+    assert!(rt; put(alloc, book, 4, &CHANGES)?);
+    assert!(rt; !put(alloc, book, 5, &CHANGES)?);
+    assert!(rt; put(alloc, book, 6, &SHARER)?);
+    expect_watchers(rt, alloc, book, &[(&[7], &[3, 6]), (&[9, 7], &[3, 4, 6])])
+}
+
+fn expect_left(rt: &impl Abort, alloc: Global, book: &mut Book) -> Result<(), AllocError> {
+    for install in &[4, 6, 1] {
+        assert!(rt; book.take(*install).is_some());
+    }
+    assert!(rt; book.take(2).is_none());
+    assert!(rt; book.len() == 1 && book.get(3).is_some());
+    expect_watchers(rt, alloc, book, &[(&[7, 9], &[3])])?;
+    expect_due(rt, alloc, book, &[(99, &[(30, 3)])])
+}
+
+fn expect_last(rt: &impl Abort, alloc: Global, book: &mut Book) -> Result<(), AllocError>
+    requires { book.old.subscriptions ≡ [] }
+{
+    assert!(rt; put(alloc, book, 18446744073709551615, &LAST)?);
+    expect_watchers(rt, alloc, book, LAST_WATCHERS)?;
+    expect_due(rt, alloc, book, LAST_DUE)?;
+    expect_expired(rt, alloc, book, &[(18446744073709551615, &[])])
+}
+
+fn expect_found(rt: &impl Abort, alloc: Global, book: &mut Book) -> Result<(), AllocError> {
+    expect_named(rt, alloc, book)?;
+    expect_watchers(rt, alloc, book, WATCHERS)?;
+    expect_expired(rt, alloc, book, EXPIRED)?;
+    expect_moved(rt, alloc, book)?;
+    expect_noted(rt, book);
+    Ok(())
+}
+
+fn expect_fewer(rt: &impl Abort, alloc: Global, book: &mut Book) -> Result<(), AllocError>
+    requires { AllByRecursion (λ m. m.install < 4) book.old.subscriptions }
+{
+    expect_removed(rt, alloc, book)?;
+    expect_left(rt, alloc, book)
+}
+
+#[test]
+fn subscriptions_are_found(rt: HostRuntime) -> Result<(), Fail> {
+    let seed = RandomState::new(&rt)?;
+    let mut book = three(rt.alloc(), seed)?;
+    expect_found(&rt, rt.alloc(), &mut book)?;
+    Ok(())
+}
+
+#[test]
+fn removed_subscriptions_are_not_found(rt: HostRuntime) -> Result<(), Fail> {
+    let seed = RandomState::new(&rt)?;
+    let mut book = three(rt.alloc(), seed)?;
+    expect_fewer(&rt, rt.alloc(), &mut book)?;
+    Ok(())
+}
+
+#[test]
+fn the_last_numbers_are_found(rt: HostRuntime) -> Result<(), Fail> {
+    let seed = RandomState::new(&rt)?;
+    let mut book = Book::new(rt.alloc(), seed);
+    expect_last(&rt, rt.alloc(), &mut book)?;
+    Ok(())
+}

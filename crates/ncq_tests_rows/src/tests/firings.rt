@@ -1,0 +1,176 @@
+//! What subscribers are told of small files, worked out by hand.
+//!
+//! The query has a row of each letter but `x`.
+ghost use Rattle.std.specs.Prelude.{◌≡◌, ◌<◌, true, length, IfOk};
+ghost use Rattle.std.specs.List.{AllByRecursion};
+ghost use Rattle.ncq_plan.specs.Residuals.{tests_are_within};
+ghost use Rattle.ncq_plan.specs.Templates.{template_is_within};
+ghost use Rattle.ncq_plan.specs.WellFormed.{arms_width, equals_in, ranges_in, ArmsFit};
+ghost use Rattle.ncq_plan.specs.WellFormed.{IsWellFormed};
+ghost use Rattle.ncq_midfile.specs.Content.{IsSound};
+
+use super::histories::file_of;
+use super::making::value_shape;
+use ncq_base::{Op, Steps, atom_of, bytes_of};
+use ncq_callback::Entries;
+use ncq_midfile::MidFile;
+use ncq_news::news;
+use ncq_plan::{
+    Arm, Arms, EqualTos, NormalQuery, Pairs, Side, SlotAttributes, SlotTemplate, SlotTemplates,
+    Test, Tests, Withins,
+};
+use std::alloc::{AllocError, Global};
+use std::marker::Brand;
+use std::sync::ledger::{Blank, Ledger};
+use std::test::Fail;
+
+/// `a` stays, `b` comes and goes, `c` comes twice, `x` is not asked for, and `d` goes with the
+/// change that it comes with.
+const HISTORY: [(u8, u64, u64); 6] = [
+    (b'a', 1, 0),
+    (b'b', 2, 4),
+    (b'c', 5, 0),
+    (b'c', 5, 0),
+    (b'x', 6, 0),
+    (b'd', 7, 7),
+];
+
+const A: &str = "(R\n-a\n)R\n";
+
+const B: &str = "(R\n-b\n)R\n";
+
+const C: &str = "(R\n-c\n)R\n";
+
+/// How many rows of the history have come, the mark, the number of changes, and what is told.
+const FIRINGS: [(usize, Option<u64>, u64, &[(bool, u64, &str)]); 14] = [
+    // Nothing came.
+    (0, None, 0, &[]),
+    (0, Some(0), 3, &[]),
+    // A first firing: a row that came and went is not told.
+    (1, None, 1, &[(true, 1, A)]),
+    (2, None, 4, &[(true, 1, A)]),
+    (6, None, 7, &[(true, 1, A), (true, 2, C)]),
+    // A mark in the middle.
+    (2, Some(2), 4, &[(false, 1, B)]),
+    (6, Some(3), 7, &[(false, 1, B), (true, 2, C)]),
+    (6, Some(4), 9, &[(true, 2, C)]),
+    // A row came and went behind the mark.
+    (2, Some(1), 4, &[]),
+    (6, Some(0), 7, &[(true, 1, A), (true, 2, C)]),
+    // Behind the mark come rows that are not asked for, or go at once.
+    (6, Some(5), 7, &[]),
+    // A mark at the last number.
+    (2, Some(4), 4, &[]),
+    (6, Some(7), 7, &[]),
+    (6, Some(u64::MAX), u64::MAX, &[]),
+];
+
+/// `<R>$0</>`
+fn template(alloc: Global) -> Result<SlotTemplate, AllocError>
+    ensures { IfOk result (λ t. template_is_within 1 t ≡ true) }
+{
+    let mut content = SlotTemplates::new(alloc);
+    content.push(SlotTemplate::Slot(0))?;
+    Ok(SlotTemplate::Element {
+        tag: bytes_of(alloc, b"R")?,
+        attributes: SlotAttributes::new(alloc),
+        content,
+    })
+}
+
+/// Each letter but `x`.
+fn tests(alloc: Global) -> Result<Tests, AllocError>
+    ensures { IfOk result (λ t. tests_are_within 1 t ≡ true) }
+{
+    let mut tests = Tests::new(alloc);
+    tests.push(Test {
+        op: Op::Ne,
+        left: 0,
+        right: Side::Constant(atom_of(alloc, b"x")?),
+    })?;
+    Ok(tests)
+}
+
+/// One arm, of all letters.
+fn arms(alloc: Global) -> Result<Arms, AllocError>
+    ensures one { IfOk result (λ arms. length arms ≡ 1) }
+    ensures width { IfOk result (λ arms. arms_width arms ≡ 1) }
+    ensures equals { IfOk result (λ arms. equals_in arms ≡ 0) }
+    ensures ranges { IfOk result (λ arms. ranges_in arms ≡ 0) }
+    ensures fit { IfOk result (λ arms. ArmsFit 0 arms) }
+{
+    let mut arms = Arms::new(alloc);
+    arms.push(Arm {
+        source: bytes_of(alloc, b"s")?,
+        shape: value_shape(alloc, b"E")?,
+        equals: EqualTos::new(alloc),
+        ranges: Withins::new(alloc),
+        pairs: Pairs::new(alloc),
+    })?;
+    Ok(arms)
+}
+
+/// The query that asks for each letter but `x`.
+fn query(alloc: Global) -> Result<NormalQuery, AllocError>
+    ensures formed { IfOk result IsWellFormed }
+    ensures width { IfOk result (λ q. arms_width q.arms ≡ 1) }
+{
+    Ok(NormalQuery {
+        arms: arms(alloc)?,
+        residual: tests(alloc)?,
+        template: template(alloc)?,
+    })
+}
+
+/// What is told of the file, where no row of it exceeds the number of changes.
+fn told(alloc: Global, file: &MidFile, mark: Option<u64>, now: u64) -> Result<Entries, AllocError>
+    requires sound { IsSound file.now.rows }
+    requires wide { AllByRecursion (λ r. length r.row ≡ 1) file.now.rows }
+{
+    let query = query(alloc)?;
+    if file.base() != 0 || !file.rows_since(now).is_empty() {
+        return Err(AllocError);
+    }
+    news(alloc, &query, file, mark, now)
+}
+
+/// Whether the entries are these, with their sign and count.
+fn are_entries(entries: &Entries, want: &[(bool, u64, &str)]) -> bool {
+    let got = entries.as_slice();
+    if got.len() != want.len() {
+        return false;
+    }
+    for (entry, (gain, count, text)) in got.iter().zip(want) {
+        let same = entry.gain == *gain && entry.count == *count;
+        if !same || entry.bytes.as_slice() != text.as_bytes() {
+            return false;
+        }
+    }
+    true
+}
+
+/// How many of the firings tell what was worked out, up to the first that does not.
+fn right_firings<L: Ledger>(rt: &HostRuntime, blank: Blank) -> Result<usize, AllocError>
+    requires name { blank.name ≡ L.name }
+    requires parts { blank.parts ≡ L.parts }
+    requires some { 0 < L.parts }
+{
+    let alloc = rt.alloc();
+    let mut steps = Steps::<L>::new(rt, blank);
+    for at in 0..FIRINGS.len() {
+        let (come, mark, now, want) = FIRINGS[at];
+        let history = &HISTORY[..come.min(HISTORY.len())];
+        let file = file_of(alloc, history, HISTORY.len(), &mut steps)?;
+        if !are_entries(&told(alloc, &file, mark, now)?, want) {
+            return Ok(at);
+        }
+    }
+    Ok(FIRINGS.len())
+}
+
+#[test]
+fn a_firing_tells_what_came_and_went_since_the_mark(rt: HostRuntime) -> Result<(), Fail> {
+    let right = right_firings::<Brand>(&rt, Blank::new(1))?;
+    assert_eq!(rt; right, FIRINGS.len());
+    Ok(())
+}

@@ -1,0 +1,122 @@
+//! Shapes and elements that several of the files make, and the rows of one in the other.
+ghost use Rattle.std.specs.Prelude.{◌≡◌, ◌<◌, ◌+◌, length, IfOk};
+ghost use Rattle.std.specs.List.{sum_by};
+ghost use Rattle.ncq_row.specs.Widths.{width, suffix_width};
+
+use ncq_base::{Copied, Shared, Steps, bytes_of};
+use ncq_pyx::Written;
+use ncq_row::{Names, Rows, Shape, ShapeContent, ShapeSuffix, Shapes, match_shape, match_written};
+use ncq_tree::{Attributes, Element, Forest, Node};
+use std::alloc::{AllocError, Global};
+use std::marker::Brand;
+use std::sync::ledger::{Blank, Ledger};
+
+/// The shape of the values of elements with this tag.
+#[tactic(auto, using(ncq_row::proofs::ShapeLaws::width_is))]
+pub fn value_shape(alloc: Global, tag: &[u8]) -> Result<Shape, AllocError>
+    ensures { IfOk result (λ s. width s ≡ 1) }
+{
+    let tag = bytes_of(alloc, tag)?;
+    Ok(Shape {
+        tag,
+        attributes: Names::new(alloc),
+        content: ShapeContent::Value,
+        suffix: ShapeSuffix::Plain,
+    })
+}
+
+/// The shapes of the values of elements with these tags.
+pub fn value_shapes(alloc: Global, tags: &[&str]) -> Result<Shapes, AllocError> {
+    let mut parts = Shapes::new(alloc);
+    for tag in tags {
+        parts.push(value_shape(alloc, tag.as_bytes())?)?;
+    }
+    Ok(parts)
+}
+
+/// A shape of these parts.
+#[tactic(auto, using(ncq_row::proofs::ShapeLaws::width_is))]
+pub fn shape_with(
+    alloc: Global,
+    tag: &[u8],
+    attributes: Names,
+    parts: Shapes,
+    suffix: ShapeSuffix,
+) -> Result<Shape, AllocError>
+    ensures { IfOk result (λ s.
+        width s ≡ length attributes + sum_by width parts + suffix_width suffix) }
+{
+    let tag = bytes_of(alloc, tag)?;
+    Ok(Shape {
+        tag,
+        attributes,
+        content: ShapeContent::Parts(parts),
+        suffix,
+    })
+}
+
+pub fn text_node(alloc: Global, text: &[u8]) -> Result<Node, AllocError> {
+    let text = bytes_of(alloc, text)?;
+    Ok(Node::Text(text))
+}
+
+/// An element without attributes.
+pub fn element_with(alloc: Global, name: &[u8], children: Forest) -> Result<Element, AllocError> {
+    let name = bytes_of(alloc, name)?;
+    Ok(Element {
+        name,
+        attributes: Attributes::new(alloc),
+        children,
+    })
+}
+
+/// An element with one text.
+pub fn text_element(alloc: Global, name: &[u8], text: &[u8]) -> Result<Element, AllocError> {
+    let mut children = Forest::new(alloc);
+    children.push(text_node(alloc, text)?)?;
+    element_with(alloc, name, children)
+}
+
+/// The one row of the text in an element.
+pub fn value_rows<L: Ledger>(
+    alloc: Global,
+    text: &[u8],
+    steps: &mut Steps<L>,
+) -> Result<Rows, AllocError> {
+    let element = text_element(alloc, b"E", text)?;
+    let shape = value_shape(alloc, b"E")?;
+    let mut rows = Rows::new(alloc);
+    match_shape(alloc, &shape, &element, &mut rows, steps)?;
+    Ok(rows)
+}
+
+/// The rows of the shape in the element, and behind them those in the same element shared.
+fn rows_in<L: Ledger>(
+    rt: &HostRuntime,
+    shape: &Shape,
+    element: &Element,
+    blank: Blank,
+) -> Result<(Rows, Rows), AllocError>
+    requires name { blank.name ≡ L.name }
+    requires parts { blank.parts ≡ L.parts }
+    requires some { 0 < L.parts }
+{
+    let alloc = rt.alloc();
+    let mut steps = Steps::<L>::new(rt, blank);
+    let mut rows = Rows::new(alloc);
+    match_shape(alloc, shape, element, &mut rows, &mut steps)?;
+    let written = Written::new(alloc, element.copy(alloc)?)?;
+    let mut sharing = Rows::new(alloc);
+    let shared = Shared::new(alloc, written)?;
+    match_written(alloc, shape, &shared, &mut sharing, &mut steps)?;
+    Ok((rows, sharing))
+}
+
+/// The rows of the shape in the element, and in the same element shared.
+pub fn rows_of(
+    rt: &HostRuntime,
+    shape: &Shape,
+    element: &Element,
+) -> Result<(Rows, Rows), AllocError> {
+    rows_in::<Brand>(rt, shape, element, Blank::new(1))
+}

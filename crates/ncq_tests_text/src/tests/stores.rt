@@ -1,0 +1,87 @@
+//! Sources that are declared and changed.
+
+ghost use Rattle.std.specs.Prelude.{IfOk};
+ghost use Rattle.ncq_source.specs.StoreStates.{IsDeclared};
+
+use super::{expect_bytes, items_of};
+use ncq_base::bytes_of;
+use ncq_pyx::Item;
+use ncq_source::{Entry, Key, SourceId, Store};
+use ncq_tree::Element;
+use std::alloc::Global;
+use std::hash::RandomState;
+use std::process::Abort;
+use std::test::Fail;
+
+fn quotes(alloc: Global, seed: RandomState) -> Result<(Store, SourceId), Fail>
+    ensures { IfOk result (λ p. IsDeclared p.0 p.1) }
+{
+    let mut store = Store::new(alloc, seed);
+    let key = Key::Child(bytes_of(alloc, b"Symbol")?);
+    let id = store.declare(
+        alloc,
+        bytes_of(alloc, b"quotes")?,
+        bytes_of(alloc, b"Quotes")?,
+        key,
+    )?;
+    Ok((store, id))
+}
+
+/// The put of the quote INTC.
+const INTC: &str = "(Quote/(Symbol/-INTC/)Symbol/)Quote";
+
+#[test]
+fn a_declared_source_is_found(rt: HostRuntime) -> Result<(), Fail> {
+    let (store, id) = quotes(rt.alloc(), RandomState::new(&rt)?)?;
+    assert!(rt; store.find(b"quotes") == Some(id));
+    assert!(rt; store.find(b"Quotes").is_none());
+    Ok(())
+}
+
+fn expect_key(
+    rt: &impl Abort,
+    alloc: Global,
+    store: &Store,
+    id: SourceId,
+    element: &Element,
+) -> Result<(), Fail>
+    requires { IsDeclared store.now id }
+{
+    let key = store.key_of(alloc, id, element)?;
+    let key = key.ok_or("a key is missing")?;
+    expect_bytes(rt, key.as_slice(), b"INTC", "");
+    Ok(())
+}
+
+#[test]
+fn an_element_tells_its_key(rt: HostRuntime) -> Result<(), Fail> {
+    let (store, id) = quotes(rt.alloc(), RandomState::new(&rt)?)?;
+    let items = items_of(rt.alloc(), INTC)?;
+    assert!(rt; matches!(items.get(0), Some(Item::Put(_))));
+    if let Some(Item::Put(element)) = items.get(0) {
+        expect_key(&rt, rt.alloc(), &store, id, element.get().element())?;
+    }
+    Ok(())
+}
+
+/// One element of the key INTC comes in, and none goes out.
+fn expect_put(rt: &impl Abort, entries: &[Entry]) {
+    assert!(rt; entries.len() == 1);
+    for entry in entries {
+        expect_bytes(rt, entry.key.as_slice(), b"INTC", "");
+        assert!(rt; entry.before.is_none() && entry.after.is_some());
+    }
+}
+
+#[test]
+fn a_store_takes_what_was_put(rt: HostRuntime) -> Result<(), Fail> {
+    let (mut store, _) = quotes(rt.alloc(), RandomState::new(&rt)?)?;
+    let items = items_of(rt.alloc(), INTC)?;
+    let change = store.prepare(rt.alloc(), b"quotes", &items)?;
+    expect_put(&rt, change.entries());
+    store.reserve(&change)?;
+    assert!(rt; store.changes() == 0);
+    store.commit(change);
+    assert!(rt; store.changes() == 1);
+    Ok(())
+}
