@@ -35,6 +35,13 @@ pub record PlainState : Type 0 where
   pub piece : ℕ
   pub given : ℕ
 
+-- a source that gives one line again and again: the line, how many bytes it gives in all, and how
+-- many were given
+pub record RepeatState : Type 0 where
+  pub line : List ℕ
+  pub total : ℕ
+  pub given : ℕ
+
 -- a source over a reader: the reader, and two counts
 pub record ReaderState (R : Type 0) : Type 0 where
   pub reader : R

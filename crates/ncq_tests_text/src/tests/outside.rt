@@ -1,9 +1,9 @@
 //! Sources and sinks, in memory and over std.
 
-use ncq_base::bytes_of;
+use ncq_base::{Bytes, bytes_of};
 use ncq_outside::{
     Calls, Failed, Sink, Source, StdSink, StdSource, memory_sink, memory_source, plain_sink,
-    plain_source,
+    plain_source, repeat_source,
 };
 use std::alloc::{AllocError, Global};
 use std::io;
@@ -89,6 +89,140 @@ fn plain_ones_never_fail(rt: HostRuntime) -> Result<(), Fail> {
         &mut plain_sink(),
         &[("abcde", Some(5)), ("a", Some(1))],
     );
+    Ok(())
+}
+
+#[test]
+fn a_line_that_is_given_again_goes_on_where_it_stopped(rt: HostRuntime) -> Result<(), Fail> {
+    let line = bytes_of(rt.alloc(), b"abcd")?;
+    assert!(rt; !line.as_slice().is_empty());
+    let mut long = repeat_source(line, 10);
+    let wanted = ["abc", "dab", "cda", "b", "", ""].map(Some);
+    expect_reads(&rt, &mut long, &wanted);
+    let line = bytes_of(rt.alloc(), b"x")?;
+    assert!(rt; !line.as_slice().is_empty());
+    expect_reads(
+        &rt,
+        &mut repeat_source(line, 4),
+        &[Some("xxx"), Some("x"), Some("")],
+    );
+    Ok(())
+}
+
+/// A line of so many bytes, of which the last alone is LF, is given again and again: so many bytes
+/// in all, into a buffer of so many. Each call gives so many bytes, and so many of them are LF.
+struct Repeats<'a> {
+    line: usize,
+    total: u64,
+    room: usize,
+    calls: &'a [(usize, usize)],
+}
+
+const REPEATS: &[Repeats<'_>] = &[
+    Repeats {
+        line: 1,
+        total: 0,
+        room: 70_000,
+        calls: &[(0, 0), (0, 0)],
+    },
+    Repeats {
+        line: 1,
+        total: 1,
+        room: 70_000,
+        calls: &[(1, 1), (0, 0)],
+    },
+    Repeats {
+        line: 1,
+        total: 65_536,
+        room: 70_000,
+        calls: &[(65_536, 65_536), (0, 0)],
+    },
+    Repeats {
+        line: 1,
+        total: 65_537,
+        room: 70_000,
+        calls: &[(65_536, 65_536), (1, 1), (0, 0)],
+    },
+    Repeats {
+        line: 1_024,
+        total: 0,
+        room: 70_000,
+        calls: &[(0, 0)],
+    },
+    Repeats {
+        line: 1_024,
+        total: 1,
+        room: 70_000,
+        calls: &[(1, 0), (0, 0)],
+    },
+    Repeats {
+        line: 1_024,
+        total: 65_536,
+        room: 70_000,
+        calls: &[(65_536, 64), (0, 0)],
+    },
+    Repeats {
+        line: 1_024,
+        total: 65_537,
+        room: 70_000,
+        calls: &[(65_536, 64), (1, 0), (0, 0)],
+    },
+    // The last byte of the 64th line is left to a call of its own.
+    Repeats {
+        line: 1_024,
+        total: 65_536,
+        room: 65_535,
+        calls: &[(65_535, 63), (1, 1), (0, 0)],
+    },
+    Repeats {
+        line: 1_024,
+        total: 65_537,
+        room: 65_536,
+        calls: &[(65_536, 64), (1, 0), (0, 0)],
+    },
+    // The buffer is smaller than the line: LF is the 1,024th byte, the 2,048th and the 3,072nd.
+    Repeats {
+        line: 1_024,
+        total: 3_073,
+        room: 1_000,
+        calls: &[(1_000, 0), (1_000, 1), (1_000, 1), (73, 1), (0, 0)],
+    },
+];
+
+/// A line of so many bytes, 1 or more: the last is LF, and the others are `#`.
+fn comment_line(alloc: Global, length: usize) -> Result<Bytes, AllocError> {
+    let mut line = vec![in alloc; b'#'; length.saturating_sub(1)]?;
+    line.push(b'\n')?;
+    Ok(Bytes::from_vec(line))
+}
+
+/// Reads once for each entry, and compares how many bytes came, and how many of them are LF.
+fn expect_calls(
+    rt: &impl Abort,
+    alloc: Global,
+    source: &mut impl Source,
+    room: usize,
+    calls: &[(usize, usize)],
+) -> Result<(), Fail> {
+    let mut buf = vec![in alloc; 0u8; room]?;
+    assert!(rt; !buf.is_empty());
+    for (count, ends) in calls {
+        let got = source.read(&mut buf).unwrap_or(0).min(room);
+        assert_eq!(rt; got, *count);
+        assert_eq!(rt; buf[..got].iter().filter(|b| **b == b'\n').count(), *ends);
+    }
+    Ok(())
+}
+
+#[test]
+fn a_line_is_given_again_up_to_its_total(rt: HostRuntime) -> Result<(), Fail> {
+    let alloc = rt.alloc();
+    for repeats in REPEATS {
+        let line = comment_line(alloc, repeats.line)?;
+        assert!(rt; !line.as_slice().is_empty());
+        let mut source = repeat_source(line, repeats.total);
+        expect_calls(&rt, alloc, &mut source, repeats.room, repeats.calls)?;
+    }
     Ok(())
 }
 
