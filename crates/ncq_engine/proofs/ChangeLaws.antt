@@ -1,7 +1,9 @@
 -- What the engine stands for behind a change of a source.
 use Rattle.std.proofs.Common.{◌≡◌, ℕ, zero, suc, ◌+◌, ◌<◌, ◌≤◌, Bool, true, false, ◌&&◌, ◌==◌, List, [], ◌∷◌, ◌++◌, map, length, get_or, slice_get, refl, sym, ◌∙◌, ap, subst, arith, inl, inr, zero-add}
-use Rattle.std.specs.Prelude.{Option, Some, None, Result, Ok, Err, ◌⊎◌, if◌then◌else◌, nat_le, is_some}
+use Rattle.std.specs.Prelude.{Option, Some, None, Result, Ok, Err, ◌⊎◌, if◌then◌else◌, IfNone, IfSome, nat_le, is_some}
+use Rattle.std.specs.Io.{StartsWith}
 use Rattle.std.specs.Option.{option_and_then}
+use Rattle.std.proofs.Math.Seq.{take-length}
 use Rattle.std.proofs.lemmas.Bool.Decides.{nat_tests}
 use Rattle.std.proofs.lemmas.List.Quantifiers.{position-Some}
 use Rattle.std.specs.List.{flat_map, list_any, AllByRecursion, position}
@@ -46,7 +48,6 @@ use Rattle.ncq_engine.proofs.ContentLaws.{contents_fed}
 use Rattle.ncq_engine.proofs.EngineLaws.{accepts, gives_up, refuses, rises_quietly}
 use Rattle.std.proofs.Common.{append_assoc}
 use Rattle.std.proofs.lemmas.List.{append-nil}
-use Rattle.std.specs.Prelude.{IfSome}
 use Rattle.ncq_engine.proofs.HistoryLaws.{Installed, installed}
 use Rattle.ncq_engine.proofs.Keeping.{keeps_noted}
 use Rattle.ncq_engine.proofs.StartedLaws.{FiresFirst, all_fired, delta_notes}
@@ -301,11 +302,11 @@ module _ (engine : EngineState) (name asked : List ℕ) (items : List Item) (cal
   ]
 
   pub change_refused : (error : ChangeError) → result ≡ Err error → answer ≡ Err (refused_change error)
-      → IfSome (change_refusal error) (λ _. new ≡ record engine { count = engine.count + 1 }) → Applies engine (Delta name items) out answer new out'
-  change_refused NoSource is a e = refused_for refusal.NoSource a e (λ h s. missing h s is)
-  change_refused (BadKey position) is a e = refused_for (refusal.Key position) a e (item_fails (BadKey position) (refusal.Key position) is (λ q. cc) (λ at t g. ap (λ t. option_and_then change_refusal (fault_in t)) g))
-  change_refused (NoSuchKey position) is a e = refused_for (refusal.NoKey position) a e (item_fails (NoSuchKey position) (refusal.NoKey position) is (λ q. cc) (λ at t g. ap (λ t. option_and_then change_refusal (fault_in t)) g))
-  change_refused NoMemory is a e = gives_up engine (Delta name items) out answer new out' a
+      → IfSome (change_refusal error) (λ _. new ≡ record engine { count = engine.count + 1 }) → IfNone (change_refusal error) (new ≡ engine) → Applies engine (Delta name items) out answer new out'
+  change_refused NoSource is a e g = refused_for refusal.NoSource a e (λ h s. missing h s is)
+  change_refused (BadKey position) is a e g = refused_for (refusal.Key position) a e (item_fails (BadKey position) (refusal.Key position) is (λ q. cc) (λ at t g. ap (λ t. option_and_then change_refusal (fault_in t)) g))
+  change_refused (NoSuchKey position) is a e g = refused_for (refusal.NoKey position) a e (item_fails (NoSuchKey position) (refusal.NoKey position) is (λ q. cc) (λ at t g. ap (λ t. option_and_then change_refusal (fault_in t)) g))
+  change_refused NoMemory is a e same = gives_up engine (Delta name items) out answer new out' a same (subst (λ (o : List ℕ). StartsWith o out) (sym untouched) (take-length out))
 
 -- what a prepared change has, for the source that it was prepared for
 pub good_entries : (store : StoreState) (name : List ℕ) (items : List Item) (result : Result ChangeState ChangeError) (change : ChangeState) → result ≡ Ok change

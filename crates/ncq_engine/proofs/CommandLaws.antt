@@ -1,6 +1,6 @@
 -- What the engine stands for behind a declaration and behind a delete.
 use Rattle.std.proofs.Common.{◌≡◌, ℕ, ◌+◌, Bool, true, false, not, ◌||◌, cond, List, [], ◌∷◌, ◌++◌, length, slice_get, refl, sym, ◌∙◌, ap, subst, arith, inl, inr, zero-add}
-use Rattle.std.specs.Prelude.{Option, Some, None, Result, Ok, Err, IfOk, OnOk, OnErr, IsSome, is_some, ◌⊎◌}
+use Rattle.std.specs.Prelude.{Option, Some, None, Result, Ok, Err, IsSome, is_some, ◌⊎◌}
 use Rattle.std.specs.List.{filter, find, flat_map, list_any}
 use Rattle.std.specs.FinMap.{empty}
 use Rattle.std.specs.Str.{bytes_eq}
@@ -16,7 +16,7 @@ use Rattle.ncq_source.specs.declared.store.DeclareError.{DeclareError}
 use Rattle.ncq_source.specs.declared.store.DeclareError.TheVariants.{Exists}
 use Rattle.ncq_engine.specs.declared.telling.Answered.{Answered}
 use Rattle.ncq_engine.specs.declared.engine.ApplyError.{ApplyError}
-use Rattle.ncq_engine.specs.declared.engine.ApplyError.TheVariants.{Refused, OutOfMemory}
+use Rattle.ncq_engine.specs.declared.engine.ApplyError.TheVariants.{Refused}
 use Rattle.ncq_book.specs.declared.subscription.Subscription.{Subscription as Kept}
 use Rattle.ncq_engine.specs.Applies.{Applies, ok_text}
 use Rattle.ncq_group.specs.Tables.{TableState}
@@ -51,12 +51,12 @@ place_of store name (Some at) e =
 pub place : (store : StoreState) (name : List ℕ) → IsPlace store name
 place store name = place_of store name (found store name) refl
 
-module _ (engine : EngineState) (out : List ℕ) (result : Result Answered ApplyError) (out' : List ℕ)
-    (text : OnOk result (out' ≡ out ++ ok_text (engine.count + 1))) (places : IfOk result (λ a. a ≡ record { from = length out'; to = length out'; spans = [] })) (only : OnErr result (result ≡ Err OutOfMemory)) where
+module _ (engine : EngineState) (out : List ℕ) (applied : Answered) (out' : List ℕ)
+    (text : out' ≡ out ++ ok_text (engine.count + 1)) (places : applied ≡ record { from = length out'; to = length out'; spans = [] }) where
   pub declare_accepted : (name root : List ℕ) (key : Key) (store' : StoreState) → (IsSome (found engine.store name) → ⊥) → Declares engine.store store' name root key
-      → Applies engine (Declare name root key) out result (record engine { store = store'; count = engine.count + 1 }) out'
+      → Applies engine (Declare name root key) out (Ok applied) (record engine { store = store'; count = engine.count + 1 }) out'
   declare_accepted name root key store' new declares =
-      accepts_quietly engine (Declare name root key) out result (record engine { store = store'; count = engine.count + 1 }) out'
+      accepts_quietly engine (Declare name root key) out applied (record engine { store = store'; count = engine.count + 1 }) out'
       (record {
         accepted = λ h s. elim (place engine.store name) [
           | inr p ↦ absurd (new (subst IsSome (sym p.2) refl))
@@ -78,7 +78,7 @@ module _ (engine : EngineState) (out : List ℕ) (result : Result Answered Apply
         ends = λ h s. refl;
         counted = refl;
         named = refl;
-      }) text places only
+      }) text places
 
   named_alike : (name : List ℕ) (h : History) (s : Subscription) (m : Kept) → Keeps engine.labels h s m → is_named name s ≡ bytes_eq name m.name
   named_alike name h s m k = ap (bytes_eq name) (sym k.name)
@@ -88,9 +88,9 @@ module _ (engine : EngineState) (out : List ℕ) (result : Result Answered Apply
 
   -- the subscription of the name is gone, and its files with it
   pub delete_accepted : (name : List ℕ) (left : List Kept) (table' : TableState) → list_any (λ m. bytes_eq name m.name) engine.subscriptions ≡ true → left ≡ filter (λ m. not (bytes_eq name m.name)) engine.subscriptions → AreOf engine.table.files table'.files
-      → Applies engine (Delete name) out result (record engine { count = engine.count + 1; subscriptions = left; table = table' }) out'
+      → Applies engine (Delete name) out (Ok applied) (record engine { count = engine.count + 1; subscriptions = left; table = table' }) out'
   delete_accepted name left table' has gone fewer =
-      accepts_quietly engine (Delete name) out result (record engine { count = engine.count + 1; subscriptions = left; table = table' }) out'
+      accepts_quietly engine (Delete name) out applied (record engine { count = engine.count + 1; subscriptions = left; table = table' }) out'
       (record {
         accepted = λ h s. ap (λ t. refused_if (not t) refusal.NoName) (taken_is name h s.subscriptions ∙ has);
         follows = λ h s. record {
@@ -110,7 +110,7 @@ module _ (engine : EngineState) (out : List ℕ) (result : Result Answered Apply
         ends = λ h s. refl;
         counted = refl;
         named = refl;
-      }) text places only
+      }) text places
 
 module _ (engine : EngineState) (out : List ℕ) (result : Result Answered ApplyError) (new : EngineState) (out' : List ℕ)
     (same : new ≡ record engine { count = engine.count + 1 }) (untouched : out' ≡ out) where
@@ -164,9 +164,9 @@ none_named name (m ∷ ms) e =
 -- a delete that is accepted, from what the calls give
 pub delete_answers : (e : EngineState) (name : List ℕ) (install : ℕ) → install_of name e.subscriptions ≡ Some install → InstallsRise e.subscriptions → NamesDiffer e.subscriptions
     → (live_table : LiveState) → IsLeftBy (install ∷ []) (record { table = e.table; subscriptions = e.subscriptions; instant = e.clock }) live_table
-    → (out : List ℕ) (result : Result Answered ApplyError) (out' : List ℕ) → OnOk result (out' ≡ out ++ ok_text (e.count + 1)) → IfOk result (λ a. a ≡ record { from = length out'; to = length out'; spans = [] }) → OnErr result (result ≡ Err OutOfMemory)
-    → Applies e (Delete name) out result (record e { clock = live_table.instant; count = e.count + 1; subscriptions = live_table.subscriptions; table = live_table.table }) out'
-delete_answers e name install found rise differ live_table left out result out' text places only =
-    subst (λ (n : ℕ). Applies e (Delete name) out result (record e { clock = n; count = e.count + 1; subscriptions = live_table.subscriptions; table = live_table.table }) out') (sym left.instant)
-    (delete_accepted e out result out' text places only name live_table.subscriptions live_table.table (some_named name e.subscriptions install found)
+    → (out : List ℕ) (applied : Answered) (out' : List ℕ) → out' ≡ out ++ ok_text (e.count + 1) → applied ≡ record { from = length out'; to = length out'; spans = [] }
+    → Applies e (Delete name) out (Ok applied) (record e { clock = live_table.instant; count = e.count + 1; subscriptions = live_table.subscriptions; table = live_table.table }) out'
+delete_answers e name install found rise differ live_table left out applied out' text places =
+    subst (λ (n : ℕ). Applies e (Delete name) out (Ok applied) (record e { clock = n; count = e.count + 1; subscriptions = live_table.subscriptions; table = live_table.table }) out') (sym left.instant)
+    (delete_accepted e out applied out' text places name live_table.subscriptions live_table.table (some_named name e.subscriptions install found)
     (left.subscriptions ∙ without_one install e.subscriptions ∙ named_is name install e.subscriptions rise differ found) left.files)

@@ -1,6 +1,7 @@
 -- What the engine stands for behind a create.
 use Rattle.std.proofs.Common.{◌≡◌, ℕ, ◌+◌, ◌<◌, ◌≤◌, Bool, true, false, ◌&&◌, ◌==◌, List, [], ◌∷◌, ◌++◌, map, length, refl, sym, ◌∙◌, ap, subst, arith, zero-add}
-use Rattle.std.specs.Prelude.{Option, Some, None, Result, Ok, Err, if◌then◌else◌, IfSome, nat_le, is_some}
+use Rattle.std.specs.Prelude.{Option, Some, None, Result, Ok, Err, if◌then◌else◌, IfNone, IfSome, nat_le, is_some}
+use Rattle.std.proofs.Math.Seq.{take-length}
 use Rattle.std.proofs.lemmas.Bool.Decides.{nat_tests}
 use Rattle.std.proofs.lemmas.List.{append-nil}
 use Rattle.std.specs.List.{flat_map, list_any, AllByRecursion}
@@ -99,13 +100,13 @@ module _ (engine : EngineState) (statement : Statement) where
     create_late is free query binds fits late =
         refuses engine this refusal.Times out result new out is same refl (create_refusal false false true None free (binds_freely statement.query (roots_in engine.store) query binds) fits late)
 
-  pub create_unbound : (out : List ℕ) (result : Result Answered ApplyError) (new : EngineState) (error : BindError) → IfSome (query_refusal error) (λ _. new ≡ record engine { count = engine.count + 1 })
+  pub create_unbound : (out : List ℕ) (result : Result Answered ApplyError) (new : EngineState) (error : BindError) → IfSome (query_refusal error) (λ _. new ≡ record engine { count = engine.count + 1 }) → IfNone (query_refusal error) (new ≡ engine)
       → result ≡ Err (refused_query error) → list_any (λ m. bytes_eq statement.name m.name) engine.subscriptions ≡ false → Binds statement.query (roots_in engine.store) (Err error) → Applies engine this out result new out
-  create_unbound out result new error same is free binds = by (query_refusal error) refl same is
+  create_unbound out result new error counted same is free binds = by (query_refusal error) refl counted same is
     where
-      by : (o : Option Refusal) → query_refusal error ≡ o → IfSome o (λ _. new ≡ record engine { count = engine.count + 1 }) → result ≡ Err (error_of o) → Applies engine this out result new out
-      by None e same is = gives_up engine this out result new out is
-      by (Some why) e same is = refuses engine this why out result new out is same refl (create_refusal false _ _ (Some why) free (binds_not statement.query (roots_in engine.store) error why e binds) refl refl)
+      by : (o : Option Refusal) → query_refusal error ≡ o → IfSome o (λ _. new ≡ record engine { count = engine.count + 1 }) → IfNone o (new ≡ engine) → result ≡ Err (error_of o) → Applies engine this out result new out
+      by None e counted same is = gives_up engine this out result new out is same (take-length out)
+      by (Some why) e counted same is = refuses engine this why out result new out is counted refl (create_refusal false _ _ (Some why) free (binds_not statement.query (roots_in engine.store) error why e binds) refl refl)
 
 -- those that are live already do not fire at a create
 old_quiet : (statement : Statement) (h : History) (s : Subscription) → s.install ≤ creates_of h → fires s h (Create statement) ≡ None

@@ -1,6 +1,7 @@
 -- What the engine stands for behind each kind of command: what all kinds share.
 use Rattle.std.proofs.Common.{◌≡◌, ℕ, ◌+◌, ◌≤◌, Bool, true, false, ◌||◌, cond, List, [], ◌∷◌, ◌++◌, length, refl, sym, ◌∙◌, ap, subst, true≢false, arith, append_assoc, length-append}
-use Rattle.std.specs.Prelude.{Some, None, Result, Ok, Err, IfOk, OnOk, OnErr}
+use Rattle.std.specs.Prelude.{Some, None, Result, Ok, Err}
+use Rattle.std.specs.Io.{StartsWith}
 use Rattle.std.specs.List.{filter, flat_map, list_any}
 use Rattle.std.proofs.lemmas.List.{append-nil}
 use Rattle.ncq_callback.specs.Labels.{Label}
@@ -11,7 +12,7 @@ use Rattle.ncq_engine.specs.declared.telling.Answered.{Answered}
 use Rattle.ncq_engine.specs.declared.engine.ApplyError.{ApplyError}
 use Rattle.ncq_engine.specs.declared.engine.ApplyError.TheVariants.{Refused, OutOfMemory}
 use Rattle.ncq_book.specs.declared.subscription.Subscription.{Subscription as Kept}
-use Rattle.ncq_engine.specs.Applies.{Applies, ok_text}
+use Rattle.ncq_engine.specs.Applies.{Applies, GivesUp, ok_text}
 use Rattle.ncq_engine.specs.Engines.{Pairwise}
 use Rattle.ncq_engine.specs.Firing.{fires}
 use Rattle.ncq_engine.specs.History.{History, Subscription, moved, now}
@@ -79,17 +80,18 @@ accepts old command out applied new out' text rest t e from to =
       };
     }
 
--- where the first line cannot be appended, or more
-pub gives_up : (old : EngineState) (command : Command) (out : List ℕ) (result : Result Answered ApplyError) (new : EngineState) (out' : List ℕ) → result ≡ Err OutOfMemory → Applies old command out result new out'
-gives_up old command out result new out' is = subst (λ (r : Result Answered ApplyError). Applies old command out r new out') (sym is) tt
+-- a command that is given up leaves all as it was, with what was written in front
+pub gives_up : (old : EngineState) (command : Command) (out : List ℕ) (result : Result Answered ApplyError) (new : EngineState) (out' : List ℕ)
+    → result ≡ Err OutOfMemory → new ≡ old → StartsWith out' out → Applies old command out result new out'
+gives_up old command out result new out' is same front =
+    subst (λ (r : Result Answered ApplyError). Applies old command out r new out') (sym is)
+    (subst (λ (n : EngineState). GivesUp old out n out') (sym same) (record { follows = λ h s. s; uncounted = refl; labels = refl; front = front }))
 
 -- a command that tells nobody
-pub accepts_quietly : (old : EngineState) (command : Command) (out : List ℕ) (result : Result Answered ApplyError) (new : EngineState) (out' : List ℕ)
-    → Tells old command new [] (length out') [] []
-    → OnOk result (out' ≡ out ++ ok_text (old.count + 1)) → IfOk result (λ a. a ≡ record { from = length out'; to = length out'; spans = [] }) → OnErr result (result ≡ Err OutOfMemory)
-    → Applies old command out result new out'
-accepts_quietly old command out (Err why) new out' t text places only = gives_up old command out (Err why) new out' only
-accepts_quietly old command out (Ok applied) new out' t text places only =
+pub accepts_quietly : (old : EngineState) (command : Command) (out : List ℕ) (applied : Answered) (new : EngineState) (out' : List ℕ)
+    → Tells old command new [] (length out') [] [] → out' ≡ out ++ ok_text (old.count + 1) → applied ≡ record { from = length out'; to = length out'; spans = [] }
+    → Applies old command out (Ok applied) new out'
+accepts_quietly old command out applied new out' t text places =
     let line = ok_text (old.count + 1) in
     accepts old command out applied new out' [] []
     (record {

@@ -41,3 +41,4 @@ pub mod FedTexts
 pub mod PartLaws
 pub mod ReportLaws
 pub mod ReportAnswers
+pub mod GivenUp

@@ -2,6 +2,7 @@
 use Rattle.std.specs.Prelude.{◌≡◌, ◌+◌, ◌++◌, ◌∷◌, ℕ, List, length, None}
 use Rattle.std.specs.Prelude.{Some, Result, Ok, Err}
 use Rattle.std.specs.Prelude.{Option, slice_get}
+use Rattle.std.specs.Io.{StartsWith}
 use Rattle.std.specs.Option.{option_map}
 use Rattle.ncq_bind.specs.declared.binding.BindError.{BindError}
 use Rattle.ncq_bind.specs.declared.binding.BindError.TheVariants as binding
@@ -60,6 +61,12 @@ IfAnswered (Ok applied) holds = holds
 IfAnswered (Err (Refused why)) holds = holds
 IfAnswered (Err OutOfMemory) holds = Unit {0}
 
+-- it holds where memory ran out: the command was given up, neither accepted nor refused
+abbrev pub IfGivenUp : Result Applied ApplyError → Type 0 → Type 0
+IfGivenUp (Ok applied) holds = Unit {0}
+IfGivenUp (Err (Refused why)) holds = Unit {0}
+IfGivenUp (Err OutOfMemory) holds = holds
+
 -- the notices begin behind the first line of the answer, and end where they are all written
 pub record StandBetween (from to : ℕ) (old : EngineState) (history : History) (command : Command)
     (out : List ℕ) : Type 0 where
@@ -116,9 +123,18 @@ pub record Refuses (old : EngineState) (command : Command) (out : List ℕ) (why
   pub labels : new.labels ≡ old.labels
   pub unwritten : out' ≡ out
 
--- what each answer says: nothing where memory ran out
+-- the command is given up for want of memory: the engine follows what it followed, the command is
+-- not counted, and what was written before it stands in front
+pub record GivesUp (old : EngineState) (out : List ℕ) (new : EngineState) (out' : List ℕ)
+    : Type 0 where
+  pub follows : OfFollowed old (Follows new)
+  pub uncounted : new.count ≡ old.count
+  pub labels : new.labels ≡ old.labels
+  pub front : StartsWith out' out
+
+-- what each answer says
 abbrev pub Applies : EngineState → Command → List ℕ → Result Answered ApplyError → EngineState
     → List ℕ → Type 0
 Applies old command out (Ok answered) new out' = Accepts old command out answered new out'
 Applies old command out (Err (Refused why)) new out' = Refuses old command out why new out'
-Applies old command out (Err OutOfMemory) new out' = Unit {0}
+Applies old command out (Err OutOfMemory) new out' = GivesUp old out new out'

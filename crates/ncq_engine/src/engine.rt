@@ -12,8 +12,8 @@ ghost use Rattle.ncq_engine.specs.Stands.{EngineState, Follows, Stands};
 ghost use Rattle.ncq_engine.specs.Summaries.{IsSummary};
 ghost use Rattle.ncq_engine.specs.Works.{IsWithinWork};
 ghost use Rattle.ncq_live.specs.Shares.{Shares};
-ghost use Rattle.ncq_engine.specs.Applies.{Applies, WritesNotices, IfAnswered, IfRefused, OfEach};
-ghost use Rattle.ncq_engine.specs.Applies.{AreSpans, kind_at};
+ghost use Rattle.ncq_engine.specs.Applies.{Applies, WritesNotices, IfAnswered, IfGivenUp};
+ghost use Rattle.ncq_engine.specs.Applies.{IfRefused, OfEach, AreSpans, kind_at};
 ghost use Rattle.ncq_engine.specs.Applies.{refused_change, change_refusal, refused_query};
 ghost use Rattle.ncq_engine.specs.Applies.{query_refusal};
 ghost use Rattle.ncq_engine.specs.Engines.{new_subscription};
@@ -68,7 +68,8 @@ pub enum ApplyError {
     /// The first refusal that the command meets.
     #[error("refused")]
     Refused(Refusal),
-    /// Memory ran out; this may come at any call.
+    /// Memory ran out; this may come at any call. The engine and the output stand as before the
+    /// call: a caller can `shed`, give back memory of its own, and try the same command again.
     #[error("out of memory")]
     OutOfMemory,
 }
@@ -167,9 +168,11 @@ impl Engine {
     /// number, the notices by instant and then by install number, and a line for each subscription
     /// that expires, or the report. `Refused` comes exactly with the first refusal that the command
     /// meets; then `out` is as before, and the engine stands for what it stood for. Either counts
-    /// the command. Each row that is made is at most one step. Where memory runs out, `out` is cut
-    /// back and what the command had taken is given up, but no clause says so: the engine can only
-    /// be dropped.
+    /// the command. Each row that is made is at most one step.
+    ///
+    /// Where memory runs out, the engine stands for what it stood for, `out` is as before, and the
+    /// command is not counted: whatever comes next, the same command again too, is answered as if
+    /// this one had not come. The steps that it took stay counted.
     ///
     /// The handlers are those that the engine was made for. The command is one that a
     /// `ScriptReader` gives: the elements that it puts are proper, and its statement is well
@@ -200,14 +203,18 @@ impl Engine {
             AreSpans self.old history command.now out.old.items self.new.spans)) }
         ensures no_spans { OnErr result (self.new.spans ≡ []) }
 
-        // A refused one meets this refusal first; the history stays, and what was written.
+        // A refused one meets this refusal first.
         ensures refused { IfRefused result (λ why. OfEach self.old (λ history.
             first_refusal (language_of self.old.labels) history command.now ≡ Some why)) }
-        ensures stays { IfRefused result (λ _. OfEach self.old (Stands self.new)) }
-        ensures unwritten { IfRefused result (λ _. out.new.items ≡ out.old.items) }
 
-        // Either is counted; whatever is answered, the handlers' names and kinds stay.
+        // Refused or given up for want of memory, it leaves the history and what was written.
+        ensures stays { OnErr result (OfEach self.old (Stands self.new)) }
+        ensures unwritten { OnErr result (out.new.items ≡ out.old.items) }
+
+        // It is counted unless it is given up; whatever is answered, the handlers' names and kinds
+        // stay.
         ensures counted { IfAnswered result (self.new.count ≡ self.old.count + 1) }
+        ensures uncounted { IfGivenUp result (self.new.count ≡ self.old.count) }
         ensures labels { self.new.labels ≡ self.old.labels }
 
         // Each row that is made is at most one step: whatever is answered, they are within the work
@@ -618,6 +625,7 @@ impl Engine {
         ensures refused { result ≡ Err (refused_change error) }
         ensures counted { IfSome (change_refusal error) (λ _.
             self.new ≡ record self.old { count = self.old.count + 1 }) }
+        ensures same { IfNone (change_refusal error) (self.new ≡ self.old) }
         ensures labels { self.new.labels ≡ self.old.labels }
     {
         match error {
@@ -633,6 +641,7 @@ impl Engine {
         ensures refused { result ≡ Err (refused_query error) }
         ensures counted { IfSome (query_refusal error) (λ _.
             self.new ≡ record self.old { count = self.old.count + 1 }) }
+        ensures same { IfNone (query_refusal error) (self.new ≡ self.old) }
         ensures labels { self.new.labels ≡ self.old.labels }
     {
         match error {

@@ -1,5 +1,6 @@
 //! Subscriptions that end.
 ghost use Rattle.std.specs.Prelude.{◌≡◌, ◌++◌, OnOk};
+ghost use Rattle.std.specs.Io.{StartsWith};
 ghost use Rattle.std.specs.List.{flat_map};
 ghost use Rattle.ncq_engine.specs.Output.{expired_line};
 ghost use Rattle.ncq_engine.specs.Tellings.{expired_of, IsLeftBy};
@@ -8,14 +9,15 @@ use ncq_book::Book;
 use ncq_live::LiveTable;
 use std::alloc::AllocError;
 
-/// Appends the lines of the subscriptions of these install numbers.
+/// Appends the lines of the subscriptions of these install numbers; what was there stays in front.
 pub(crate) fn write_expired(
     book: &Book,
     installs: &[u64],
     out: &mut Vec<u8>,
 ) -> Result<(), AllocError>
-    ensures { OnOk result (out.new.items ≡ out.old.items
+    ensures text { OnOk result (out.new.items ≡ out.old.items
         ++ flat_map (expired_of book.now.subscriptions) installs.now) }
+    ensures front { StartsWith out.new.items out.old.items }
 {
     for install in installs {
         write_expired_one(book, *install, out)?;
@@ -25,8 +27,9 @@ pub(crate) fn write_expired(
 
 /// Appends the line of the subscription of this install number, where it is there.
 fn write_expired_one(book: &Book, install: u64, out: &mut Vec<u8>) -> Result<(), AllocError>
-    ensures { OnOk result (out.new.items ≡ out.old.items
+    ensures text { OnOk result (out.new.items ≡ out.old.items
         ++ expired_of book.now.subscriptions install) }
+    ensures front { StartsWith out.new.items out.old.items }
 {
     match book.get(install) {
         Some(subscription) => write_expired_line(subscription.name.as_slice(), out),
@@ -35,7 +38,8 @@ fn write_expired_one(book: &Book, install: u64, out: &mut Vec<u8>) -> Result<(),
 }
 
 fn write_expired_line(name: &[u8], out: &mut Vec<u8>) -> Result<(), AllocError>
-    ensures { OnOk result (out.new.items ≡ out.old.items ++ expired_line name.now) }
+    ensures text { OnOk result (out.new.items ≡ out.old.items ++ expired_line name.now) }
+    ensures front { StartsWith out.new.items out.old.items }
 {
     out.extend_from_slice(b"expired ")?;
     out.extend_from_slice(name)?;

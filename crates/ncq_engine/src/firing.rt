@@ -1,5 +1,6 @@
 //! A firing: what the answer of a subscription gained and lost since its latest one.
 ghost use Rattle.std.specs.Prelude.{◌≡◌, ◌++◌, length, IfOk, IfSome, OnOk};
+ghost use Rattle.std.specs.Io.{StartsWith};
 ghost use Rattle.ncq_callback.specs.Labels.{labels};
 ghost use Rattle.ncq_engine.specs.Engines.{mark_in, latest_in, notice_text, CanTell};
 ghost use Rattle.ncq_engine.specs.Spans.{span_of};
@@ -17,7 +18,7 @@ use std::alloc::{AllocError, Global};
 
 /// Appends what the answer of the subscription gained and lost since its latest firing, and adds
 /// where that stands, if anything differs. What was told last, if anything was, serves where it is
-/// the same; what this subscription is told comes back.
+/// the same; what this subscription is told comes back. What was written before stays in front.
 pub(crate) fn fire<'a>(
     alloc: Global,
     subscription: &'a Subscription,
@@ -35,6 +36,7 @@ pub(crate) fn fire<'a>(
     ensures text { OnOk result (out.new.items ≡ out.old.items
         ++ notice_text (labels handlers.now.items.items (λ h. h.name) (λ h. h.kind))
         store.now groups.now.files subscription.now instant) }
+    ensures front { StartsWith out.new.items out.old.items }
     ensures span { OnOk result (spans.new ≡ spans.old
         ++ span_of subscription.now.name (length out.old.items)
         (notice_text (labels handlers.now.items.items (λ h. h.name) (λ h. h.kind))

@@ -6,7 +6,8 @@
 //! its store has the sources, its files are those of the subexpressions of the live queries, one
 //! each, with the rows that these had at each change, and each subscription has the file of its
 //! plan. A firing tells what the rows of that file since its mark add up to, and a report what the
-//! live queries share. The rows that a command makes are at most its work (`specs/Works`).
+//! live queries share. The rows that a command makes are at most its work (`specs/Works`). Where a
+//! command is refused, or given up for want of memory, the engine stands for that history still.
 #![tactic(auto)]
 
 mod engine;

@@ -1,6 +1,7 @@
 //! What those that fire are told.
 ghost use Rattle.std.specs.Prelude.{◌≡◌, ◌++◌, ◌∷◌, [], ◌<◌, ◌-◌, ◌^◌, length};
 ghost use Rattle.std.specs.Prelude.{IsSome, IfOk, IfSome, OnOk};
+ghost use Rattle.std.specs.Io.{StartsWith};
 ghost use Rattle.std.specs.List.{AllByRecursion};
 ghost use Rattle.ncq_book.specs.Books.{subscription_of, watchers_of, InstallsRise};
 ghost use Rattle.ncq_callback.specs.Labels.{labels};
@@ -47,13 +48,15 @@ impl Answered {
     }
 }
 
-/// Appends the line that says that the command of this number is accepted.
+/// Appends the line that says that the command of this number is accepted; what was there stays in
+/// front.
 pub(crate) fn write_accepted(
     alloc: Global,
     number: u64,
     out: &mut Vec<u8>,
 ) -> Result<Answered, AllocError>
     ensures text { OnOk result (out.new.items ≡ out.old.items ++ ok_text number) }
+    ensures front { StartsWith out.new.items out.old.items }
     ensures places { IfOk result (λ answered. answered ≡ record {
       from = length out.new.items;
       to = length out.new.items;
@@ -85,6 +88,7 @@ pub(crate) fn tell(
     ensures text { OnOk result (out.new.items ≡ out.old.items
         ++ firings_text (labels handlers.now.items.items (λ h. h.name) (λ h. h.kind)) store.now
         live_table.now firings.now) }
+    ensures front { StartsWith out.new.items out.old.items }
     ensures spans { IfOk result (λ spans. spans
         ≡ firings_spans (labels handlers.now.items.items (λ h. h.name) (λ h. h.kind)) store.now
         live_table.now (length out.old.items) firings.now) }
@@ -126,6 +130,7 @@ fn tell_started(
     ensures text { OnOk result (out.new.items ≡ out.old.items
         ++ firings_text (labels handlers.now.items.items (λ h. h.name) (λ h. h.kind)) store.now
         live_table.now (started_of live_table.now installs.now)) }
+    ensures front { StartsWith out.new.items out.old.items }
     ensures spans { IfOk result (λ spans. spans
         ≡ firings_spans (labels handlers.now.items.items (λ h. h.name) (λ h. h.kind)) store.now
         live_table.now (length out.old.items) (started_of live_table.now installs.now)) }
@@ -158,6 +163,7 @@ fn tell_one<'a>(
     ensures text { OnOk result (out.new.items ≡ out.old.items
         ++ firings_text (labels handlers.now.items.items (λ h. h.name) (λ h. h.kind)) store.now
         live_table.now (started_at live_table.now.instant live_table.now.subscriptions install)) }
+    ensures front { StartsWith out.new.items out.old.items }
     ensures spans { OnOk result (spans.new ≡ spans.old
         ++ firings_spans (labels handlers.now.items.items (λ h. h.name) (λ h. h.kind)) store.now
         live_table.now (length out.old.items)
@@ -198,6 +204,7 @@ pub(crate) fn answer_change(
         (labels handlers.now.items.items (λ h. h.name) (λ h. h.kind)) store.now live_table.now
         (started_of live_table.now (watchers_of fed.now live_table.now.subscriptions))
         out.old.items out.new.items) }
+    ensures front { StartsWith out.new.items out.old.items }
 {
     let answered = write_accepted(alloc, number, out)?;
     let watchers = live_table.book().watchers(alloc, fed)?;
@@ -221,6 +228,7 @@ pub(crate) fn answer_create(
     ensures told { IfOk result (λ told. IsAnswered number
         (labels handlers.now.items.items (λ h. h.name) (λ h. h.kind)) store.now live_table.now
         told.1 out.old.items out.new.items told.0) }
+    ensures front { StartsWith out.new.items out.old.items }
     ensures firings { IfOk result (λ told. told.1 ≡ started_of live_table.now (install ∷ [])) }
 {
     let answered = write_accepted(alloc, number, out)?;

@@ -1,29 +1,28 @@
 -- The commands that are answered so far: as bytes come, as one more is answered, and at the end.
-use Rattle.std.proofs.Common.{◌≡◌, ◌+◌, ◌≤◌, ◌++◌, ℕ, List, [], ◌∷◌, length, take, drop, arith, sym, ◌∙◌, ap, refl, subst, length-append, suc, true, false}
-use Rattle.std.specs.Prelude.{slice_get, Some, None, Option, Result, Ok, Err, OnOk}
+use Rattle.std.proofs.Common.{◌*◌, ◌≡◌, ◌+◌, ◌≤◌, ◌++◌, ℕ, List, [], ◌∷◌, length, take, drop, arith, sym, ◌∙◌, ap, refl, subst, length-append, suc, true, false}
+use Rattle.std.specs.Prelude.{slice_get, Some, Option, Result, Ok, Err}
 use Rattle.std.specs.Io.KnownBytes.{Appends}
 use Rattle.std.proofs.KnownBytes.{Appends-trans}
 use Rattle.std.proofs.Math.Seq.{take-suc}
 use Rattle.std.proofs.lemmas.List.{append-nil, length-take-le, take-append-drop, take-append-le, take_all}
 use Rattle.std.proofs.lemmas.Option.{get_or_from_slice_get, slice_get_within}
 use Rattle.ncq_script.specs.declared.command.Command.{Command}
-use Rattle.ncq_script.specs.Script.{known_script, script, whole_script}
+use Rattle.ncq_script.specs.Script.{script, whole_script}
 use Rattle.ncq_script.specs.ScriptReading.{ScriptState, FollowsScript, is_finished, limit_of}
 use Rattle.ncq_script.proofs.CallerLemmas.{next_moves, script_end, whole_script_then}
 use Rattle.ncq_callback.specs.Labels.{Label}
-use Rattle.ncq_engine.specs.History.{History}
 use Rattle.ncq_engine.specs.Languages.{language_of}
 use Rattle.ncq_engine.specs.Notices.{Language}
 use Rattle.ncq_engine.specs.Output.{after, history_of}
 use Rattle.ncq_engine.specs.Stands.{EngineState, Stands}
-use Rattle.ncq_engine.specs.Works.{AreWorkUpTo, IsWithinWork, IsWorkUpTo}
+use Rattle.ncq_engine.specs.Works.{IsWorkUpTo}
 use Rattle.ncq_report.specs.declared.tally.Tally.{Tally}
 use Rattle.ncq_run.specs.declared.answer.Stop.{Stop}
 use Rattle.ncq_run.specs.declared.answer.Stop.TheVariants.{NoMemory, WriteFault}
-use Rattle.ncq_run.specs.Output.{AreWithinWork, shown}
+use Rattle.ncq_run.specs.Output.{AreWithinTries, shown}
 use Rattle.ncq_run.specs.Session.{Advances, Asks, IsAnswered, IsSmall, IsTallied, IsThrough, IsUpTo, Writes, answered_in, commands_in}
 use Rattle.ncq_run.specs.Shown.{shown_answer, shown_of}
-use Rattle.ncq_run.specs.Status.{AppendsPrefix, AppendsProperPrefix}
+use Rattle.ncq_run.specs.Status.{AppendsPrefix}
 use Rattle.ncq_run.specs.Tallies.{tally_of, with_command}
 use Rattle.ncq_run.proofs.Outputs.{by_turns, history_join, known_closed, known_open, known_same, stopped_front, stopped_later}
 use Rattle.ncq_run.proofs.TallyLaws.{tally_then}
@@ -62,21 +61,21 @@ module _ (known : Script) (count : ℕ) (command : Command) (at : slice_get know
           ++ shown_of language whose (after language (history_of language [] (take count known)) command) ((count + 1) + 1) (drop (count + 1) known))
       all_shown = by_turns language whose known (take count known) (command ∷ drop (count + 1) known) front_and count front_long
 
-    module _ (begun steps steps' : ℕ) (was : AreWithinWork language (take count known) begun steps)
-        (now : (bound : ℕ) → IsWorkUpTo language (history_of language [] (take count known)) command bound → steps' ≤ steps + bound) where
-      front_work : AreWithinWork language (take (count + 1) known) begun steps'
-      front_work = subst (λ (ls : Script). AreWithinWork language ls begun steps') (sym front_more)
+    module _ (begun steps steps' : ℕ) (was : AreWithinTries language (take count known) begun steps)
+        (now : (bound : ℕ) → IsWorkUpTo language (history_of language [] (take count known)) command bound → steps' ≤ steps + 2 * bound) where
+      front_work : AreWithinTries language (take (count + 1) known) begun steps'
+      front_work = subst (λ (ls : Script). AreWithinTries language ls begun steps') (sym front_more)
           (works_join language (take count known) (command ∷ []) begun steps steps' was (λ bound works. omega (arith, now works.0 works.2, works.4)))
 
       -- also where it was tried alone
-      tried_work : AreWithinWork language known begun steps'
-      tried_work = subst (λ (ls : Script). AreWithinWork language ls begun steps') (sym front_and)
+      tried_work : AreWithinTries language known begun steps'
+      tried_work = subst (λ (ls : Script). AreWithinTries language ls begun steps') (sym front_and)
           (works_join language (take count known) (command ∷ drop (count + 1) known) begun steps steps' was (λ bound works. omega (arith, now works.0 works.2, works.4)))
 
 module _ (language : Language) (known : Script) (count : ℕ) where
   -- the work of those in front is within that of all
-  front_of_work : (begun steps : ℕ) → AreWithinWork language (take count known) begun steps → AreWithinWork language known begun steps
-  front_of_work begun steps was = subst (λ (ls : Script). AreWithinWork language ls begun steps) (take-append-drop count known)
+  front_of_work : (begun steps : ℕ) → AreWithinTries language (take count known) begun steps → AreWithinTries language known begun steps
+  front_of_work begun steps was = subst (λ (ls : Script). AreWithinTries language ls begun steps) (take-append-drop count known)
       (works_more language (take count known) (drop count known) begun steps was)
 
   -- what is shown of them is a front of what is shown of all
@@ -88,8 +87,8 @@ module _ (language : Language) (known : Script) (count : ℕ) where
     was,
   )
 
--- the steps so far are within the work of all that the reader can tell
-pub up_to_work : (bytes : List ℕ) (reader : ScriptState) (engine : EngineState) (begun steps : ℕ) → IsUpTo bytes reader engine begun steps → AreWithinWork (language_of engine.labels) (commands_in reader bytes) begun steps
+-- the steps so far are within twice the work of all that the reader can tell
+pub up_to_work : (bytes : List ℕ) (reader : ScriptState) (engine : EngineState) (begun steps : ℕ) → IsUpTo bytes reader engine begun steps → AreWithinTries (language_of engine.labels) (commands_in reader bytes) begun steps
 up_to_work bytes reader engine begun steps so = front_of_work (language_of engine.labels) (commands_in reader bytes) engine.count begun steps so.work
 
 -- those in front of a longer list
@@ -111,7 +110,7 @@ module _ {bytes bytes' : List ℕ} {reader reader' : ScriptState} {engine : Engi
     follows = carries.follows;
     few = carries.few;
     stands = subst (λ (ls : Script). Stands engine (history_of (language_of engine.labels) [] ls)) (sym carries.same) so.stands;
-    work = subst (λ (ls : Script). AreWithinWork (language_of engine.labels) ls begun steps) (sym carries.same) so.work;
+    work = subst (λ (ls : Script). AreWithinTries (language_of engine.labels) ls begun steps) (sym carries.same) so.work;
   }
 
   answered_carried : {whose before held : Option (List ℕ)} → IsAnswered whose bytes reader engine before held begun steps → IsAnswered whose bytes' reader' engine before held begun steps
@@ -167,7 +166,7 @@ module _ (bytes piece : List ℕ) (reader reader' : ScriptState) (engine : Engin
         up_to = tt;
         all = tt;
         work = front_of_work (language_of engine.labels) (commands_in reader' (bytes ++ piece)) engine.count begun steps
-            (subst (λ (ls : Script). AreWithinWork (language_of engine.labels) ls begun steps) (sym (unpushed so.few).0) so.work);
+            (subst (λ (ls : Script). AreWithinTries (language_of engine.labels) ls begun steps) (sym (unpushed so.few).0) so.work);
       })
 
   pub unpushed_writes : {begun steps : ℕ} {whose before held : Option (List ℕ)} → IsAnswered whose bytes reader engine before held begun steps
@@ -234,7 +233,7 @@ module _ (bytes : List ℕ) (reader reader' : ScriptState) (limit : limit_of rea
     not_through error so = record {
       up_to = tt;
       all = tt;
-      work = subst (λ (ls : Script). AreWithinWork (language_of engine.labels) ls begun steps) (sym same_known)
+      work = subst (λ (ls : Script). AreWithinTries (language_of engine.labels) ls begun steps) (sym same_known)
           (front_of_work (language_of engine.labels) (commands_in reader bytes) engine.count begun steps so.work);
     }
 
@@ -255,8 +254,8 @@ module _ (bytes : List ℕ) (reader reader' : ScriptState) (limit : limit_of rea
       up_to = tt;
       all = tt;
       work =
-          subst (λ (ls : List Label). AreWithinWork (language_of ls) (commands_in reader' bytes) begun steps') (sym asks.labels)
-          (subst (λ (ls : Script). AreWithinWork (language_of engine.labels) ls begun steps') (sym same_known)
+          subst (λ (ls : List Label). AreWithinTries (language_of ls) (commands_in reader' bytes) begun steps') (sym asks.labels)
+          (subst (λ (ls : Script). AreWithinTries (language_of engine.labels) ls begun steps') (sym same_known)
           (tried_work (commands_in reader bytes) engine.count command at (language_of engine.labels) begun steps steps' so.work (asks.work _ so.stands)));
     }
 
@@ -291,8 +290,8 @@ module _ (bytes : List ℕ) (reader reader' : ScriptState) (limit : limit_of rea
             few = omega (arith, within, asks.counted, ap length same_known);
             stands = subst (Stands engine') (sym (history ∙ front_history known engine.count command at (language_of engine.labels))) (asks.stands _ so.stands);
             work =
-                subst (λ (ls : List Label). AreWithinWork (language_of ls) (answered_in reader' engine' bytes) begun steps') (sym asks.labels)
-                (subst (λ (ls : Script). AreWithinWork (language_of engine.labels) ls begun steps') (sym more)
+                subst (λ (ls : List Label). AreWithinTries (language_of ls) (answered_in reader' engine' bytes) begun steps') (sym asks.labels)
+                (subst (λ (ls : Script). AreWithinTries (language_of engine.labels) ls begun steps') (sym more)
                 (front_work known engine.count command at (language_of engine.labels) begun steps steps' so.work (asks.work _ so.stands)));
           }
 

@@ -11,8 +11,7 @@ use Rattle.ncq_engine.specs.Notices.{Language}
 use Rattle.ncq_engine.specs.Output.{output, after, first_refusal, answered, with_accepted, accepted_text, ok_text, unless_refused}
 use Rattle.ncq_engine.specs.Spans.{spans}
 use Rattle.ncq_engine.specs.Stands.{EngineState, Stands}
-use Rattle.ncq_engine.specs.Works.{IsWithinWork}
-use Rattle.ncq_run.specs.Session.{Asks}
+use Rattle.ncq_run.specs.Session.{Asks, IsWithinTries}
 use Rattle.ncq_run.specs.Shown.{answer_spans}
 
 module _ (language : Language) (history : History) (command : Command) where
@@ -84,7 +83,7 @@ spans_refused old command why new none refused history stands =
 
 -- it did not answer
 pub asks_failed : {T E : Type 0} (engine : EngineState) (command : Command) (steps : ℕ) (engine' : EngineState) (steps' : ℕ) (result : Result T E) (error : E) → result ≡ Err error
-    → engine'.labels ≡ engine.labels → IsWithinWork engine command steps steps' → Asks {T = T} {E = E} engine command steps engine' steps' result
+    → engine'.labels ≡ engine.labels → IsWithinTries engine command steps steps' → Asks {T = T} {E = E} engine command steps engine' steps' result
 asks_failed {T = T} {E = E} engine command steps engine' steps' result error is labels work =
     subst (λ (r : Result T E). Asks {T = T} {E = E} engine command steps engine' steps' r) (sym is) (record { stands = tt; counted = tt; labels = labels; work = work })
 

@@ -1,21 +1,16 @@
 -- The output of commands, joined from the outputs of those in front and those behind.
-use Rattle.std.proofs.Common.{◌≡◌, ◌+◌, ◌++◌, ℕ, List, [], ◌∷◌, length, drop, arith, sym, ◌∙◌, ap, append_assoc, Bool, true, false, suc, length-append, refl, subst}
-use Rattle.std.specs.Prelude.{slice_get, Some, None, Option}
+use Rattle.std.proofs.Common.{◌≡◌, ◌+◌, ◌++◌, ℕ, List, [], ◌∷◌, length, drop, arith, sym, ◌∙◌, ap, append_assoc, Bool, true, false, suc, length-append, refl}
+use Rattle.std.specs.Prelude.{Some, None, Option}
 use Rattle.std.specs.Io.KnownBytes.{Appends}
 use Rattle.std.proofs.KnownBytes.{Appends-nil, Appends-trans}
-use Rattle.std.proofs.lemmas.List.{append-nil, drop_all}
 use Rattle.ncq_script.specs.Script.{script, whole_script, known_script}
 use Rattle.ncq_script.specs.declared.command.Command.{Command}
-use Rattle.ncq_script.proofs.CallerLemmas.{next_moves, whole_script_then, script_then, script_end, whole_script-nil}
-use Rattle.ncq_callback.specs.Labels.{Label}
-use Rattle.ncq_script.specs.ScriptReading.{ScriptState, FollowsScript}
-use Rattle.ncq_engine.specs.Languages.{language_of}
+use Rattle.ncq_script.proofs.CallerLemmas.{script_then}
 use Rattle.ncq_engine.specs.History.{History}
 use Rattle.ncq_engine.specs.Notices.{Language}
 use Rattle.ncq_engine.specs.Alone.{notes, notices_of}
 use Rattle.ncq_engine.specs.Output.{output, after, first_refusal, out_of, history_of, unless_refused}
 use Rattle.ncq_engine.proofs.AloneLaws.{stands_alone}
-use Rattle.ncq_engine.specs.Stands.{EngineState, Stands}
 use Rattle.ncq_run.specs.Output.{output_of, shown}
 use Rattle.ncq_run.specs.Shown.{shown_answer, shown_of}
 use Rattle.ncq_run.specs.Status.{AppendsPrefix, AppendsProperPrefix}

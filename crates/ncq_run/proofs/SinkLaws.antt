@@ -1,5 +1,5 @@
 -- What calls that write leave of the sink.
-use Rattle.std.proofs.Common.{◌≡◌, ◌≤◌, ℕ, List, arith, refl, subst, sym, ◌∙◌}
+use Rattle.std.proofs.Common.{◌≡◌, ◌≤◌, ℕ, List, arith, subst, sym, ◌∙◌}
 use Rattle.std.specs.Prelude.{Option, Result, Ok, Err}
 use Rattle.ncq_outside.specs.Causes.{IsFull, Rose}
 use Rattle.ncq_run.specs.declared.answer.Stop.{Stop}

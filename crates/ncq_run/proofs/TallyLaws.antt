@@ -1,6 +1,6 @@
 -- What is counted of commands, one after the other.
-use Rattle.std.proofs.Common.{◌≡◌, ◌+◌, ◌*◌, ◌≤◌, ◌<◌, ◌^◌, ◌++◌, ◌∷◌, ℕ, Bool, zero, suc, ◌-◌, List, [], length, drop, take, ap, sym, ◌∙◌, subst, arith, append_assoc}
-use Rattle.std.specs.Prelude.{None, Some, Ok, Err, OnOk, Option, Result, if◌then◌else◌, slice_get, true, false}
+use Rattle.std.proofs.Common.{◌≡◌, ◌+◌, ◌*◌, ◌≤◌, ◌<◌, ◌^◌, ◌++◌, ◌∷◌, ℕ, Bool, zero, suc, ◌-◌, List, [], length, take, ap, sym, ◌∙◌, subst, arith, append_assoc}
+use Rattle.std.specs.Prelude.{None, Some, Option, if◌then◌else◌, true, false}
 use Rattle.std.specs.Option.{is_none}
 use Rattle.ncq_callback.specs.Labels.{Label}
 use Rattle.std.proofs.lemmas.List.{append-nil, take_all}
@@ -16,9 +16,8 @@ use Rattle.ncq_engine.specs.Languages.{language_of}
 use Rattle.ncq_engine.specs.Notices.{Language}
 use Rattle.ncq_engine.specs.Output.{after, first_refusal, history_of, output}
 use Rattle.ncq_engine.specs.Stands.{EngineState, Stands}
-use Rattle.ncq_engine.specs.Works.{AreWorkUpTo}
 use Rattle.ncq_report.specs.Texts.{tally_text}
-use Rattle.ncq_run.specs.Output.{AreWithinWork, load_output}
+use Rattle.ncq_run.specs.Output.{AreWithinTries, load_output}
 use Rattle.ncq_run.specs.Status.{StandsForThe}
 use Rattle.ncq_run.proofs.Outputs.{known_closed, known_open}
 use Rattle.ncq_run.proofs.WorkLaws.{all_work}
@@ -86,20 +85,20 @@ parts_front n parts (suc more) =
       ap (parts_text n) (let e : parts + suc more ≡ suc (parts + more) = omega arith in e) ∙ ap (λ (bs : List ℕ). bs ++ part_text n (parts + more)) before.1 ∙ append_assoc (parts_text n parts) before.0 (part_text n (parts + more)),
     )
 
--- steps within the work of all that may follow are within that of the load
-pub load_work : (language : Language) (limit n parts begun steps : ℕ) → parts ≤ 2 * n + 4 → ((more : List ℕ) → AreWithinWork language (script limit (parts_text n parts ++ more)) begun steps) → AreWithinWork language (script limit (load_text n)) begun steps
+-- steps within twice the work of all that may follow are within twice that of the load
+pub load_work : (language : Language) (limit n parts begun steps : ℕ) → parts ≤ 2 * n + 4 → ((more : List ℕ) → AreWithinTries language (script limit (parts_text n parts ++ more)) begun steps) → AreWithinTries language (script limit (load_text n)) begun steps
 load_work language limit n parts begun steps few work =
     let front = parts_front n parts ((2 * n + 4) - parts) in
     let whole : parts + ((2 * n + 4) - parts) ≡ 2 * n + 4 = omega (arith, few) in
-    subst (λ (bs : List ℕ). AreWithinWork language (script limit bs) begun steps) (sym front.1 ∙ ap (parts_text n) whole) (work front.0)
+    subst (λ (bs : List ℕ). AreWithinTries language (script limit bs) begun steps) (sym front.1 ∙ ap (parts_text n) whole) (work front.0)
 
--- the steps so far are within the work of the load, in the language that it began with
+-- the steps so far are within twice the work of the load, in the language that it began with
 pub part_work : (labels : List Label) (limit n parts : ℕ) (bytes : List ℕ) (reader : ScriptState) (engine : EngineState) (begun steps : ℕ) → parts ≤ 2 * n + 4 → bytes ≡ parts_text n parts → engine.labels ≡ labels
-    → limit_of reader ≡ limit → is_finished reader ≡ false → AreWithinWork (language_of engine.labels) (commands_in reader bytes) begun steps → AreWithinWork (language_of labels) (script limit (load_text n)) begun steps
+    → limit_of reader ≡ limit → is_finished reader ≡ false → AreWithinTries (language_of engine.labels) (commands_in reader bytes) begun steps → AreWithinTries (language_of labels) (script limit (load_text n)) begun steps
 part_work labels limit n parts bytes reader engine begun steps few is same limited opened work =
     load_work (language_of labels) limit n parts begun steps few (λ more. all_work (language_of labels) limit (parts_text n parts) begun more steps
-    (subst (λ (ls : List Label). AreWithinWork (language_of ls) (whole_script limit (parts_text n parts)) begun steps) same
-    (subst (λ (cs : Script). AreWithinWork (language_of engine.labels) cs begun steps)
+    (subst (λ (ls : List Label). AreWithinTries (language_of ls) (whole_script limit (parts_text n parts)) begun steps) same
+    (subst (λ (cs : Script). AreWithinTries (language_of engine.labels) cs begun steps)
     (known_open limit (limit_of reader) (is_finished reader) bytes limited opened ∙ ap (whole_script limit) is) work)))
 
 -- the whole load was pushed, and its end was marked
@@ -108,9 +107,9 @@ module _ (labels : List Label) (limit n : ℕ) (bytes : List ℕ) (reader : Scri
   load_known : commands_in reader bytes ≡ script limit (load_text n)
   load_known = known_closed limit (limit_of reader) (is_finished reader) bytes limited closed ∙ ap (script limit) is
 
-  pub load_worked : AreWithinWork (language_of engine.labels) (commands_in reader bytes) begun steps → AreWithinWork (language_of labels) (script limit (load_text n)) begun steps
-  load_worked work = subst (λ (ls : List Label). AreWithinWork (language_of ls) (script limit (load_text n)) begun steps) same
-      (subst (λ (cs : Script). AreWithinWork (language_of engine.labels) cs begun steps) load_known work)
+  pub load_worked : AreWithinTries (language_of engine.labels) (commands_in reader bytes) begun steps → AreWithinTries (language_of labels) (script limit (load_text n)) begun steps
+  load_worked work = subst (λ (ls : List Label). AreWithinTries (language_of ls) (script limit (load_text n)) begun steps) same
+      (subst (λ (cs : Script). AreWithinTries (language_of engine.labels) cs begun steps) load_known work)
 
   pub load_tallied : (tally : Tally) → IsTallied bytes reader engine tally begun steps → engine.count ≡ length (commands_in reader bytes)
       → (tally ≡ tally_of (language_of labels) (script limit (load_text n))) × StandsForThe (language_of labels) (script limit (load_text n)) engine

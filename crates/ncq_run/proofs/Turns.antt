@@ -22,9 +22,9 @@ use Rattle.ncq_run.specs.declared.answer.Stop.{Stop}
 use Rattle.ncq_run.specs.declared.answer.Stop.TheVariants as stop
 use Rattle.ncq_run.specs.declared.session.Status.{Status}
 use Rattle.ncq_run.specs.declared.session.Status.TheVariants as status
-use Rattle.ncq_run.specs.Output.{output_of, output_of_whole, shown, AreWithinWork}
-use Rattle.ncq_run.specs.Session.{IsAnswered, IsOver, IsThrough, IsUpTo, SoFar, Writes, answered_in, commands_in, status_of}
-use Rattle.ncq_run.specs.Status.{Outside, outside, StandsForThe, StandsAfter, IsDone, IsReadFault, IsWriteFault, IsTooLong, IsOutOfMemory, AppendsPrefix, AppendsProperPrefix}
+use Rattle.ncq_run.specs.Output.{output_of, output_of_whole, shown, AreWithinTries}
+use Rattle.ncq_run.specs.Session.{IsOver, IsThrough, SoFar, Writes, answered_in, commands_in, status_of}
+use Rattle.ncq_run.specs.Status.{Outside, outside, StandsForThe, AppendsPrefix, AppendsProperPrefix}
 
 abbrev Script : Type 0
 Script = List Command
@@ -64,7 +64,7 @@ rose_later a b c le rose = omega arith
 record Said {T : Type 0} (language : Language) (whose : Option (List ℕ)) (commands : Script) (engine : EngineState) (before held : Option (List ℕ)) (begun steps : ℕ) (result : Result T Stop) : Type 0 where
   stands : OnOk result (StandsForThe language commands engine)
   written : Writes before held (shown language whose commands) result
-  work : AreWithinWork language commands begun steps
+  work : AreWithinTries language commands begun steps
 
 module _ {T : Type 0} (labels : List Label) (whose : Option (List ℕ)) (bytes : List ℕ) (reader : ScriptState) (engine : EngineState) (before held : Option (List ℕ)) (begun steps : ℕ) (same : engine.labels ≡ labels) where
   stands_said : (result : Result T Stop) → IsThrough bytes reader engine begun steps result → OnOk result (StandsForThe (language_of labels) (commands_in reader bytes) engine)
@@ -79,7 +79,7 @@ module _ {T : Type 0} (labels : List Label) (whose : Option (List ℕ)) (bytes :
       subst (λ (cs : Script). Said (language_of labels) whose cs engine before held begun steps result) is (record {
         stands = stands_said result through;
         written = subst (λ (ls : List Label). Writes before held (shown (language_of ls) whose (commands_in reader bytes)) result) same written;
-        work = subst (λ (ls : List Label). AreWithinWork (language_of ls) (commands_in reader bytes) begun steps) same through.work;
+        work = subst (λ (ls : List Label). AreWithinTries (language_of ls) (commands_in reader bytes) begun steps) same through.work;
       })
 
 module _ (whose : Option (List ℕ)) (reader : ScriptState) (engine : EngineState) (taken most : ℕ) (start : Outside) (left held : Option (List ℕ)) (given rf wf begun steps : ℕ)
@@ -111,9 +111,9 @@ module _ (whose : Option (List ℕ)) (reader : ScriptState) (engine : EngineStat
       stands = λ bytes rest e f.
           let same : so.bytes ≡ bytes = taken_are start.left left' so.bytes bytes rest (Consumes-kept _ _ _ _ so.read kept) e f in
           subst (λ (bs : List ℕ). StandsForThe language (whole_script limit bs) engine) same whole_stands;
-      work = with_rest start.left left so.bytes (λ bytes. AreWithinWork language (script limit bytes) begun steps) so.read
+      work = with_rest start.left left so.bytes (λ bytes. AreWithinTries language (script limit bytes) begun steps) so.read
           (λ rest. all_work language limit so.bytes begun rest steps
-          (subst (λ (cs : Script). AreWithinWork language cs begun steps) answered_is so.answered.up_to.work));
+          (subst (λ (cs : Script). AreWithinTries language cs begun steps) answered_is so.answered.up_to.work));
     }
 
   -- the call that answers what was read left this
@@ -134,8 +134,8 @@ module _ (whose : Option (List ℕ)) (reader : ScriptState) (engine : EngineStat
       end_said = said engine.labels whose so.bytes reader' engine' start.held held' begun steps' labels (script limit so.bytes)
           (known_closed limit (limit_of reader') (is_finished reader') so.bytes limit' closed) result through writes
 
-      end_work : IfSome start.left (λ bytes. AreWithinWork language (script limit bytes) begun steps')
-      end_work = at_end (λ bytes. AreWithinWork language (script limit bytes) begun steps') end_said.work
+      end_work : IfSome start.left (λ bytes. AreWithinTries language (script limit bytes) begun steps')
+      end_work = at_end (λ bytes. AreWithinTries language (script limit bytes) begun steps') end_said.work
 
       pub over_done : (done : T) → result ≡ Ok done → RoseBy given n given' → IsOver language whose limit most start (outside left' held' given' rf' wf') engine' begun steps' status.Done
       unfolding output_of
@@ -189,8 +189,8 @@ module _ (whose : Option (List ℕ)) (reader : ScriptState) (engine : EngineStat
       piece_said : Said language whose (whole_script limit now_bytes) engine' start.held held' begun steps' result
       piece_said = said engine.labels whose (so.bytes ++ piece) reader' engine' start.held held' begun steps' labels (whole_script limit now_bytes) piece_known result through writes
 
-      piece_work : IfSome start.left (λ bytes. AreWithinWork language (script limit bytes) begun steps')
-      piece_work = over_rest (λ bytes. AreWithinWork language (script limit bytes) begun steps') (λ more. all_work language limit now_bytes begun more steps' piece_said.work)
+      piece_work : IfSome start.left (λ bytes. AreWithinTries language (script limit bytes) begun steps')
+      piece_work = over_rest (λ bytes. AreWithinTries language (script limit bytes) begun steps') (λ more. all_work language limit now_bytes begun more steps' piece_said.work)
 
       stopped_piece : (why : Stop) → result ≡ Err why → (why ≡ stop.WriteFault → Rose wf wf') → IsOver language whose limit most start (outside left' held' given' rf' wf') engine' begun steps' (status_of why)
       stopped_piece stop.NoMemory is rose = record {

@@ -1,5 +1,5 @@
 -- What is written for a script, and the work of its commands, in a language.
-use Rattle.std.specs.Prelude.{ℕ, ◌+◌, ◌≤◌, List, [], Option, Some, None}
+use Rattle.std.specs.Prelude.{ℕ, ◌+◌, ◌*◌, ◌≤◌, List, [], Option, Some, None}
 use Rattle.ncq_script.specs.declared.command.Command.{Command}
 use Rattle.ncq_script.specs.Script.{script, whole_script}
 use Rattle.ncq_engine.specs.Alone.{notes, only}
@@ -28,7 +28,8 @@ output_of_whole language whose limit bytes = shown language whose (whole_script 
 unfoldable pub load_output : Language → ℕ → ℕ → List ℕ
 load_output language limit n = tally_text (tally_of language (script limit (load_text n)))
 
--- the steps are within the work of these commands, from the beginning on
-abbrev pub AreWithinWork : Language → List Command → ℕ → ℕ → Type 0
-AreWithinWork language commands old new =
-    (bound : ℕ) → AreWorkUpTo language [] commands bound → new ≤ old + bound
+-- the steps are within twice the work of these commands, from the beginning on: a command that
+-- finds no memory is tried once more
+abbrev pub AreWithinTries : Language → List Command → ℕ → ℕ → Type 0
+AreWithinTries language commands old new =
+    (bound : ℕ) → AreWorkUpTo language [] commands bound → new ≤ old + 2 * bound

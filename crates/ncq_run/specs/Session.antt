@@ -7,17 +7,18 @@ use Rattle.ncq_report.specs.declared.tally.Tally.{Tally}
 use Rattle.ncq_script.specs.declared.command.Command.{Command}
 use Rattle.ncq_script.specs.Script.{known_script, script}
 use Rattle.ncq_script.specs.ScriptReading.{ScriptState, FollowsScript, limit_of, is_finished}
+use Rattle.ncq_engine.specs.Applies.{OfEach}
 use Rattle.ncq_engine.specs.History.{History}
 use Rattle.ncq_engine.specs.Languages.{language_of}
 use Rattle.ncq_engine.specs.Notices.{Language}
 use Rattle.ncq_engine.specs.Output.{after, history_of}
 use Rattle.ncq_engine.specs.Stands.{EngineState, Stands}
-use Rattle.ncq_engine.specs.Works.{IsWithinWork}
+use Rattle.ncq_engine.specs.Works.{IsWorkUpTo}
 use Rattle.ncq_run.specs.declared.answer.Stop.{Stop}
 use Rattle.ncq_run.specs.declared.answer.Stop.TheVariants.{NoMemory, WriteFault}
 use Rattle.ncq_run.specs.declared.session.Status.{Status}
 use Rattle.ncq_run.specs.declared.session.Status.TheVariants as status
-use Rattle.ncq_run.specs.Output.{AreWithinWork, shown}
+use Rattle.ncq_run.specs.Output.{AreWithinTries, shown}
 use Rattle.ncq_run.specs.Status.{AppendsPrefix, AppendsProperPrefix, Ended, Outside, StandsAfter}
 use Rattle.ncq_run.specs.Tallies.{tally_of}
 
@@ -35,14 +36,15 @@ abbrev pub answered_in : ScriptState → EngineState → List ℕ → List Comma
 answered_in reader engine bytes = take engine.count (commands_in reader bytes)
 
 -- the reader was pushed these bytes, the engine stands for those of their commands that it counted,
--- and the steps since are within their work
+-- and the steps since are within twice their work
 pub record IsUpTo (bytes : List ℕ) (reader : ScriptState) (engine : EngineState)
     (begun steps : ℕ) : Type 0 where
   pub follows : FollowsScript reader bytes engine.count
   pub few : engine.count ≤ length (commands_in reader bytes)
   pub stands : Stands engine
       (history_of (language_of engine.labels) [] (answered_in reader engine bytes))
-  pub work : AreWithinWork (language_of engine.labels) (answered_in reader engine bytes) begun steps
+  pub work : AreWithinTries (language_of engine.labels) (answered_in reader engine bytes)
+      begun steps
 
 -- and what is shown of them was written
 pub record IsAnswered (whose : Option (List ℕ)) (bytes : List ℕ) (reader : ScriptState)
@@ -66,6 +68,13 @@ pub record IsTallied (bytes : List ℕ) (reader : ScriptState) (engine : EngineS
       ≡ tally_of (language_of engine.labels) (answered_in reader engine bytes)
   pub small : IsSmall tally engine.count
 
+-- the steps are within twice the work of the command, for each history that the engine stands for:
+-- it is tried once more where memory runs out
+abbrev pub IsWithinTries : EngineState → Command → ℕ → ℕ → Type 0
+IsWithinTries engine command old new =
+    OfEach engine (λ history. (bound : ℕ)
+    → IsWorkUpTo (language_of engine.labels) history command bound → new ≤ old + 2 * bound)
+
 -- the engine was asked a command: where it answered, it counted it and stands for what is after it
 pub record Asks {T E : Type 0} (engine : EngineState) (command : Command) (steps : ℕ)
     (engine' : EngineState) (steps' : ℕ) (result : Result T E) : Type 0 where
@@ -73,15 +82,15 @@ pub record Asks {T E : Type 0} (engine : EngineState) (command : Command) (steps
       → Stands engine' (after (language_of engine.labels) history command))
   pub counted : OnOk result (engine'.count ≡ engine.count + 1)
   pub labels : engine'.labels ≡ engine.labels
-  pub work : IsWithinWork engine command steps steps'
+  pub work : IsWithinTries engine command steps steps'
 
 -- all commands of these bytes were to be answered: they are, unless the call failed; either way the
--- steps are within their work
+-- steps are within twice their work
 pub record IsThrough {T E : Type 0} (bytes : List ℕ) (reader : ScriptState) (engine : EngineState)
     (begun steps : ℕ) (result : Result T E) : Type 0 where
   pub up_to : OnOk result (IsUpTo bytes reader engine begun steps)
   pub all : OnOk result (engine.count ≡ length (commands_in reader bytes))
-  pub work : AreWithinWork (language_of engine.labels) (commands_in reader bytes) begun steps
+  pub work : AreWithinTries (language_of engine.labels) (commands_in reader bytes) begun steps
 
 -- a call answers all that its reader can tell; what the reader can tell stays, and the handlers
 pub record Advances {T E : Type 0} (reader : ScriptState) (engine : EngineState) (steps : ℕ)
@@ -144,7 +153,7 @@ pub record IsOver (language : Language) (whose : Option (List ℕ)) (limit most 
   pub ended : Ended language whose limit most start now status
   pub stands : StandsAfter language limit most start.left now.left engine status
   pub work : IfSome start.left (λ bytes.
-      AreWithinWork language (script limit bytes) begun steps)
+      AreWithinTries language (script limit bytes) begun steps)
 
 -- after a turn the session goes on, or it is over
 abbrev pub Turns : Language → Option (List ℕ) → ℕ → ℕ → Outside → Outside → ScriptState

@@ -14,7 +14,7 @@ use Rattle.ncq_engine.specs.Stands.{EngineState, Stands}
 use Rattle.ncq_run.specs.declared.session.Status.{Status}
 use Rattle.ncq_run.specs.declared.session.Status.TheVariants.{Done, Usage, ReadFault}
 use Rattle.ncq_run.specs.declared.session.Status.TheVariants.{WriteFault, NoMemory, ScriptTooLong}
-use Rattle.ncq_run.specs.Output.{AreWithinWork, load_output, output_of, output_of_whole}
+use Rattle.ncq_run.specs.Output.{AreWithinTries, load_output, output_of, output_of_whole}
 
 -- what a source and a sink show: the bytes left and held, the bytes given, and the faults of each
 pub record Outside : Type 0 where
@@ -174,14 +174,14 @@ StandsAs (load n) language limit most left left' engine Done =
     StandsForThe language (script limit (load_text n)) engine
 StandsAs (load n) language limit most left left' engine status = ⊤
 
--- the steps are within the work of the whole script of the form
+-- the steps are within twice the work of the whole script of the form
 abbrev pub WorksAs : Form → Language → ℕ → Option (List ℕ) → ℕ → ℕ → Type 0
 WorksAs run language limit left old new =
-    IfSome left (λ bytes. AreWithinWork language (script limit bytes) old new)
+    IfSome left (λ bytes. AreWithinTries language (script limit bytes) old new)
 WorksAs (alone name) language limit left old new =
-    IfSome left (λ bytes. AreWithinWork language (script limit bytes) old new)
+    IfSome left (λ bytes. AreWithinTries language (script limit bytes) old new)
 WorksAs (load n) language limit left old new =
-    AreWithinWork language (script limit (load_text n)) old new
+    AreWithinTries language (script limit (load_text n)) old new
 
 -- whether the form reads no script
 abbrev pub is_load : Form → Bool

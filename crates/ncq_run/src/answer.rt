@@ -18,6 +18,7 @@ ghost use Rattle.ncq_run.specs.Shown.{answer_spans, shown_answer};
 ghost use Rattle.ncq_run.specs.Shown.{IsWithin, has_name, piece_of};
 ghost use Rattle.ncq_run.specs.Status.{AppendsProperPrefix};
 
+use crate::twice::apply_twice;
 use ncq_base::Steps;
 use ncq_callback::Handlers;
 use ncq_engine::{ApplyError, Engine, Span};
@@ -91,7 +92,7 @@ pub(crate) fn make_answer<L: Ledger>(
     ensures asks { Asks engine.old command.now steps.old engine.new steps.new result }
 {
     text.clear();
-    match engine.apply(task.alloc, command, task.handlers, text, steps) {
+    match apply_twice(task, engine, command, text, steps) {
         Ok(_) => Ok(true),
         Err(ApplyError::Refused(refusal)) => {
             write_refused(engine.count(), &refusal, text)?;

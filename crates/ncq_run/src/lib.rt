@@ -9,6 +9,7 @@ mod answer;
 mod laws;
 mod load;
 mod session;
+mod twice;
 
 pub use laws::{a_sure_sink_is_enough, clocks_never_fall, nothing_but_memory_ends_it};
 pub use session::{Status, exit_code, run};

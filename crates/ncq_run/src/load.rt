@@ -10,7 +10,7 @@ ghost use Rattle.ncq_script.specs.ScriptReading.{limit_of, is_finished};
 ghost use Rattle.ncq_engine.specs.History.{History};
 ghost use Rattle.ncq_engine.specs.Languages.{language_of};
 ghost use Rattle.ncq_engine.specs.Stands.{Stands};
-ghost use Rattle.ncq_run.specs.Output.{AreWithinWork};
+ghost use Rattle.ncq_run.specs.Output.{AreWithinTries};
 ghost use Rattle.ncq_run.specs.Session.{Advances, Asks, IsSmall, IsTallied, IsThrough, IsUpTo};
 ghost use Rattle.ncq_run.specs.Status.{Loaded, StandsForThe, outside};
 ghost use Rattle.ncq_run.specs.Tallies.{no_tally, tally_of, with_command};
@@ -184,7 +184,7 @@ fn tally_load<L: Ledger>(
     ensures tallied { IfOk result (λ tally. (tally ≡ tally_of (language_of engine.old.labels)
         (script limit (load_text n)))
         × StandsForThe (language_of engine.old.labels) (script limit (load_text n)) engine.new) }
-    ensures work { AreWithinWork (language_of engine.old.labels) (script limit (load_text n))
+    ensures work { AreWithinTries (language_of engine.old.labels) (script limit (load_text n))
         steps.old steps.new }
     ensures labels { engine.new.labels ≡ engine.old.labels }
 {
@@ -229,7 +229,7 @@ pub(crate) fn load<O: Sink, L: Ledger>(
         (outside left' (O.held output.new) given' faults' (O.faults output.new)) result }
     ensures stands { result ≡ Status.Done
         → StandsForThe (language_of engine.old.labels) (script limit (load_text n)) engine.new }
-    ensures work { AreWithinWork (language_of engine.old.labels) (script limit (load_text n))
+    ensures work { AreWithinTries (language_of engine.old.labels) (script limit (load_text n))
         steps.old steps.new }
     ensures sure_sink { result ≡ Status.WriteFault
         → IsFull (O.sure output.old) (O.held output.new) }

@@ -48,7 +48,7 @@ pub enum Status {
     ReadFault,
     /// A write failed.
     WriteFault,
-    /// Memory ran out.
+    /// Memory ran out: at both tries of a command, or outside of them.
     NoMemory,
     /// The script has more than 268,435,456 bytes.
     ScriptTooLong,
@@ -280,8 +280,12 @@ fn serve<I: Source, O: Sink, L: Ledger>(
 /// `ReadFault` for the commands that are whole in the bytes that were read, and after
 /// `ScriptTooLong` for those that are whole in the first 268,435,456 bytes; and it counted them.
 /// Whatever the status, its handlers have the names and kinds that they had.
-/// It takes at most one step for each row that is made: where the source tells its bytes, the steps
-/// are within the work of the commands of the script, whatever the status.
+/// A command that finds no memory is tried once more, from an engine that stands as it stood; a
+/// second time it ends the session. That there is a second try is tested, and no clause says it:
+/// a session that gives up at once has the same contract. Where memory runs out between the
+/// commands, there is no second try.
+/// It takes at most one step for each row that is made, at each try: where the source tells its
+/// bytes, the steps are within twice the work of the commands of the script, whatever the status.
 pub fn run<I: Source, O: Sink, L: Ledger>(
     alloc: Global,
     words: &[&str],

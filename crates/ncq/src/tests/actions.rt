@@ -5,8 +5,8 @@ ghost use Rattle.ncq_callback.specs.Facts.{Writes};
 ghost use Rattle.ncq_callback.specs.Texts.{render};
 
 use super::{
-    DELETE, PUT_95, PUT_96, Parts, SOURCE, TOLD_95, WATCH, calls_of, expect_bytes, expect_parts,
-    joined, run_on,
+    DELETE, PUT_95, PUT_96, Parts, SOURCE, TOLD_95, TOLD_96, WATCH, calls_of, expect_bytes,
+    expect_parts, joined, run_on,
 };
 use crate::{add_handler, print};
 use ncq_base::bytes_of;
@@ -14,6 +14,7 @@ use ncq_callback::{Call, Handlers, Kind, Notice, print_notice};
 use ncq_outside::{memory_sink, memory_source};
 use ncq_run::Status;
 use std::alloc::{AllocError, Global};
+use std::cell::Cell;
 use std::process::Abort;
 use std::test::Fail;
 
@@ -170,4 +171,68 @@ fn a_notice_goes_to_the_handler_of_its_action(rt: HostRuntime) -> Result<(), Fai
     expect_told(&rt, &rt, &picky, Status::Done, ONCE)?;
     let picky = [SOURCE, WATCH_DO, "picky", DOT, PUT_95, PUT_96];
     expect_told(&rt, &rt, &picky, Status::NoMemory, ONCE)
+}
+
+/// Handlers with one of the name `print`, which finds no memory at the calls of these two numbers
+/// and writes the notice at each other. The first call has number 1.
+fn failing_handlers(alloc: Global, failing: [u64; 2]) -> Result<Handlers, AllocError> {
+    let calls = Cell::new(0u64);
+    let call: Call = Box::new(
+        alloc,
+        move |argument: &[u8], notice: &Notice, out: &mut Vec<u8>| -> Result<(), AllocError>
+            ensures { Writes
+                (render Kind.Print argument.now
+                notice.now.name notice.now.instant notice.now.entries)
+                out.old.items out.new.items result }
+        {
+            let number = calls.get().saturating_add(1);
+            calls.set(number);
+            if failing.contains(&number) {
+                Err(AllocError)
+            } else {
+                print_notice(argument, notice, out)
+            }
+        },
+    )?;
+    let mut handlers = Handlers::new(alloc);
+    add_handler(alloc, &mut handlers, b"print", Kind::Print, call)?;
+    Ok(handlers)
+}
+
+/// The numbers of the calls that find no memory, the status, and what is written.
+type Failing<'a> = ([u64; 2], Status, &'a [&'a str]);
+
+/// The quote is put at 95.5 and then at 96, and each time there is one notice: a command whose
+/// notice finds no memory is tried once more, and a second time there is no third.
+const FAILING: &[Failing<'_>] = &[
+    ([0, 0], Status::Done, TWICE),
+    ([1, 0], Status::Done, TWICE),
+    ([2, 0], Status::Done, TWICE),
+    ([1, 3], Status::Done, TWICE),
+    ([1, 2], Status::NoMemory, NEVER),
+    ([2, 3], Status::NoMemory, ONCE),
+];
+
+const TWICE: &[&str] = &["1 ok\n2 ok\n3 ok\n", TOLD_95, "4 ok\n", TOLD_96];
+
+/// The session on the four commands ends so, with this written.
+fn expect_failing(rt: &impl Abort, host: &HostRuntime, row: &Failing<'_>) -> Result<(), Fail> {
+    let alloc = host.alloc();
+    let handlers = failing_handlers(alloc, row.0)?;
+    let script = bytes_of(alloc, &joined(alloc, &[SOURCE, WATCH, PUT_95, PUT_96])?)?;
+    let mut input = memory_source(script, 64, calls_of(alloc, &[])?);
+    let mut output = memory_sink(alloc, 4096, calls_of(alloc, &[])?)?;
+    let got = run_on(host, &["run"], &mut input, &mut output, &handlers);
+    assert_eq!(rt; got, row.1);
+    expect_bytes(rt, output.held(), &joined(alloc, row.2)?, "");
+    Ok(())
+}
+
+/// No clause says that there is a second try: a body that gives up at once has the same contract.
+#[test]
+fn a_command_that_finds_no_memory_is_tried_once_more(rt: HostRuntime) -> Result<(), Fail> {
+    for row in FAILING {
+        expect_failing(&rt, &rt, row)?;
+    }
+    Ok(())
 }

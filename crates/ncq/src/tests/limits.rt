@@ -1,10 +1,10 @@
 //! The limits: the last script that is within each, and the first that is not.
 
-use super::{SOURCE, calls_of, expect_end, in_pieces, joined, run_program};
-use ncq_outside::{StdSource, memory_sink};
+use super::{SOURCE, calls_of, expect_bytes, expect_end, in_pieces, joined, run_program};
+use ncq_base::Bytes;
+use ncq_outside::{memory_sink, repeat_source};
 use ncq_run::Status;
 use std::alloc::{AllocError, Global};
-use std::io;
 use std::process::Abort;
 use std::test::Fail;
 
@@ -503,38 +503,32 @@ fn a_statement_has_its_limits(rt: HostRuntime) -> Result<(), Fail> {
     expect_each_last(&rt, &rt, CONDITIONS)
 }
 
-/// Gives comment lines of 1,024 bytes each, or of less where the buffer or the end is nearer.
-#[derive(Drop)]
-struct Comments {
-    left: usize,
-}
-
-impl io::Read for Comments {
-    fn read(&mut self, buf: &mut [u8]) -> io::Result<usize> {
-        let count = buf.len().min(self.left).min(1024);
-        self.left -= count;
-        buf[..count].fill(b'#');
-        if let Some(last) = buf[..count].last_mut() {
-            *last = b'\n';
-        }
-        Ok(count)
-    }
-}
-
-/// How a session on so many bytes of comments ends.
-fn status_at(host: &HostRuntime, length: usize) -> Result<Status, AllocError> {
+/// A session on so many bytes of comment lines of 1,024 bytes each ends so, and nothing is written.
+fn expect_comments(
+    rt: &impl Abort,
+    host: &HostRuntime,
+    total: u64,
+    status: Status,
+) -> Result<(), Fail> {
     let alloc = host.alloc();
-    let mut input = StdSource::new(Comments { left: length });
+    let mut line = vec![in alloc; b'#'; 1_023]?;
+    line.push(b'\n')?;
+    let line = Bytes::from_vec(line);
+    assert!(rt; !line.as_slice().is_empty());
+    let mut input = repeat_source(line, total);
     let mut output = memory_sink(alloc, 0, calls_of(alloc, &[])?)?;
-    Ok(run_program(host, &["run"], &mut input, &mut output))
+    assert_eq!(rt;
+        run_program(host, &["run"], &mut input, &mut output),
+        status
+    );
+    expect_bytes(rt, output.held(), b"", "");
+    Ok(())
 }
 
-/// A second where it is compiled; too long for a try with its checks.
+/// 262,144 lines are as long as a script may be. Some seconds where it is compiled; too long for a
+/// try with its checks.
 #[test]
 fn a_script_has_at_most_256_mebibytes(rt: HostRuntime) -> Result<(), Fail> {
-    let last = status_at(&rt, 268_435_456)?;
-    assert_eq!(rt; last, Status::Done);
-    let first = status_at(&rt, 268_435_457)?;
-    assert_eq!(rt; first, Status::ScriptTooLong);
-    Ok(())
+    expect_comments(&rt, &rt, 268_435_456, Status::Done)?;
+    expect_comments(&rt, &rt, 268_435_457, Status::ScriptTooLong)
 }

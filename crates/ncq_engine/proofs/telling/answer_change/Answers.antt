@@ -1,5 +1,6 @@
 use Rattle.std.proofs.Common.{◌≡◌, ◌∙◌, ◌++◌, List, ℕ, length, ap}
 use Rattle.std.specs.List.{flat_map}
+use Rattle.ncq_base.proofs.Written.{front_still}
 use Rattle.ncq_book.specs.Books.{BookState, watchers_of}
 use Rattle.ncq_callback.specs.Labels.{labels}
 use Rattle.ncq_event.specs.declared.firing.Firing.{Firing}
@@ -15,6 +16,7 @@ returns g c =
     let text : Firing → List ℕ = firing_text (labels c.args.handlers.now.items.items (λ h. h.name) (λ h. h.kind)) c.args.store.now live_table.table.files live_table.subscriptions in
     let starts : ℕ → List Firing = started_at live_table.instant live_table.subscriptions in
     record {
+      front = front_still c.args.out.now.items _ c.write_accepted.new.out.items c.tell_started.new.out.items c.in_ok-answered.ensures.text c.tell_started.ensures.front;
       told = record {
         written = c.in_ok-spans.ensures.text ∙ (λ i. c.in_ok-answered.ensures.text i ++ flat_map text (flat_map starts (slice i)));
         from = ap (λ (a : Answered). a.from) c.with.ensures ∙ ap (λ (a : Answered). a.from) c.in_ok-answered.ensures.places ∙ ap length c.in_ok-answered.ensures.text;
@@ -23,3 +25,6 @@ returns g c =
             ∙ (λ i. spans_of (firing_name live_table.subscriptions) text (length (c.in_ok-answered.ensures.text i)) (flat_map starts (slice i)));
       };
     }
+
+pub returns-in_err-spans-clause-front : goal.returns-in_err-spans-clause-front
+returns-in_err-spans-clause-front g c = front_still c.args.out.now.items _ c.write_accepted.new.out.items c.tell_started.new.out.items c.in_ok-answered.ensures.text c.tell_started.ensures.front

@@ -1,6 +1,7 @@
 use Rattle.std.proofs.Common.{◌≡◌, ◌∙◌, ◌++◌, ◌∷◌, [], List, ℕ, length, ap, subst, sym}
 use Rattle.std.specs.Prelude.{IsSome}
 use Rattle.std.specs.List.{flat_map, AllByRecursion}
+use Rattle.ncq_base.proofs.Written.{front_still}
 use Rattle.ncq_book.specs.Books.{subscription_of}
 use Rattle.ncq_callback.specs.Labels.{labels}
 use Rattle.ncq_event.specs.declared.firing.Firing.{Firing}
@@ -39,3 +40,9 @@ returns-clause-firings g c =
     let own : c.in_ok-firings.firings ≡ flat_map (started_at live_table.instant live_table.subscriptions) (c.args.install ∷ []) =
     c.in_ok-firings.ensures ∙ (λ i. flat_map (started_at (c.book.ensures i).instant (c.book.ensures i).subscriptions) (c.args.install ∷ [])) in
     own
+
+pub returns-clause-front : goal.returns-clause-front
+returns-clause-front g c = front_still c.args.out.now.items _ c.write_accepted.new.out.items c.tell.new.out.items c.in_ok-answered.ensures.text c.tell.ensures.front
+
+pub returns-in_err-spans-clause-front : goal.returns-in_err-spans-clause-front
+returns-in_err-spans-clause-front g c = front_still c.args.out.now.items _ c.write_accepted.new.out.items c.tell.new.out.items c.in_ok-answered.ensures.text c.tell.ensures.front

@@ -2,6 +2,7 @@ use Rattle.std.proofs.Common.{◌≡◌, ◌++◌, ◌∷◌, [], List, ℕ, len
 use Rattle.std.specs.Prelude.{Some, IfSome, IsSome}
 use Rattle.std.specs.List.{flat_map}
 use Rattle.std.proofs.lemmas.List.{take_more, take_all}
+use Rattle.ncq_base.proofs.Written.{front_still}
 use Rattle.ncq_book.specs.declared.subscription.Subscription.{Subscription as Kept}
 use Rattle.ncq_book.specs.Books.{BookState, subscription_of}
 use Rattle.ncq_callback.specs.Labels.{Label, labels}
@@ -73,3 +74,6 @@ returns-clause-spans g c =
     c.loop-firing.invariant.spans
     ∙ ap (spans_of (firing_name c.args.live_table.now.subscriptions) (firing_text all c.args.store.now c.args.live_table.now.table.files c.args.live_table.now.subscriptions) (length c.args.out.now.items))
     (take_all c.loop-firing.firing-index c.args.firings.now past)
+
+pub returns-in_err-told-clause-front : goal.returns-in_err-told-clause-front
+returns-in_err-told-clause-front g c = front_still c.args.out.now.items _ c.loop-firing.out.items c.fire.new.out.items c.loop-firing.invariant.text c.fire.ensures.front

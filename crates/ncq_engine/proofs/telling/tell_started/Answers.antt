@@ -1,6 +1,7 @@
 use Rattle.std.proofs.Common.{◌≡◌, ◌++◌, List, ℕ, length, take, get_or, ◌+◌, ◌<◌, ◌≤◌, arith, ◌∙◌, ap, length-append}
 use Rattle.std.specs.List.{flat_map}
 use Rattle.std.proofs.lemmas.List.{take_all}
+use Rattle.ncq_base.proofs.Written.{front_still}
 use Rattle.ncq_callback.specs.Labels.{labels}
 use Rattle.ncq_event.specs.declared.firing.Firing.{Firing}
 use Rattle.ncq_engine.specs.Spans.{spans_of}
@@ -43,3 +44,6 @@ returns-clause-spans g c =
     ∙ ap (λ (ns : List ℕ). spans_of (firing_name live_table.subscriptions) (firing_text (labels c.args.handlers.now.items.items (λ h. h.name) (λ h. h.kind)) c.args.store.now live_table.table.files live_table.subscriptions) (length c.args.out.now.items)
     (flat_map (started_at live_table.instant live_table.subscriptions) ns))
     (take_all c.loop-install.install-index c.args.installs.now past)
+
+pub returns-in_err-latest-clause-front : goal.returns-in_err-latest-clause-front
+returns-in_err-latest-clause-front g c = front_still c.args.out.now.items _ c.loop-install.out.items c.tell_one.new.out.items c.loop-install.invariant.text c.tell_one.ensures.front

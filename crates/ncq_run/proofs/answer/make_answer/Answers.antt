@@ -9,15 +9,15 @@ pub returns-in-Ok-clause-asks : goal.returns-in-Ok-clause-asks
 returns-in-Ok-clause-asks g c = record {
   stands = λ history stands. (answers_accepted _ _ _ _ _ c.clear.ensures.items c.in-Ok.ensures.accepted c.in-Ok.ensures.joined c.in-Ok.ensures.answer history stands).1;
   counted = c.in-Ok.ensures.counted;
-  labels = c.apply.ensures.labels;
-  work = c.apply.ensures.work;
+  labels = c.apply_twice.ensures.labels;
+  work = c.apply_twice.ensures.work;
 }
 
 pub returns-in_ok-write_refused-in-Err-Refused-clause-made : goal.returns-in_ok-write_refused-in-Err-Refused-clause-made
 returns-in_ok-write_refused-in-Err-Refused-clause-made g c history stands =
     let said = c.in-Err-Refused.ensures in
     let is = c.in-Err-Refused.field-0-is in
-    (answers_refused _ _ _ _ _ _ _ _ c.clear.ensures.items (rw is at said.refused) (rw is at said.stays) (rw is at said.unwritten) (rw is at said.counted) c.count.ensures c.in_ok-write_refused-in-Err-Refused.ensures.ok
+    (answers_refused _ _ _ _ _ _ _ _ c.clear.ensures.items (rw is at said.refused) said.stays said.unwritten (rw is at said.counted) c.count.ensures c.in_ok-write_refused-in-Err-Refused.ensures.ok
     history stands).0
 
 pub returns-in_ok-write_refused-in-Err-Refused-clause-asks : goal.returns-in_ok-write_refused-in-Err-Refused-clause-asks
@@ -26,23 +26,23 @@ returns-in_ok-write_refused-in-Err-Refused-clause-asks g c =
     let is = c.in-Err-Refused.field-0-is in
     record {
       stands = λ history stands.
-          (answers_refused _ _ _ _ _ _ _ _ c.clear.ensures.items (rw is at said.refused) (rw is at said.stays) (rw is at said.unwritten) (rw is at said.counted) c.count.ensures
+          (answers_refused _ _ _ _ _ _ _ _ c.clear.ensures.items (rw is at said.refused) said.stays said.unwritten (rw is at said.counted) c.count.ensures
           c.in_ok-write_refused-in-Err-Refused.ensures.ok history stands).1;
       counted = rw is at said.counted;
-      labels = c.apply.ensures.labels;
-      work = c.apply.ensures.work;
+      labels = c.apply_twice.ensures.labels;
+      work = c.apply_twice.ensures.work;
     }
 
 pub returns-in_err-write_refused-in-Err-Refused-clause-asks : goal.returns-in_err-write_refused-in-Err-Refused-clause-asks
 returns-in_err-write_refused-in-Err-Refused-clause-asks g c =
     let p = err_from_is_err_and c.from_residual.result c.from_residual.ensures.1 in
-    asks_failed _ _ _ _ _ _ p.0 p.1 c.apply.ensures.labels c.apply.ensures.work
+    asks_failed _ _ _ _ _ _ p.0 p.1 c.apply_twice.ensures.labels c.apply_twice.ensures.work
 
 pub returns-in-Err-OutOfMemory-clause-asks : goal.returns-in-Err-OutOfMemory-clause-asks
-returns-in-Err-OutOfMemory-clause-asks g c = record { stands = tt; counted = tt; labels = c.apply.ensures.labels; work = c.apply.ensures.work }
+returns-in-Err-OutOfMemory-clause-asks g c = record { stands = tt; counted = tt; labels = c.apply_twice.ensures.labels; work = c.apply_twice.ensures.work }
 
 pub returns-in-Ok-clause-spans : goal.returns-in-Ok-clause-spans
-returns-in-Ok-clause-spans g c = spans_accepted c.args.engine.now c.args.command.now _ c.apply.new.self c.clear.ensures.items c.in-Ok.ensures.accepted c.in-Ok.ensures.spans
+returns-in-Ok-clause-spans g c = spans_accepted c.args.engine.now c.args.command.now _ c.apply_twice.new.engine c.clear.ensures.items c.in-Ok.ensures.accepted c.in-Ok.ensures.spans
 
 pub returns-in_ok-write_refused-in-Err-Refused-clause-spans : goal.returns-in_ok-write_refused-in-Err-Refused-clause-spans
-returns-in_ok-write_refused-in-Err-Refused-clause-spans g c = spans_refused c.args.engine.now c.args.command.now _ c.apply.new.self c.in-Err-Refused.ensures.no_spans (rw c.in-Err-Refused.field-0-is at c.in-Err-Refused.ensures.refused)
+returns-in_ok-write_refused-in-Err-Refused-clause-spans g c = spans_refused c.args.engine.now c.args.command.now _ c.apply_twice.new.engine c.in-Err-Refused.ensures.no_spans (rw c.in-Err-Refused.field-0-is at c.in-Err-Refused.ensures.refused)

@@ -1,16 +1,26 @@
 use Rattle.std.proofs.Common.{◌∷◌, ap, length, rules, subst, sym}
 use Rattle.ncq_engine.specs.Applies.{AreNotices}
-use Rattle.ncq_engine.specs.Stands.{EngineState, Follows}
+use Rattle.ncq_engine.specs.History.{History}
+use Rattle.ncq_engine.specs.Stands.{EngineState, Follows, Stands}
 use Rattle.ncq_engine.specs.declared.engine.Applied.{Applied}
 use Rattle.ncq_engine.proofs.BoundLaws.{stands_with}
 use Rattle.ncq_engine.proofs.EngineLaws.{follows_still}
+use Rattle.ncq_engine.proofs.Views.{view_of}
+use Rattle.ncq_engine.proofs.engine.Engine.apply.Given.{Over}
+use Rattle.ncq_engine.proofs.engine.Engine.apply.Goals.{After-stands}
 use Rattle.ncq_engine.proofs.engine.Engine.apply.Goals as goal
+
+-- what the engine followed behind the answer, it stands for once the places of notices are forgotten
+still : (g : Over) (c : After-stands g) (h : History) → Follows c.answer-result.new.self h → Stands (record (view_of c.self.inside) { spans = c.new.result }) h
+still g c h follows =
+    let after = c.answer-result.new.self in
+    c.stands.ensures h (subst (λ (e : EngineState). Follows (record e { spans = c.new.result }) h) (sym c.self.view_is) (follows_still after after.count c.new.result h follows))
 
 pub returns-in-Ok-clause-joined : goal.returns-in-Ok-clause-joined
 returns-in-Ok-clause-joined g c = λ h s.
+    let at = goal.at.returns-in-Ok-clause-joined g c in
     let now = c.args.command.now ∷ h in
-    let follows = subst (λ (e : EngineState). Follows (record e { spans = c.new.result }) now) (sym c.self.view_is) (follows_still c.answer-result.new.self c.answer-result.new.self.count c.new.result now (c.in-Ok.ensures.applies.follows h s.follows)) in
-    stands_with _ c.keep.new.self _ c.keep.ensures.kept now (c.stands.ensures now follows)
+    stands_with _ c.keep.new.self _ c.keep.ensures.kept now (still g at.After-stands now (c.in-Ok.ensures.applies.follows h s.follows))
 
 pub returns-in-Ok-clause-notices : goal.returns-in-Ok-clause-notices
 returns-in-Ok-clause-notices g c = λ h s.
@@ -19,7 +29,10 @@ returns-in-Ok-clause-notices g c = λ h s.
 
 pub returns-in-Err-Refused-clause-stays : goal.returns-in-Err-Refused-clause-stays
 returns-in-Err-Refused-clause-stays g c = λ h s.
-    let after = c.answer-result.new.self in
     let was = s.follows in
-    let still : Follows c.answer-result.new.self h = search rules in
-    c.stands.ensures h (subst (λ (e : EngineState). Follows (record e { spans = c.new.result }) h) (sym c.self.view_is) (follows_still after after.count c.new.result h still))
+    still g (goal.at.returns-in-Err-Refused-clause-stays g c).After-stands h (search rules)
+
+pub returns-in-Err-OutOfMemory-clause-stays : goal.returns-in-Err-OutOfMemory-clause-stays
+returns-in-Err-OutOfMemory-clause-stays g c = λ h s.
+    let was = s.follows in
+    still g (goal.at.returns-in-Err-OutOfMemory-clause-stays g c).After-stands h (search rules)

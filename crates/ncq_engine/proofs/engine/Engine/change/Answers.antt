@@ -1,5 +1,6 @@
-use Rattle.std.proofs.Common.{◌≡◌, ◌∙◌, ◌+◌, arith, ap, refl, subst, sym, ℕ}
-use Rattle.std.specs.Prelude.{Ok, IfSome}
+use Rattle.std.proofs.Common.{◌≡◌, ◌∙◌, ◌+◌, arith, ap, refl, rules, subst, sym}
+use Rattle.std.specs.Prelude.{Err, Ok, IfNone, IfSome}
+use Rattle.std.proofs.Math.Seq.{take-length}
 use Rattle.std.specs.FinMap.{get}
 use Rattle.std.specs.Option.{option_map}
 use Rattle.ncq_book.specs.Books.{watchers_of}
@@ -9,17 +10,19 @@ use Rattle.ncq_group.specs.declared.mark.GroupMark.{GroupMark}
 use Rattle.ncq_script.specs.declared.command.Command.TheVariants.{Delta}
 use Rattle.ncq_shelf.specs.Contents.{cut_to}
 use Rattle.ncq_source.specs.StoreStates.{found}
+use Rattle.ncq_engine.specs.declared.engine.ApplyError.TheVariants.{OutOfMemory}
 use Rattle.ncq_engine.specs.Applies.{Applies, change_refusal}
 use Rattle.ncq_engine.specs.Stands.{EngineState}
 use Rattle.ncq_engine.specs.Tellings.{IsAnswered, started_of}
 use Rattle.ncq_engine.proofs.ChangeAnswers.{IsFed, IsReserved, can_tell, change_answers, changed_engine, holds_changed, holds_ready, is_prepared}
 use Rattle.ncq_engine.proofs.ChangeLaws.{change_refused, good_entries}
+use Rattle.ncq_engine.proofs.GivenUp.{IsStill, given_up}
 use Rattle.ncq_engine.proofs.InvariantLaws.{invariant_alike, invariant_same}
 use Rattle.ncq_engine.proofs.TableLaws.{table_back}
 use Rattle.ncq_engine.proofs.Views.{view_of}
 use Rattle.ncq_engine.proofs.WorkAnswers.{change_work}
 use Rattle.ncq_engine.proofs.engine.Engine.change.Given.{Over}
-use Rattle.ncq_engine.proofs.engine.Engine.change.Goals.{After-facts-2, In_ok-reserve}
+use Rattle.ncq_engine.proofs.engine.Engine.change.Goals.{After-facts-2, After-roll_back, In_err-fed, In_ok-reserve}
 use Rattle.ncq_engine.proofs.engine.Engine.change.Goals as goal
 
 -- the change was prepared, and there is room for it
@@ -48,6 +51,23 @@ fed g c = record {
   instant = c.in_ok-fed.ensures.instant;
 }
 
+-- the files were not fed
+unfed : (g : Over) (c : In_err-fed g) → IsStill (view_of c.self.inside) c.feed.new.self
+unfed g c = record { subscriptions = c.feed.ensures.subscriptions; table = c.in_err-fed.ensures.err; instant = c.feed.ensures.instant }
+
+-- the files were fed, and what came was taken away again
+rolled_back : (g : Over) (c : After-roll_back g) → IsReserved (view_of c.self.inside) c.args.source.now c.args.items.now c.in-Ok.change c.reserve.new.self → IsStill (view_of c.self.inside) c.roll_back.new.self
+rolled_back g c reserved =
+    let table = c.self.inside.live_table.table in
+    let mark : c.mark-mark.result ≡ mark_of table = c.mark-mark.ensures in
+    record {
+      subscriptions = c.roll_back.ensures.subscriptions ∙ c.in_ok-fed.ensures.subscriptions;
+      table = table_back c.reserve.new.self c.in-Ok.change table c.feed.new.self.table c.roll_back.new.self.table c.in_ok-fed.ensures.fed c.facts.ensures.facts.up_to (sym (holds_ready reserved).number)
+          (λ at. c.roll_back.ensures.files at ∙ ap (λ (m : GroupMark). option_map (cut_to m.number) (get c.feed.new.self.table.files at)) mark)
+          (c.roll_back.ensures.number ∙ ap (λ (m : GroupMark). m.number) mark) (c.roll_back.ensures.next_file ∙ ap (λ (m : GroupMark). m.next_file) mark);
+      instant = c.roll_back.ensures.instant ∙ c.in_ok-fed.ensures.instant;
+    }
+
 pub returns-in-Err-clause-applies : goal.returns-in-Err-clause-applies
 returns-in-Err-clause-applies g c =
     let was = view_of c.self.inside in
@@ -55,7 +75,8 @@ returns-in-Err-clause-applies g c =
     (change_refused was c.args.source.now c.as_slice.result.now c.args.items.now
     c.as_slice.ensures c.prepare.result c.prepare.ensures.only c.prepare.ensures.none c.prepare.ensures.some c.args.out.now.items c.refuse_change.result c.refuse_change.new.self c.args.out.now.items refl
     c.in-Err.error c.in-Err.is c.refuse_change.ensures.refused
-    (subst (λ (e : EngineState). IfSome (change_refusal c.in-Err.error) (λ _. c.refuse_change.new.self ≡ record e { count = e.count + 1 })) (sym c.self.view_is) c.refuse_change.ensures.counted))
+    (subst (λ (e : EngineState). IfSome (change_refusal c.in-Err.error) (λ _. c.refuse_change.new.self ≡ record e { count = e.count + 1 })) (sym c.self.view_is) c.refuse_change.ensures.counted)
+    (subst (λ (e : EngineState). IfNone (change_refusal c.in-Err.error) (c.refuse_change.new.self ≡ e)) (sym c.self.view_is) c.refuse_change.ensures.same))
 
 pub returns-in-Err-clause-work : goal.returns-in-Err-clause-work
 returns-in-Err-clause-work g c = λ h stands bound work. omega arith
@@ -66,7 +87,8 @@ invariant_of-self g c = invariant_alike (view_of c.self.inside) c.reserve.new.se
 pub invariant_of-self-in_err-fed : goal.invariant_of-self-in_err-fed
 invariant_of-self-in_err-fed g c =
     let at = goal.at.invariant_of-self-in_err-fed g c in
-    invariant_same (record (view_of c.self.inside) { store = c.reserve.new.self }) c.feed.new.self c.feed.ensures.subscriptions c.in_err-fed.ensures.err (holds_ready (reserved g at.In_ok-reserve))
+    let still = unfed g at.In_err-fed in
+    invariant_same (record (view_of c.self.inside) { store = c.reserve.new.self }) c.feed.new.self still.subscriptions still.table (holds_ready (reserved g at.In_ok-reserve))
 
 pub feed-requires-clause-change : goal.feed-requires-clause-change
 feed-requires-clause-change g c = is_prepared (reserved g (goal.at.feed-requires-clause-change g c).In_ok-reserve)
@@ -94,13 +116,10 @@ invariant_of-self-in-Ok-answer_change g c =
 
 pub invariant_of-self-in-Err-answer_change : goal.invariant_of-self-in-Err-answer_change
 invariant_of-self-in-Err-answer_change g c =
-    let holds = holds_ready (reserved g (goal.at.invariant_of-self-in-Err-answer_change g c).In_ok-reserve) in
-    let table = c.self.inside.live_table.table in
-    let mark : c.mark-mark.result ≡ mark_of table = c.mark-mark.ensures in
-    invariant_same (record (view_of c.self.inside) { store = c.reserve.new.self }) c.roll_back.new.self (c.roll_back.ensures.subscriptions ∙ c.in_ok-fed.ensures.subscriptions)
-    (table_back c.reserve.new.self c.in-Ok.change table c.feed.new.self.table c.roll_back.new.self.table c.in_ok-fed.ensures.fed c.facts.ensures.facts.up_to (sym holds.number)
-    (λ at. c.roll_back.ensures.files at ∙ ap (λ (m : GroupMark). option_map (cut_to m.number) (get c.feed.new.self.table.files at)) mark)
-    (c.roll_back.ensures.number ∙ ap (λ (m : GroupMark). m.number) mark) (c.roll_back.ensures.next_file ∙ ap (λ (m : GroupMark). m.next_file) mark)) holds
+    let at = goal.at.invariant_of-self-in-Err-answer_change g c in
+    let ready = reserved g at.In_ok-reserve in
+    let still = rolled_back g at.After-roll_back ready in
+    invariant_same (record (view_of c.self.inside) { store = c.reserve.new.self }) c.roll_back.new.self still.subscriptions still.table (holds_ready ready)
 
 pub returns-in-Ok-answer_change-clause-applies : goal.returns-in-Ok-answer_change-clause-applies
 returns-in-Ok-answer_change-clause-applies g c =
@@ -111,6 +130,23 @@ returns-in-Ok-answer_change-clause-applies g c =
     subst (λ (e : EngineState). Applies e (Delta c.args.source.now c.args.items.now) c.args.out.now.items (Ok c.in-Ok-answer_change.answered) (changed_engine (view_of c.self.inside) c.commit.new.self after) c.answer_change.new.out.items) c.self.view_is
     (change_answers (reserved g at.In_ok-reserve) (fed g at.After-facts-2) c.commit.new.self c.commit.ensures.done known (ap (λ (e : EngineState). e.labels) c.self.view_is ∙ c.requires.handlers)
     c.args.out.now.items c.answer_change.new.out.items c.in-Ok-answer_change.answered told)
+
+pub returns-in_err-reserve-clause-applies : goal.returns-in_err-reserve-clause-applies
+returns-in_err-reserve-clause-applies g c =
+    given_up c.self.view_is (Delta c.args.source.now c.args.items.now) c.args.out.now.items c.from_residual.result (search rules) c.reserve.new.self c.in_err-reserve.ensures.same
+    c.self.inside.live_table (record { subscriptions = refl; table = refl; instant = refl }) c.args.out.now.items (take-length c.args.out.now.items)
+
+pub returns-in_err-fed-clause-applies : goal.returns-in_err-fed-clause-applies
+returns-in_err-fed-clause-applies g c =
+    let at = goal.at.returns-in_err-fed-clause-applies g c in
+    given_up c.self.view_is (Delta c.args.source.now c.args.items.now) c.args.out.now.items c.from_residual-in_err-fed.result (search rules) c.reserve.new.self c.in_ok-reserve.ensures.same
+    c.feed.new.self (unfed g at.In_err-fed) c.args.out.now.items (take-length c.args.out.now.items)
+
+pub returns-in-Err-answer_change-clause-applies : goal.returns-in-Err-answer_change-clause-applies
+returns-in-Err-answer_change-clause-applies g c =
+    let at = goal.at.returns-in-Err-answer_change-clause-applies g c in
+    given_up c.self.view_is (Delta c.args.source.now c.args.items.now) c.args.out.now.items (Err OutOfMemory) refl c.reserve.new.self c.in_ok-reserve.ensures.same
+    c.roll_back.new.self (rolled_back g at.After-roll_back (reserved g at.In_ok-reserve)) c.answer_change.new.out.items c.answer_change.ensures.front
 
 pub returns-in-Ok-answer_change-clause-work : goal.returns-in-Ok-answer_change-clause-work
 returns-in-Ok-answer_change-clause-work g c = change_work c.self.view_is c.args.steps.now c.feed.new.steps (reserved g (goal.at.returns-in-Ok-answer_change-clause-work g c).In_ok-reserve) c.feed.ensures.cost

@@ -48,7 +48,7 @@ returns-then-has-clause-applies g c =
 pub returns-in-Err-clause-applies : goal.returns-in-Err-clause-applies
 returns-in-Err-clause-applies g c =
     let at = goal.at.returns-in-Err-clause-applies g c in
-    create_unbound c.args.self.now c.args.statement.now c.args.out.now.items c.refuse_query.result c.refuse_query.new.self c.in-Err.error c.refuse_query.ensures.counted c.refuse_query.ensures.refused (has_is g at.After-has ∙ c.if-has.false)
+    create_unbound c.args.self.now c.args.statement.now c.args.out.now.items c.refuse_query.result c.refuse_query.new.self c.in-Err.error c.refuse_query.ensures.counted c.refuse_query.ensures.same c.refuse_query.ensures.refused (has_is g at.After-has ∙ c.if-has.false)
     (subst (λ (e : EngineState). Binds c.args.statement.now.query (roots_in e.store) (Err c.in-Err.error)) c.self.view_is c.in-Err.ensures.answer)
 
 pub returns-in_default-clause-applies : goal.returns-in_default-clause-applies

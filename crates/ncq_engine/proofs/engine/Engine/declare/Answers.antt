@@ -20,8 +20,8 @@ pub returns-in-Ok-clause-applies : goal.returns-in-Ok-clause-applies
 returns-in-Ok-clause-applies c =
     let was = view_of c.self.inside in
     subst (λ (e : EngineState). Applies e (Declare c.args.name.now c.args.root.now c.args.key.now) c.args.out.now.items (Ok c.in_ok-answered.answered) (record was { store = c.declare.new.self; count = was.count + 1 }) c.write_accepted.new.out.items) c.self.view_is
-    (declare_accepted was c.args.out.now.items (Ok c.in_ok-answered.answered) c.write_accepted.new.out.items
-    c.in_ok-answered.ensures.text c.in_ok-answered.ensures.places tt c.args.name.now c.args.root.now c.args.key.now c.declare.new.self
+    (declare_accepted was c.args.out.now.items c.in_ok-answered.answered c.write_accepted.new.out.items
+    c.in_ok-answered.ensures.text c.in_ok-answered.ensures.places c.args.name.now c.args.root.now c.args.key.now c.declare.new.self
     (λ some. not_exists c.declare.result c.in-Ok.field-0 c.in-Ok.is (c.declare.ensures.exists.1 (subst (λ n. IsSome (found was.store n)) (sym c.in_ok-its_name.ensures) some)))
     (asked was.store c.declare.new.self _ _ _ _ _ _ c.in_ok-its_name.ensures c.in_ok-its_root.ensures c.in_ok-its_key.ensures c.in-Ok.ensures.ok))
 

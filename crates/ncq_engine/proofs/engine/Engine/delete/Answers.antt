@@ -31,4 +31,4 @@ returns-clause-applies c =
     subst (λ (e : EngineState). Applies e (Delete c.args.name.now) c.args.out.now.items (Ok c.in_ok-answered.answered)
     (record was { clock = after.instant; count = was.count + 1; subscriptions = after.subscriptions; table = after.table }) c.write_accepted.new.out.items) c.self.view_is
     (delete_answers was c.args.name.now c.in-Some.install found c.facts.ensures.rise c.facts.ensures.names
-    after c.take_all.ensures c.args.out.now.items (Ok c.in_ok-answered.answered) c.write_accepted.new.out.items c.in_ok-answered.ensures.text c.in_ok-answered.ensures.places tt)
+    after c.take_all.ensures c.args.out.now.items c.in_ok-answered.answered c.write_accepted.new.out.items c.in_ok-answered.ensures.text c.in_ok-answered.ensures.places)

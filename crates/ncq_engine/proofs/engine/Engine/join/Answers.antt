@@ -1,19 +1,23 @@
-use Rattle.std.proofs.Common.{◌≡◌, ◌∙◌, ap, subst, sym, arith}
-use Rattle.std.specs.Prelude.{Ok}
+use Rattle.std.proofs.Common.{◌≡◌, ◌∙◌, ap, refl, rules, subst, sym, arith}
+use Rattle.std.specs.Prelude.{Err, Ok}
+use Rattle.std.proofs.Math.Seq.{take-length}
 use Rattle.ncq_callback.specs.Labels.{labels}
 use Rattle.ncq_live.specs.LiveTables.{LiveState}
 use Rattle.ncq_script.specs.declared.command.Command.TheVariants.{Create}
 use Rattle.ncq_xmlql.specs.declared.model.Statement.{Statement}
+use Rattle.ncq_engine.specs.declared.engine.ApplyError.TheVariants.{OutOfMemory}
 use Rattle.ncq_engine.specs.Applies.{Applies}
 use Rattle.ncq_engine.specs.Joins.{IsSubscriptionOf}
 use Rattle.ncq_engine.specs.Stands.{EngineState}
 use Rattle.ncq_engine.specs.Tellings.{noted_by}
 use Rattle.ncq_engine.proofs.CreateAnswers.{HasCome, above_is, come_answers, come_can, come_holds, created_engine, free_is, gone_mark, gone_subscriptions, gone_table, room_left, subscriptions_few}
+use Rattle.ncq_engine.proofs.EngineLaws.{gives_up}
+use Rattle.ncq_engine.proofs.GivenUp.{IsStill, given_up}
 use Rattle.ncq_engine.proofs.InvariantLaws.{invariant_same}
 use Rattle.ncq_engine.proofs.Views.{view_of}
 use Rattle.ncq_engine.proofs.WorkAnswers.{join_work}
 use Rattle.ncq_engine.proofs.engine.Engine.join.Given.{Over}
-use Rattle.ncq_engine.proofs.engine.Engine.join.Goals.{After-facts-2, After-note_all, In_ok-plan}
+use Rattle.ncq_engine.proofs.engine.Engine.join.Goals.{After-facts-2, After-note_all, After-roll_back, In_err-add, In_ok-plan}
 use Rattle.ncq_engine.proofs.engine.Engine.join.Goals as goal
 
 -- the subscription is that of a statement, for the engine as it was
@@ -36,6 +40,22 @@ come g c statement its = record {
 -- its firing was noted
 noted : (g : Over) (c : After-note_all g) → c.note_all.new.live_table ≡ record c.add.new.self { subscriptions = noted_by c.self.inside.store.changes c.in-Ok.firings c.add.new.self.subscriptions }
 noted g c = c.note_all.ensures ∙ (λ j. record c.add.new.self { subscriptions = noted_by (c.changes-changes.ensures j) (c.as_slice.ensures j) c.add.new.self.subscriptions })
+
+-- it did not come in
+not_in : (g : Over) (c : In_err-add g) → IsStill (view_of c.self.inside) c.add.new.self
+not_in g c = record {
+  subscriptions = ap (λ (l : LiveState). l.subscriptions) c.in_err-add.ensures.err;
+  table = ap (λ (l : LiveState). l.table) c.in_err-add.ensures.err;
+  instant = ap (λ (l : LiveState). l.instant) c.in_err-add.ensures.err;
+}
+
+-- it came in, and went again
+gone : (g : Over) (c : After-roll_back g) (statement : Statement) → HasCome (view_of c.self.inside) statement c.args.subscription c.in_ok-plan.plan c.add.new.self → IsStill (view_of c.self.inside) c.roll_back.new.self
+gone g c statement come_in = record {
+  subscriptions = c.roll_back.ensures.subscriptions ∙ gone_subscriptions come_in c.remove.new.self c.remove.ensures.subscriptions c.remove.ensures.files;
+  table = gone_table come_in c.remove.new.self c.remove.ensures.subscriptions c.remove.ensures.files c.mark-mark.result c.roll_back.new.self.table c.mark-mark.ensures c.roll_back.ensures.number c.roll_back.ensures.next_file c.roll_back.ensures.files;
+  instant = c.roll_back.ensures.instant ∙ c.remove.ensures.instant ∙ c.add.ensures.instant;
+}
 
 pub plan-requires : goal.plan-requires
 plan-requires g c = c.requires.some.1.formed
@@ -76,7 +96,9 @@ answer_create-requires g c =
     record { can = come_can come_in (labels c.args.handlers.now.items.items (λ h. h.name) (λ h. h.kind)) (ap (λ (e : EngineState). e.labels) c.self.view_is ∙ c.requires.handlers) }
 
 pub invariant_of-self : goal.invariant_of-self
-invariant_of-self g c = invariant_same (view_of c.self.inside) c.add.new.self (ap (λ (l : LiveState). l.subscriptions) c.in_err-add.ensures.err) (ap (λ (l : LiveState). l.table) c.in_err-add.ensures.err) c.self.invariant
+invariant_of-self g c =
+    let still = not_in g (goal.at.invariant_of-self g c).In_err-add in
+    invariant_same (view_of c.self.inside) c.add.new.self still.subscriptions still.table c.self.invariant
 
 pub invariant_of-self-in-Ok : goal.invariant_of-self-in-Ok
 invariant_of-self-in-Ok g c =
@@ -95,10 +117,9 @@ roll_back-requires-clause-below g c = λ number file there.
 
 pub invariant_of-self-in-Err : goal.invariant_of-self-in-Err
 invariant_of-self-in-Err g c =
-    let come_in = come g (goal.at.invariant_of-self-in-Err g c).After-facts-2 c.requires.some.0 c.requires.some.1 in
-    invariant_same (view_of c.self.inside) c.roll_back.new.self (c.roll_back.ensures.subscriptions ∙ gone_subscriptions come_in c.remove.new.self c.remove.ensures.subscriptions c.remove.ensures.files)
-    (gone_table come_in c.remove.new.self c.remove.ensures.subscriptions c.remove.ensures.files c.mark-mark.result c.roll_back.new.self.table c.mark-mark.ensures c.roll_back.ensures.number c.roll_back.ensures.next_file c.roll_back.ensures.files)
-    c.self.invariant
+    let at = goal.at.invariant_of-self-in-Err g c in
+    let still = gone g at.After-roll_back c.requires.some.0 (come g at.After-facts-2 c.requires.some.0 c.requires.some.1) in
+    invariant_same (view_of c.self.inside) c.roll_back.new.self still.subscriptions still.table c.self.invariant
 
 pub returns-in-Ok-clause-applies : goal.returns-in-Ok-clause-applies
 returns-in-Ok-clause-applies g c = λ statement its.
@@ -107,6 +128,21 @@ returns-in-Ok-clause-applies g c = λ statement its.
     subst (λ (e : EngineState). Applies e (Create statement) c.args.out.now.items (Ok c.in-Ok.answered) (created_engine was c.note_all.new.live_table) c.answer_create.new.out.items) c.self.view_is
     (come_answers (come g at.After-facts-2 statement its) c.in-Ok.firings c.in-Ok.ensures.firings c.note_all.new.live_table (noted g at.After-note_all)
     (labels c.args.handlers.now.items.items (λ h. h.name) (λ h. h.kind)) (ap (λ (e : EngineState). e.labels) c.self.view_is ∙ c.requires.handlers) c.args.out.now.items c.answer_create.new.out.items c.in-Ok.answered c.in-Ok.ensures.told)
+
+pub returns-in_err-plan-clause-applies : goal.returns-in_err-plan-clause-applies
+returns-in_err-plan-clause-applies g c = λ statement its.
+    gives_up c.args.self.now (Create statement) c.args.out.now.items c.from_residual.result c.args.self.now c.args.out.now.items (search rules) refl (take-length c.args.out.now.items)
+
+pub returns-in_err-add-clause-applies : goal.returns-in_err-add-clause-applies
+returns-in_err-add-clause-applies g c = λ statement its.
+    given_up c.self.view_is (Create statement) c.args.out.now.items c.from_residual-in_err-add.result (search rules) c.self.inside.store (record { changes = refl; sources = refl })
+    c.add.new.self (not_in g (goal.at.returns-in_err-add-clause-applies g c).In_err-add) c.args.out.now.items (take-length c.args.out.now.items)
+
+pub returns-clause-applies : goal.returns-clause-applies
+returns-clause-applies g c = λ statement its.
+    let at = goal.at.returns-clause-applies g c in
+    given_up c.self.view_is (Create statement) c.args.out.now.items (Err OutOfMemory) refl c.self.inside.store (record { changes = refl; sources = refl })
+    c.roll_back.new.self (gone g at.After-roll_back statement (come g at.After-facts-2 statement its)) c.answer_create.new.out.items c.answer_create.ensures.front
 
 pub returns-in-Ok-clause-work : goal.returns-in-Ok-clause-work
 returns-in-Ok-clause-work g c = join_work c.self.view_is c.args.steps.now c.add.new.steps c.args.subscription c.in_ok-plan.plan c.in_ok-plan.ensures c.add.ensures.cost

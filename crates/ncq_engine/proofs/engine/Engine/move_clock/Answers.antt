@@ -40,7 +40,7 @@ written g c =
     let expired_is = c.as_slice-3.ensures ∙ c.in_ok-expired.ensures ∙ ap (λ (b : BookState). expired_at c.args.instant (map timing_of b.subscriptions)) c.book-4.ensures in
     record {
       text = subst (λ (fs : List Firing). c.tell.new.out.items ≡ c.write_accepted.new.out.items ++ flat_map (firing_text known i.store i.live_table.table.files i.live_table.subscriptions) fs) c.as_slice-2.ensures c.in_ok-spans.ensures.text;
-      lines = c.in_ok-write_expired.ensures ∙ (λ j. c.tell.new.out.items ++ flat_map (expired_of (c.book-5.ensures j).subscriptions) (expired_is j));
+      lines = c.in_ok-write_expired.ensures.text ∙ (λ j. c.tell.new.out.items ++ flat_map (expired_of (c.book-5.ensures j).subscriptions) (expired_is j));
       stand = subst (λ (fs : List Firing). c.in_ok-spans.spans ≡ firing_spans known i.store i.live_table.table.files i.live_table.subscriptions (length c.write_accepted.new.out.items) fs) c.as_slice-2.ensures c.in_ok-spans.ensures.spans;
     }
 
