@@ -20,6 +20,7 @@ use std::test::Fail;
 
 mod actions;
 mod answers;
+mod batches;
 mod blocks;
 mod cuts;
 mod declarations;

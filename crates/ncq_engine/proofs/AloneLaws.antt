@@ -13,14 +13,14 @@ use Rattle.ncq_xmlql.specs.declared.model.Statement.{Statement}
 use Rattle.ncq_script.specs.declared.refusal.Refusal.{Refusal}
 use Rattle.ncq_script.specs.declared.refusal.Refusal.TheVariants as refusal
 use Rattle.ncq_script.specs.declared.command.Command.{Command}
-use Rattle.ncq_script.specs.declared.command.Command.TheVariants.{Declare, Delta, Create, Delete, Clock, Report, Malformed}
+use Rattle.ncq_script.specs.declared.command.Command.TheVariants.{Declare, Delta, Batch, Create, Delete, Clock, Report, Malformed}
 use Rattle.ncq_event.specs.declared.timing.Timing.{Timing}
 use Rattle.ncq_event.specs.declared.firing.Firing.{Firing}
 use Rattle.ncq_event.specs.Instants.{is_past, is_expired, due}
 use Rattle.ncq_engine.specs.History.{History, moved, now, is_delta, is_delta_of, changes, creates, last_change, Source, sources_after, sources, source_in, up_to, Subscription, start_of, created, timing_of, is_named, live}
-use Rattle.ncq_engine.specs.Firing.{sources_of, is_installed, is_new, has_news, is_told_of, marked, mark, fires}
+use Rattle.ncq_engine.specs.Firing.{are_named, sources_of, is_installed, is_new, has_news, is_told_of, marked, mark, fires}
 use Rattle.ncq_engine.specs.Notices.{Language, kind_in, rendered, answer_over, answer_at, notice_at, with_new, fired_at, firings}
-use Rattle.ncq_engine.specs.Output.{refused_if, delta_refusal, is_at_odds, ends_early, is_taken, first_refusal, with_accepted, after, unless_refused}
+use Rattle.ncq_engine.specs.Output.{holdings_in, refused_if, sections_refusal, is_at_odds, ends_early, is_taken, first_refusal, with_accepted, after, unless_refused}
 use Rattle.std.specs.Option.{option_or}
 use Rattle.ncq_engine.specs.Alone.{is_of_another, only, notices_of, notes}
 use Rattle.ncq_engine.proofs.Lists.{times_push, times_append, times_filter, none_any, flat_map_append, filter_append, ordered_part}
@@ -52,7 +52,8 @@ has_news_in last (Some number) statement = list_any (λ source. nat_lt number (l
 
 -- when it fires, from the instant, the last changes and itself
 abbrev goes : ℕ → (List ℕ → ℕ) → Command → Core → Option ℕ
-goes at last (Delta source items) k = if k.statement.every == 0 && list_any (bytes_eq source) (sources_of k.statement) && nat_le k.start at then Some at else None
+goes at last (Delta changed) k = if k.statement.every == 0 && are_named changed (sources_of k.statement) && nat_le k.start at then Some at else None
+goes at last (Batch changed) k = if k.statement.every == 0 && are_named changed (sources_of k.statement) && nat_le k.start at then Some at else None
 goes at last (Clock instant) k = if has_news_in last k.mark k.statement then due (timing_in k) at instant else None
 goes at last command k = None
 
@@ -78,7 +79,8 @@ module _ (s : Subscription) (before : History) (few : s.install ≤ creates befo
 
   goes_is : (command : Command) → fires s before command ≡ goes (now before) (λ n. last_change n before) command (core before s)
   goes_is (Declare name root key) = refl
-  goes_is (Delta name items) = λ i. if there i && is_told_of name s before then Some (now before) else None
+  goes_is (Delta changed) = λ i. if there i && is_told_of changed s before then Some (now before) else None
+  goes_is (Batch changed) = λ i. if there i && is_told_of changed s before then Some (now before) else None
   goes_is (Create statement) =
       let old : is_new s before ≡ false = grind (arith, nat_tests) in
       λ i. if old i && s.start == now before then Some (now before) else None
@@ -149,7 +151,8 @@ module _ (name : List ℕ) where
 
   cores_are_stepped : (command : Command) (before : History) → cores name (command ∷ before) ≡ stepped (now before) (changes before) (λ n. last_change n before) command (cores name before)
   cores_are_stepped (Declare other root key) before = cores_step before (Declare other root key) (live before) (installed before)
-  cores_are_stepped (Delta other items) before = cores_step before (Delta other items) (live before) (installed before)
+  cores_are_stepped (Delta changed) before = cores_step before (Delta changed) (live before) (installed before)
+  cores_are_stepped (Batch changed) before = cores_step before (Batch changed) (live before) (installed before)
   cores_are_stepped (Create statement) before =
       cores_append (Create statement ∷ before) (live before) (created statement before ∷ [])
       ∙ (λ i. cores_step before (Create statement) (live before) (installed before) i
@@ -256,7 +259,8 @@ module _ (name : List ℕ) where
 
     once_after : (command : Command) (h : History) → times (is_named name) (live h) ≤ 1 → first_refusal language h command ≡ None → times (is_named name) (live (command ∷ h)) ≤ 1
     once_after (Declare other root key) h once ok = once
-    once_after (Delta other items) h once ok = once
+    once_after (Delta changed) h once ok = once
+    once_after (Batch changed) h once ok = once
     once_after (Create statement) h once ok = once_new statement h once ok
     once_after (Delete other) h once ok = let e = times_filter (is_named name) (λ s. not (is_named other s)) (live h) in omega arith
     once_after (Clock instant) h once ok = let e = times_filter (is_named name) (λ s. not (is_expired (timing_of s) instant)) (live h) in omega arith
@@ -265,7 +269,8 @@ module _ (name : List ℕ) where
 
     once_asked : (command : Command) (h : History) → times (is_named name) (live h) ≤ 1 → first_refusal language h command ≡ None → times (is_named name) (with_new command h (live h)) ≤ 1
     once_asked (Declare other root key) h once ok = once
-    once_asked (Delta other items) h once ok = once
+    once_asked (Delta changed) h once ok = once
+    once_asked (Batch changed) h once ok = once
     once_asked (Create statement) h once ok = once_new statement h once ok
     once_asked (Delete other) h once ok = once
     once_asked (Clock instant) h once ok = once
@@ -367,7 +372,8 @@ module _ (name : List ℕ) where
 
     told_is : (command : Command) (h : History) → told_text h command (fired_of h command (with_new command h (live h))) ≡ told_in (now h) (λ n. last_change n h) (λ n. sources (up_to n h)) (sources h) command (cores name h)
     told_is (Declare other root key) h = told_cores h (Declare other root key) (live h) (installed h)
-    told_is (Delta other items) h = told_cores h (Delta other items) (live h) (installed h)
+    told_is (Delta changed) h = told_cores h (Delta changed) (live h) (installed h)
+    told_is (Batch changed) h = told_cores h (Batch changed) (live h) (installed h)
     told_is (Create statement) h =
         ap (told_text h (Create statement)) (flat_map_append (λ s. fired_at s (fires s h (Create statement))) (live h) (created statement h ∷ []))
         ∙ told_append h (Create statement) (fired_of h (Create statement) (live h)) (fired_of h (Create statement) (created statement h ∷ []))
@@ -388,7 +394,8 @@ module _ (name : List ℕ) where
 
       refusal_agrees : (command : Command) → is_of_another name command ≡ false → first_refusal language h command ≡ first_refusal language h' command
       refusal_agrees (Declare other root key) mine = ap (λ s. refused_if (is_some (source_in other s)) refusal.SourceExists) alike.sources_are
-      refusal_agrees (Delta other items) mine = ap (λ s. delta_refusal items (source_in other s)) alike.sources_are
+      refusal_agrees (Delta changed) mine = ap (λ ss. sections_refusal changed (holdings_in ss)) alike.sources_are
+      refusal_agrees (Batch changed) mine = ap (λ ss. sections_refusal changed (holdings_in ss)) alike.sources_are
       refusal_agrees (Create statement) mine = λ i.
           option_or (refused_if (taken_at statement.name mine i) refusal.NameTaken)
           (option_or (language.binding statement.query (alike.sources_are i))
@@ -470,7 +477,8 @@ module _ (name : List ℕ) where
 
       dropped : (command : Command) → is_of_another name command ≡ true → Alike (command ∷ h) h'
       dropped (Declare other root key) e = cc
-      dropped (Delta other items) e = cc
+      dropped (Delta changed) e = cc
+      dropped (Batch changed) e = cc
       dropped (Create statement) e = dropped_create statement (apart_of statement.name e)
       dropped (Delete other) e = dropped_delete other (apart_of other e)
       dropped (Clock instant) e = cc
@@ -483,7 +491,8 @@ module _ (name : List ℕ) where
 
       quiet : (command : Command) → is_of_another name command ≡ true → first_refusal language h command ≡ None → notices_of language name h command ≡ []
       quiet (Declare other root key) e ok = cc
-      quiet (Delta other items) e ok = cc
+      quiet (Delta changed) e ok = cc
+      quiet (Batch changed) e ok = cc
       quiet (Create statement) e ok =
           notes_are h (Create statement) (once_asked (Create statement) h alike.once ok)
           ∙ told_is (Create statement) h

@@ -1,5 +1,5 @@
 -- An answer depends on the sources that its query asks, and a source stays as it is between its changes.
-use Rattle.std.proofs.Common.{◌≡◌, ℕ, ◌≤◌, Bool, true, false, ◌||◌, List, [], ◌∷◌, ◌++◌, map, refl, sym, ◌∙◌, ap, arith}
+use Rattle.std.proofs.Common.{◌≡◌, ℕ, ◌≤◌, Bool, true, false, ◌||◌, List, [], ◌∷◌, ◌++◌, map, refl, sym, ◌∙◌, ap, arith, true≢false}
 use Rattle.std.specs.Prelude.{ℤ, pos, ◌-ℤ◌, Option, Some, nat_le, if◌then◌else◌}
 use Rattle.std.specs.FinMap.{empty, entries, get-empty, len-empty, len-entries}
 use Rattle.std.specs.Option.{unwrap_or}
@@ -19,14 +19,16 @@ use Rattle.ncq_plan.specs.Exprs.{World}
 use Rattle.ncq_pyx.specs.declared.item.Item.{Item}
 use Rattle.ncq_row.specs.Embeddings.{one_of_each}
 use Rattle.ncq_script.specs.declared.command.Command.{Command}
-use Rattle.ncq_script.specs.declared.command.Command.TheVariants.{Declare, Delta, Create, Delete, Clock, Report, Malformed}
+use Rattle.ncq_script.specs.declared.command.Command.TheVariants.{Declare, Delta, Batch, Create, Delete, Clock, Report, Malformed}
 use Rattle.ncq_source.specs.Changes.{store_after}
+use Rattle.ncq_source.specs.Sections.{is_named}
+use Rattle.ncq_source.specs.declared.change.Section.{Section}
 use Rattle.ncq_xmlql.specs.declared.model.Pattern.{Pattern}
 use Rattle.ncq_xmlql.specs.declared.model.QueryItem.{QueryItem}
 use Rattle.ncq_xmlql.specs.declared.model.QueryItem.TheVariants.{Match, Condition}
 use Rattle.ncq_xmlql.specs.declared.model.Statement.{Statement}
 use Rattle.ncq_engine.specs.Firing.{source_of, sources_of}
-use Rattle.ncq_engine.specs.History.{History, Source, changes, elements_of, is_delta_of, last_change, source_in, sources, up_to, with_items, world}
+use Rattle.ncq_engine.specs.History.{History, Source, changes, elements_of, is_delta_of, last_change, source_in, sources, up_to, with_items, with_sections, world}
 use Rattle.ncq_engine.proofs.HistoryLaws.{key_is, key_itself}
 use Rattle.ncq_engine.proofs.Worlds.{new_is_empty}
 
@@ -89,14 +91,26 @@ other_source name source items (s ∷ all) apart =
           ]
     ] refl
 
--- a delta of another source leaves a source
-pub other_stays : (name source : List ℕ) (items : List Item) (h : History) → bytes_eq source name ≡ false → world (sources (Delta source items ∷ h)) name ≡ world (sources h) name
-other_stays name source items h apart = ap elements_of (other_source name source items (sources h) apart)
+other_sections : (name : List ℕ) (changed : List Section) (all : List Source) → is_named name changed ≡ false → source_in name (with_sections changed all) ≡ source_in name all
+other_sections name [] all apart = refl
+other_sections name (section ∷ more) all apart =
+    elim (bytes_eq name section.source) as (λ t. bytes_eq name section.source ≡ t → (t || is_named name more) ≡ false
+    → source_in name (with_sections more (with_items section.source section.items all)) ≡ source_in name all) [
+      | true ↦ λ _ e. absurd (true≢false e)
+      | false ↦ λ differs e.
+          other_sections name more (with_items section.source section.items all) e
+          ∙ other_source name section.source section.items all (apart_too name name section.source (key_itself name) differs)
+    ] refl apart
+
+-- a change of other sources leaves a source
+pub other_stays : (name : List ℕ) (changed : List Section) (h : History) → is_named name changed ≡ false → world (sources (Delta changed ∷ h)) name ≡ world (sources h) name
+other_stays name changed h apart = ap elements_of (other_sections name changed (sources h) apart)
 
 -- and so does each command that is no delta of it
 undelta : (name : List ℕ) (command : Command) (before : History) → is_delta_of name command ≡ false → world (sources (command ∷ before)) name ≡ world (sources before) name
 undelta name (Declare new root key) before quiet = new_is_empty name new root key (sources before)
-undelta name (Delta source items) before quiet = other_stays name source items before (apart_too name name source (key_itself name) quiet)
+undelta name (Delta changed) before quiet = other_stays name changed before quiet
+undelta name (Batch changed) before quiet = other_stays name changed before quiet
 undelta name (Create statement) before quiet = refl
 undelta name (Delete other) before quiet = refl
 undelta name (Clock instant) before quiet = refl

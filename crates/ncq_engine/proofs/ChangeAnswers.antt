@@ -1,6 +1,6 @@
 -- A change that is accepted, from what the calls give.
-use Rattle.std.proofs.Common.{◌≡◌, ℕ, ◌+◌, ◌≤◌, List, ◌++◌, length, refl, sym, ◌∙◌, ap, subst, arith, inl, inr}
-use Rattle.std.specs.Prelude.{Some, Ok, slice_get, ◌⊎◌}
+use Rattle.std.proofs.Common.{◌≡◌, ℕ, true, ◌+◌, ◌≤◌, List, ◌++◌, length, refl, sym, ◌∙◌, ap, subst, arith, inl, inr}
+use Rattle.std.specs.Prelude.{Ok, ◌⊎◌}
 use Rattle.std.specs.List.{AllByRecursion}
 use Rattle.ncq_book.specs.declared.subscription.Subscription.{Subscription as Kept}
 use Rattle.ncq_book.specs.Books.{watchers_of}
@@ -8,23 +8,22 @@ use Rattle.ncq_callback.specs.Labels.{Label}
 use Rattle.ncq_change.specs.Stores.{world_in}
 use Rattle.ncq_feed.specs.Feeds.{AreFed, IsPreparedFrom, NamesTheFed, world_after}
 use Rattle.ncq_group.specs.Tables.{TableState, Facts}
-use Rattle.ncq_pyx.specs.declared.item.Item.{Item}
 use Rattle.ncq_live.specs.LiveTables.{LiveState}
 use Rattle.ncq_script.specs.declared.command.Command.TheVariants.{Delta}
 use Rattle.ncq_shelf.specs.Contents.{AreUpTo, Fits}
-use Rattle.ncq_source.specs.Changes.{prepared}
 use Rattle.ncq_source.specs.Changes.Trial.{Good}
-use Rattle.ncq_source.specs.ChangeStates.{ChangeState}
-use Rattle.ncq_source.specs.Prepared.{IsPrepared}
-use Rattle.ncq_source.specs.Stores.{Source as Declared}
-use Rattle.ncq_source.specs.StoreStates.{StoreState, At, IsAlike, IsCommitted, found}
+use Rattle.ncq_source.specs.Sections.{are_known, batch_trial}
+use Rattle.ncq_source.specs.declared.change.Portion.{Portion}
+use Rattle.ncq_source.specs.declared.change.Section.{Section}
+use Rattle.ncq_source.specs.StoreStates.{ArePortionsOf, IsAlike, IsCommitted, StoreState, holdings_of}
 use Rattle.ncq_engine.specs.declared.telling.Answered.{Answered}
 use Rattle.ncq_engine.specs.Applies.{Applies, ok_text}
 use Rattle.ncq_engine.specs.Engines.{CanTell, IsEngine, last_in}
 use Rattle.ncq_engine.specs.Stands.{EngineState}
 use Rattle.ncq_engine.specs.Tellings.{IsAnswered, firings_text, started_of}
 use Rattle.ncq_engine.proofs.ChangeLaws.{change_accepted, last_either}
-use Rattle.ncq_engine.proofs.InvariantLaws.{Invariant, can_fed, invariant_alike, invariant_changed, invariant_counted, prepared_from, world_committed}
+use Rattle.ncq_engine.proofs.InvariantLaws.{Invariant, can_fed, invariant_alike, invariant_changed, invariant_counted}
+use Rattle.ncq_engine.proofs.Moved.{portions_alike, prepared_from, world_committed}
 use Rattle.ncq_engine.proofs.FedTexts.{asks_enough, fed_spans, fed_text}
 use Rattle.ncq_engine.proofs.StoreLaws.{last_alike}
 use Rattle.ncq_engine.specs.History.{last_change}
@@ -37,16 +36,16 @@ mid_engine e ready = record e { store = ready; count = e.count + 1 }
 abbrev pub changed_engine : EngineState → StoreState → LiveState → EngineState
 changed_engine e after live_table = record e { store = after; clock = live_table.instant; count = e.count + 1; subscriptions = live_table.subscriptions; table = live_table.table }
 
--- the change was prepared for the engine, and its source has room for it
-pub record IsReserved (e : EngineState) (name : List ℕ) (items : List Item) (change : ChangeState) (ready : StoreState) : Type 0 where
+-- the change was prepared for the engine, and its sources have room for it
+pub record IsReserved (e : EngineState) (changed : List Section) (change : List Portion) (ready : StoreState) : Type 0 where
   pub holds : Invariant e
-  pub here : found e.store name ≡ Some change.source.0
   pub alike : IsAlike e.store ready
-  pub prepares : At e.store change.source (λ s. IsPrepared s items change.entries)
-  pub good : (d : Declared) → slice_get e.store.sources change.source.0 ≡ Some d → prepared d.key 1 d.elements items ≡ Good change.entries
+  pub known : are_known (holdings_of e.store) changed ≡ true
+  pub tried : batch_trial 1 (holdings_of e.store) changed ≡ Good tt
+  pub prepares : ArePortionsOf e.store changed change
 
 -- the files were fed, and those that were are named
-pub record IsFed (e : EngineState) (change : ChangeState) (ready : StoreState) (live_table : LiveState) (list : List ℕ) : Type 0 where
+pub record IsFed (e : EngineState) (change : List Portion) (ready : StoreState) (live_table : LiveState) (list : List ℕ) : Type 0 where
   pub fed : AreFed ready change e.table.files live_table.table.files
   pub fits : Fits live_table.table.number (world_after ready change) live_table.table.files
   pub number : live_table.table.number ≡ e.table.number + 1
@@ -56,12 +55,15 @@ pub record IsFed (e : EngineState) (change : ChangeState) (ready : StoreState) (
   pub subscriptions : live_table.subscriptions ≡ e.subscriptions
   pub instant : live_table.instant ≡ e.clock
 
-module _ {e : EngineState} {ready : StoreState} {name : List ℕ} {items : List Item} {change : ChangeState} (r : IsReserved e name items change ready) where
+module _ {e : EngineState} {ready : StoreState} {changed : List Section} {change : List Portion} (r : IsReserved e changed change ready) where
+  pub made : ArePortionsOf ready changed change
+  made = portions_alike e.store ready r.alike changed change r.prepares
+
   pub holds_ready : Invariant (record e { store = ready })
   holds_ready = invariant_alike e ready r.alike r.holds
 
   pub is_prepared : IsPreparedFrom ready change
-  is_prepared = prepared_from e.store ready name items change r.here r.alike r.prepares
+  is_prepared = prepared_from ready changed change made
 
   holds_mid : Invariant (mid_engine e ready)
   holds_mid = invariant_counted (record e { store = ready }) holds_ready
@@ -85,10 +87,10 @@ module _ {e : EngineState} {ready : StoreState} {name : List ℕ} {items : List 
 
     module _ (after : StoreState) (committed : IsCommitted ready change after) where
       either : (asked : List ℕ) → (last_in after asked ≡ after.changes) ⊎ (last_in after asked ≡ last_in ready asked)
-      either = last_either e ready after table name items change r.here r.alike.sources r.alike.changes r.good committed
+      either = last_either e ready after table changed change r.alike r.known r.tried made committed
 
       fits_after : Fits table.number (world_in after) table.files
-      fits_after = subst (λ w. Fits table.number w table.files) (world_committed e.store ready name items change r.here r.alike r.prepares after committed) f.fits
+      fits_after = subst (λ w. Fits table.number w table.files) (world_committed ready changed change made after committed) f.fits
 
       number_is : table.number ≡ e.store.changes + 1
       number_is = f.number ∙ ap (λ n. n + 1) r.holds.number
@@ -121,23 +123,23 @@ module _ {e : EngineState} {ready : StoreState} {name : List ℕ} {items : List 
 
       changed_applies : (out out' : List ℕ) (answered : Answered)
           → IsAnswered (e.count + 1) e.labels ready still (started_of still (watchers_of list e.subscriptions)) out out' answered
-          → Applies e (Delta name items) out (Ok answered) (record e { store = after; count = e.count + 1; table = table }) out'
+          → Applies e (Delta changed) out (Ok answered) (record e { store = after; count = e.count + 1; table = table }) out'
       changed_applies out out' answered told =
-          change_accepted e ready after table name items change r.here r.alike.sources r.alike.changes r.good committed f.fed
+          change_accepted e ready after table changed change r.alike r.known r.tried made committed f.fed
           (subst (λ n. Fits n (world_in after) table.files) number_is fits_after) (subst (λ n. AreUpTo n table.files) number_is f.facts.up_to) can
           (firings_text e.labels ready still (started_of still (watchers_of list e.subscriptions))) answered.spans out (out ++ ok_text (e.count + 1)) out'
           (λ h s contents upto.
           let last : (asked : List ℕ) → last_in ready asked ≡ last_change asked h = λ asked. last_alike e.store ready asked r.alike.sources ∙ s.last asked in
           let named = subst (λ n. NamesTheFed n table.files list) (r.alike.changes ∙ s.changes) f.named in
-          let enough = asks_enough e.labels h name items e.clock s.clock ready table last s.rising contents upto list named e.subscriptions s.subscriptions can in
-          (fed_text e.labels ready table.files list name e.clock e.subscriptions r.holds.rise enough, told.spans ∙ fed_spans e.labels ready table.files list name e.clock e.subscriptions r.holds.rise enough (length (out ++ ok_text (e.count + 1)))))
+          let enough = asks_enough e.labels h changed e.clock s.clock ready table last s.rising contents upto list named e.subscriptions s.subscriptions can in
+          (fed_text e.labels ready table.files list changed e.clock e.subscriptions r.holds.rise enough, told.spans ∙ fed_spans e.labels ready table.files list changed e.clock e.subscriptions r.holds.rise enough (length (out ++ ok_text (e.count + 1)))))
           answered _ refl told.written refl (λ i. record { from = told.from i; to = told.to i; spans = answered.spans })
 
       -- the answer to the change, by what was told of the files as they were fed
       pub change_answers : (known : List Label) → e.labels ≡ known → (out out' : List ℕ) (answered : Answered)
           → IsAnswered (e.count + 1) known ready live_table (started_of live_table (watchers_of list live_table.subscriptions)) out out' answered
-          → Applies e (Delta name items) out (Ok answered) (changed_engine e after live_table) out'
+          → Applies e (Delta changed) out (Ok answered) (changed_engine e after live_table) out'
       change_answers known handled out out' answered told =
-          subst (λ (p : List Kept × ℕ). Applies e (Delta name items) out (Ok answered) (record e { store = after; clock = p.1; count = e.count + 1; subscriptions = p.0; table = table }) out') (λ i. (sym f.subscriptions i, sym f.instant i))
+          subst (λ (p : List Kept × ℕ). Applies e (Delta changed) out (Ok answered) (record e { store = after; clock = p.1; count = e.count + 1; subscriptions = p.0; table = table }) out') (λ i. (sym f.subscriptions i, sym f.instant i))
           (changed_applies out out' answered
           (subst (λ (p : LiveState × List Label). IsAnswered (e.count + 1) p.1 ready p.0 (started_of p.0 (watchers_of list p.0.subscriptions)) out out' answered) (λ i. (record { table = table; subscriptions = f.subscriptions i; instant = f.instant i }, sym handled i)) told))

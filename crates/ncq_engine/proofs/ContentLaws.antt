@@ -18,7 +18,7 @@ use Rattle.ncq_row.specs.Embeddings.{Row}
 use Rattle.ncq_script.specs.declared.command.Command.{Command}
 use Rattle.ncq_shelf.specs.KeptFiles.{KeptFile, Files}
 use Rattle.ncq_shelf.specs.Contents.{Fits}
-use Rattle.ncq_source.specs.ChangeStates.{ChangeState}
+use Rattle.ncq_source.specs.declared.change.Portion.{Portion}
 use Rattle.ncq_source.specs.StoreStates.{StoreState}
 use Rattle.ncq_engine.specs.History.{History, changes, sources, up_to, world}
 use Rattle.ncq_engine.specs.Stands.{AreContents}
@@ -72,7 +72,7 @@ content_before change now rows news list few numbers held =
         ∙ append_none (rows_up_to change rows)
 
 -- a change that the files were fed
-pub contents_fed : (store : StoreState) (change : ChangeState) (old new : Files) (h : History) (command : Command) → AreFed store change old new
+pub contents_fed : (store : StoreState) (change : List Portion) (old new : Files) (h : History) (command : Command) → AreFed store change old new
     → store.changes ≡ changes h → changes (command ∷ h) ≡ changes h + 1 → Fits (changes h + 1) (world (sources (command ∷ h))) new → AreContents old h → AreContents new (command ∷ h)
 contents_fed store change old new h command fed now more fits held number file at_change at low high = by_old (get old number) refl
   where

@@ -10,7 +10,7 @@ use Rattle.std.specs.Str.{bytes_eq}
 use Rattle.ncq_base.proofs.Keyed.{bytes_apart}
 use Rattle.ncq_base.proofs.Totals.{is_equal}
 use Rattle.ncq_script.specs.declared.command.Command.{Command}
-use Rattle.ncq_script.specs.declared.command.Command.TheVariants.{Declare, Delta, Create, Delete, Clock, Report, Malformed}
+use Rattle.ncq_script.specs.declared.command.Command.TheVariants.{Declare, Delta, Batch, Create, Delete, Clock, Report, Malformed}
 use Rattle.ncq_event.specs.Instants.{is_expired, due}
 use Rattle.ncq_engine.specs.History.{History, now, changes, creates, up_to, Subscription, created, timing_of, is_named, live}
 use Rattle.ncq_engine.specs.Firing.{is_installed, is_new, is_told_of, has_news, fires_at, marked, mark}
@@ -37,7 +37,8 @@ installed_more command before xs h = each_more _ _ (λ s few. let grow = creates
 pub installed : (history : History) → Installed history (live history)
 installed [] = tt
 installed ((Declare name root key) ∷ before) = installed_more (Declare name root key) before (live before) (installed before)
-installed ((Delta name items) ∷ before) = installed_more (Delta name items) before (live before) (installed before)
+installed ((Delta changed) ∷ before) = installed_more (Delta changed) before (live before) (installed before)
+installed ((Batch changed) ∷ before) = installed_more (Batch changed) before (live before) (installed before)
 installed ((Create statement) ∷ before) =
     each_push _ (live before) (created statement before) (installed_more (Create statement) before (live before) (installed before)) (let e : creates before + 1 ≤ creates (Create statement ∷ before) = omega arith in e)
 installed ((Delete name) ∷ before) = each_filter _ (λ s. not (is_named name s)) (live before) (installed_more (Delete name) before (live before) (installed before))
@@ -49,9 +50,12 @@ installed ((Malformed why) ∷ before) = installed_more (Malformed why) before (
 -- a subscription that is not there yet does not fire
 pub not_yet : (m : Option ℕ) (s : Subscription) (command : Command) (before : History) → creates (command ∷ before) < s.install → fires_at m s before command ≡ None
 not_yet m s (Declare name root key) before later = refl
-not_yet m s (Delta name items) before later =
+not_yet m s (Delta changed) before later =
     let off : is_installed s before ≡ false = grind (arith, nat_tests) in
-    λ i. if off i && is_told_of name s before then Some (now before) else None
+    λ i. if off i && is_told_of changed s before then Some (now before) else None
+not_yet m s (Batch changed) before later =
+    let off : is_installed s before ≡ false = grind (arith, nat_tests) in
+    λ i. if off i && is_told_of changed s before then Some (now before) else None
 not_yet m s (Create statement) before later =
     let off : is_new s before ≡ false = grind (arith, nat_tests) in
     λ i. if off i && s.start == now before then Some (now before) else None

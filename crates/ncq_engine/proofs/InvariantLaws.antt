@@ -1,12 +1,9 @@
 -- What holds of an engine whatever was answered, behind each step of the code.
-use Rattle.std.proofs.Common.{◌≡◌, ℕ, zero, suc, ◌+◌, ◌*◌, ◌<◌, ◌≤◌, Bool, true, false, cond, List, [], ◌∷◌, ◌++◌, map, slice_get, refl, sym, ◌∙◌, ap, subst, arith}
-use Rattle.std.specs.Prelude.{Some, not, nat_eq}
-use Rattle.std.specs.List.{filter, list_any, position, AllByRecursion}
-use Rattle.std.specs.Str.{bytes_eq}
-use Rattle.ncq_change.specs.Stores.{kept_in, world_in}
-use Rattle.ncq_change.specs.Entries.{after_in, world_of}
-use Rattle.ncq_change.proofs.CommitLaws.{commits_after, found_name}
-use Rattle.ncq_feed.specs.Feeds.{AreFed, IsPreparedFrom, name_at, name_in, world_after}
+use Rattle.std.proofs.Common.{◌≡◌, ℕ, ◌+◌, ◌*◌, ◌<◌, ◌≤◌, Bool, true, false, cond, List, [], ◌∷◌, ◌++◌, map, refl, sym, ◌∙◌, ap, subst, arith}
+use Rattle.std.specs.Prelude.{not, nat_eq}
+use Rattle.std.specs.List.{filter, list_any, AllByRecursion}
+use Rattle.ncq_change.specs.Stores.{world_in}
+use Rattle.ncq_feed.specs.Feeds.{AreFed}
 use Rattle.ncq_group.specs.Installs.{IsInstalled}
 use Rattle.ncq_group.specs.Tables.{TableState}
 use Rattle.ncq_plan.specs.declared.expr.Expr.{Expr}
@@ -15,25 +12,21 @@ use Rattle.ncq_midfile.specs.Content.{IsContent}
 use Rattle.ncq_midfile.specs.Files.{FileState}
 use Rattle.ncq_shelf.specs.KeptFiles.{Files}
 use Rattle.ncq_plan.specs.Plans.{plan_of}
-use Rattle.ncq_pyx.specs.declared.item.Item.{Item}
 use Rattle.ncq_live.specs.LiveTables.{IsLiveTable, LiveState}
 use Rattle.ncq_shelf.specs.Contents.{AreUpTo, Fits}
 use Rattle.ncq_shelf.specs.Stands.{Stands as HasFile}
-use Rattle.ncq_source.specs.ChangeStates.{ChangeState}
-use Rattle.ncq_source.specs.Changes.{Chains}
-use Rattle.ncq_source.specs.Prepared.{IsPrepared}
+use Rattle.ncq_source.specs.declared.change.Portion.{Portion}
 use Rattle.ncq_source.specs.declared.key.Key.{Key}
-use Rattle.ncq_source.specs.Stores.{Source as Declared, without_room}
-use Rattle.ncq_source.specs.StoreStates.{StoreState, At, Declares, IsAlike, IsCommitted, found}
+use Rattle.ncq_source.specs.Stores.{without_room}
+use Rattle.ncq_source.specs.StoreStates.{StoreState, Declares, IsAlike}
 use Rattle.ncq_book.specs.declared.subscription.Subscription.{Subscription as Kept}
 use Rattle.ncq_book.specs.Books.{InstallsRise}
 use Rattle.ncq_engine.specs.Engines.{CanTell, InstallsAreUpTo, IsEngine, fired_if, last_in}
 use Rattle.ncq_engine.specs.History.{world}
 use Rattle.ncq_engine.specs.Stands.{EngineState, content_of}
 use Rattle.ncq_engine.specs.Tellings.{AreOf, IsLeftBy}
-use Rattle.ncq_engine.proofs.HistoryLaws.{key_is}
 use Rattle.ncq_engine.proofs.Lists.{each_filter, each_more, each_push}
-use Rattle.ncq_engine.proofs.Places.{one_declared, room_is_no_content, same_names}
+use Rattle.ncq_engine.proofs.Places.{one_declared, room_is_no_content}
 use Rattle.ncq_engine.proofs.StoreLaws.{last_alike, last_declared}
 use Rattle.ncq_engine.proofs.TableLaws.{can_left, can_noted, can_store, can_table, fed_still, installed_still}
 use Rattle.ncq_engine.proofs.Worlds.{new_is_empty, world_is}
@@ -112,48 +105,8 @@ invariant_alike e store alike i =
       next = i.next;
     }
 
--- a change that is prepared from a store, seen from that store with room
-module _ (store ready : StoreState) (name : List ℕ) (items : List Item) (change : ChangeState) (here : found store name ≡ Some change.source.0) (alike : IsAlike store ready)
-    (prepared : At store change.source (λ s. IsPrepared s items change.entries)) where
-  here_ready : found ready name ≡ Some change.source.0
-  here_ready = ap (position (bytes_eq name)) (same_names store.sources ready.sources alike.sources) ∙ here
-
-  roomy : (source : Declared) × (slice_get ready.sources change.source.0 ≡ Some source) × (bytes_eq name source.name ≡ true)
-  roomy = found_name ready name change.source.0 here_ready
-
-  own : (source : Declared) × (slice_get store.sources change.source.0 ≡ Some source) × (bytes_eq name source.name ≡ true)
-  own = found_name store name change.source.0 here
-
-  pub name_is : name_at ready change.source ≡ name
-  name_is = ap name_in roomy.1 ∙ sym (key_is name roomy.0.name roomy.2)
-
-  same_plain : without_room roomy.0 ≡ without_room own.0
-  same_plain = same_at without_room ready.sources store.sources change.source.0 roomy.0 own.0 alike.sources roomy.1 own.1
-    where
-      same_at : (f : Declared → Declared) (xs ys : List Declared) (i : ℕ) (x y : Declared) → map f xs ≡ map f ys → slice_get xs i ≡ Some x → slice_get ys i ≡ Some y → f x ≡ f y
-      same_at f [] ys i x y e a b = absurd cc
-      same_at f (p ∷ xs) [] i x y e a b = absurd cc
-      same_at f (p ∷ xs) (q ∷ ys) zero x y e a b = let fp : f p ≡ f q = cc in let px : p ≡ x = cc in let qy : q ≡ y = cc in ap f (sym px) ∙ fp ∙ ap f qy
-      same_at f (p ∷ xs) (q ∷ ys) (suc i) x y e a b = same_at f xs ys i x y (let rest : map f xs ≡ map f ys = cc in rest) a b
-
-  chains_here : (source : Declared) → slice_get ready.sources change.source.0 ≡ Some source → Chains source.elements change.entries
-  chains_here source there =
-      let one : Some source ≡ Some roomy.0 = sym there ∙ roomy.1 in
-      let is : source ≡ roomy.0 = cc in
-      subst (λ (s : Declared). Chains s.elements change.entries) (sym is)
-      (subst (λ (s : Declared). Chains s.elements change.entries) (sym same_plain) (prepared own.0 own.1).chains)
-
-  pub prepared_from : IsPreparedFrom ready change
-  prepared_from = record { source = subst (λ n. found ready n ≡ Some change.source.0) (sym name_is) here_ready; chains = chains_here }
-
-  -- the world after it is committed
-  pub world_committed : (after : StoreState) → IsCommitted ready change after → world_after ready change ≡ world_in after
-  world_committed after done =
-      (λ i. world_of (after_in (kept_in ready) (name_is i) change.entries))
-      ∙ ap world_of (sym (λ i. λ source. commits_after ready ready after name change (record { source = here_ready; chains = chains_here; room = record { changes = refl; sources = refl }; committed = done }) source i))
-
 -- the files were fed, and the change was committed
-pub invariant_changed : (e : EngineState) (change : ChangeState) (store : StoreState) (table : TableState) → Invariant e → store.changes ≡ e.store.changes + 1 → e.store.changes + 1 ≤ e.count
+pub invariant_changed : (e : EngineState) (change : List Portion) (store : StoreState) (table : TableState) → Invariant e → store.changes ≡ e.store.changes + 1 → e.store.changes + 1 ≤ e.count
     → ((name : List ℕ) → last_in e.store name ≤ last_in store name) → ((name : List ℕ) → last_in store name ≤ store.changes)
     → AreFed e.store change e.table.files table.files → Fits table.number (world_in store) table.files → table.number ≡ e.table.number + 1 → table.next_file ≡ e.table.next_file
     → Invariant (record e { store = store; table = table })
@@ -171,7 +124,7 @@ invariant_changed e change store table i more few last lasts fed fits number nex
 }
 
 -- before the commit the subscriptions can be told
-pub can_fed : (e : EngineState) (change : ChangeState) (w : World) (table : TableState) → Invariant e → AreFed e.store change e.table.files table.files → Fits table.number w table.files → AllByRecursion (CanTell e.labels e.store table) e.subscriptions
+pub can_fed : (e : EngineState) (change : List Portion) (w : World) (table : TableState) → Invariant e → AreFed e.store change e.table.files table.files → Fits table.number w table.files → AllByRecursion (CanTell e.labels e.store table) e.subscriptions
 can_fed e change w table i fed fits =
     each_more (CanTell e.labels e.store e.table) (CanTell e.labels e.store table) (can_table e.labels e.store e.table table (fed_still e.store change e.table table w fed fits)) e.subscriptions i.can
 

@@ -9,6 +9,7 @@ pub mod Keeping
 pub mod ToldLaws
 pub mod Places
 pub mod StoreLaws
+pub mod Moved
 pub mod EngineLaws
 pub mod NamedLaws
 pub mod CommandLaws
@@ -41,4 +42,5 @@ pub mod FedTexts
 pub mod PartLaws
 pub mod ReportLaws
 pub mod ReportAnswers
+pub mod OneCommand
 pub mod GivenUp

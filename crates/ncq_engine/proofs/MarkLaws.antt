@@ -7,12 +7,14 @@ use Rattle.std.specs.List.{list_any}
 use Rattle.std.specs.Str.{bytes_eq}
 use Rattle.ncq_base.proofs.Tests.{both_true}
 use Rattle.ncq_script.specs.declared.command.Command.{Command}
-use Rattle.ncq_script.specs.declared.command.Command.TheVariants.{Declare, Delta, Create, Delete, Clock, Report, Malformed}
+use Rattle.ncq_script.specs.declared.command.Command.TheVariants.{Declare, Delta, Batch, Create, Delete, Clock, Report, Malformed}
 use Rattle.ncq_event.specs.Instants.{due}
 use Rattle.std.proofs.lemmas.Bool.{cases_lt}
 use Rattle.ncq_event.proofs.DueLaws.{due_some, early}
 use Rattle.ncq_engine.specs.History.{History, moved, now, is_delta_of, changes, creates, last_change, Subscription, timing_of}
-use Rattle.ncq_engine.specs.Firing.{sources_of, is_installed, is_new, has_news, is_told_of, fires_at, marked, mark, fires}
+use Rattle.ncq_source.specs.Sections.{is_named}
+use Rattle.ncq_source.specs.declared.change.Section.{Section}
+use Rattle.ncq_engine.specs.Firing.{are_named, sources_of, is_installed, is_new, has_news, is_told_of, fires_at, marked, mark, fires}
 use Rattle.ncq_engine.specs.Marks.{first_marked, first_mark, latest_change, noted, mark_from, IsRising}
 use Rattle.ncq_engine.proofs.HistoryLaws.{key_is, key_itself, not_yet, creates_grow}
 
@@ -47,20 +49,26 @@ latest_stays (name ∷ more) command before apart =
       | false ↦ λ p. ap (max (last_change name before)) rest
     ] refl
 
--- a delta of one of them makes the latest
-latest_now : (names : List (List ℕ)) (source : List ℕ) (items : _) (before : History) → list_any (bytes_eq source) names ≡ true → latest_change names (Delta source items ∷ before) ≡ changes (Delta source items ∷ before)
-latest_now [] source items before h = absurd (true≢false (sym h))
-latest_now (name ∷ more) source items before h =
-    let few = latest_few more (Delta source items ∷ before) in
-    elim (bytes_eq source name) as (λ t. bytes_eq source name ≡ t → (t || list_any (bytes_eq source) more) ≡ true → latest_change (name ∷ more) (Delta source items ∷ before) ≡ changes (Delta source items ∷ before)) [
-      | true ↦ λ p e.
-          let mine : bytes_eq name source ≡ true = ap (λ n. bytes_eq n source) (sym (key_is source name p)) ∙ key_itself source in
-          let this : last_change name (Delta source items ∷ before) ≡ changes (Delta source items ∷ before) = λ i. if mine i then changes (Delta source items ∷ before) else last_change name before in
+-- a change of one of them makes the latest
+latest_now : (names : List (List ℕ)) (command : Command) (before : History) → list_any (λ name. is_delta_of name command) names ≡ true → latest_change names (command ∷ before) ≡ changes (command ∷ before)
+latest_now [] command before h = absurd (true≢false (sym h))
+latest_now (name ∷ more) command before h =
+    let few = latest_few more (command ∷ before) in
+    elim (is_delta_of name command) as (λ t. (t || list_any (λ name. is_delta_of name command) more) ≡ true → max (if t then changes (command ∷ before) else last_change name before) (latest_change more (command ∷ before)) ≡ changes (command ∷ before)) [
+      | true ↦ λ e. omega arith
+      | false ↦ λ e.
+          let rest = latest_now more command before e in
+          let one = last_few name before in
           omega arith
-      | false ↦ λ p e.
-          let rest = latest_now more source items before e in
-          let one = last_few name (Delta source items ∷ before) in
-          omega arith
+    ] h
+
+-- what is so of a name is so of some of the names that it is among
+pub any_named : (test : List ℕ → Bool) (name : List ℕ) (names : List (List ℕ)) → test name ≡ true → list_any (bytes_eq name) names ≡ true → list_any test names ≡ true
+any_named test name [] own h = absurd (true≢false (sym h))
+any_named test name (x ∷ names) own h =
+    elim (bytes_eq name x) as (λ t. bytes_eq name x ≡ t → (t || list_any (bytes_eq name) names) ≡ true → (test x || list_any test names) ≡ true) [
+      | true ↦ λ e _. (λ i. (ap test (sym (key_is name x e)) ∙ own) i || list_any test names)
+      | false ↦ λ e rest. elim (test x) as (λ t. (t || list_any test names) ≡ true) [ true ↦ refl | false ↦ any_named test name names own rest ]
     ] refl h
 
 -- nothing has changed since the greatest of the last changes
@@ -132,11 +140,20 @@ first_few s (command ∷ before) first h =
 -- what fires has started
 fires_started : (m : Option ℕ) (s : Subscription) (command : Command) (before : History) (d : ℕ) → fires_at m s before command ≡ Some d → s.start ≤ moved command (now before)
 fires_started m s (Declare name root key) before d h = cc
-fires_started m s (Delta name items) before d h =
-    elim (is_installed s before && is_told_of name s before) as (λ t. is_installed s before && is_told_of name s before ≡ t → (if t then Some (now before) else None) ≡ Some d → s.start ≤ now before) [
+fires_started m s (Delta changed) before d h =
+    elim (is_installed s before && is_told_of changed s before) as (λ t. is_installed s before && is_told_of changed s before ≡ t → (if t then Some (now before) else None) ≡ Some d → s.start ≤ now before) [
       | true ↦ λ p e.
-          let a = both_true (is_installed s before) (is_told_of name s before) p in
-          let b = both_true (s.statement.every == 0 && list_any (bytes_eq name) (sources_of s.statement)) (nat_le s.start (now before)) a.1 in
+          let a = both_true (is_installed s before) (is_told_of changed s before) p in
+          let b = both_true (s.statement.every == 0 && are_named changed (sources_of s.statement)) (nat_le s.start (now before)) a.1 in
+          let t = b.1 in
+          grind (arith, nat_tests)
+      | false ↦ λ p e. cc
+    ] refl h
+fires_started m s (Batch changed) before d h =
+    elim (is_installed s before && is_told_of changed s before) as (λ t. is_installed s before && is_told_of changed s before ≡ t → (if t then Some (now before) else None) ≡ Some d → s.start ≤ now before) [
+      | true ↦ λ p e.
+          let a = both_true (is_installed s before) (is_told_of changed s before) p in
+          let b = both_true (s.statement.every == 0 && are_named changed (sources_of s.statement)) (nat_le s.start (now before)) a.1 in
           let t = b.1 in
           grind (arith, nat_tests)
       | false ↦ λ p e. cc
@@ -186,25 +203,28 @@ module _ (s : Subscription) (based : s.statement.every == 0 ≡ true) (before : 
         | inr few ↦ grind (arith, nat_tests)
       ]
 
-  delta_apart : (source : List ℕ) (items : _) → IsRising before → is_installed s before && is_told_of source s before ≡ false → (first : ℕ) → first_mark s before ≡ Some first
-      → (name : List ℕ) → is_delta_of name (Delta source items) ≡ true → list_any (bytes_eq name) (sources_of s.statement) ≡ true → ⊥
-  delta_apart source items rising quiet first p name d h =
-      let same : name ≡ source = key_is name source d in
-      let started = first_started s before rising first p in
-      let late : nat_le s.start (now before) ≡ true = grind (arith, nat_tests) in
-      let asked : list_any (bytes_eq source) (sources_of s.statement) ≡ true = ap (λ n. list_any (bytes_eq n) (sources_of s.statement)) (sym same) ∙ h in
-      true≢false (sym (λ i. there first p i && ((based i && asked i) && late i)) ∙ quiet)
+  -- the command is a change of these sections
+  module _ (command : Command) (changed : List Section) (names : (name : List ℕ) → is_delta_of name command ≡ is_named name changed)
+      (firing : fires s before command ≡ (if is_installed s before && is_told_of changed s before then Some (now before) else None)) where
+    delta_apart : IsRising before → is_installed s before && is_told_of changed s before ≡ false → (first : ℕ) → first_mark s before ≡ Some first
+        → (name : List ℕ) → is_delta_of name command ≡ true → list_any (bytes_eq name) (sources_of s.statement) ≡ true → ⊥
+    delta_apart rising quiet first p name d h =
+        let started = first_started s before rising first p in
+        let late : nat_le s.start (now before) ≡ true = grind (arith, nat_tests) in
+        let asked : are_named changed (sources_of s.statement) ≡ true = any_named (λ source. is_named source changed) name (sources_of s.statement) (sym (names name) ∙ d) h in
+        true≢false (sym (λ i. there first p i && ((based i && asked i) && late i)) ∙ quiet)
 
-  way_delta : (source : List ℕ) (items : _) → IsRising before → Way s (Delta source items) before
-  way_delta source items rising =
-      elim (is_installed s before && is_told_of source s before) as (λ t. is_installed s before && is_told_of source s before ≡ t → Way s (Delta source items) before) [
-        | true ↦ λ p.
-            let a = both_true (is_installed s before) (is_told_of source s before) p in
-            let b = both_true (s.statement.every == 0 && list_any (bytes_eq source) (sources_of s.statement)) (nat_le s.start (now before)) a.1 in
-            let c = both_true (s.statement.every == 0) (list_any (bytes_eq source) (sources_of s.statement)) b.0 in
-            Changed (now before) (λ i. if p i then Some (now before) else None) (latest_now (sources_of s.statement) source items before c.1)
-        | false ↦ λ p. Quiet (λ i. if p i then Some (now before) else None) (λ first q. stays (Delta source items) (delta_apart source items rising p first q) first q)
-      ] refl
+    way_delta : IsRising before → Way s command before
+    way_delta rising =
+        elim (is_installed s before && is_told_of changed s before) as (λ t. is_installed s before && is_told_of changed s before ≡ t → Way s command before) [
+          | true ↦ λ p.
+              let a = both_true (is_installed s before) (is_told_of changed s before) p in
+              let b = both_true (s.statement.every == 0 && are_named changed (sources_of s.statement)) (nat_le s.start (now before)) a.1 in
+              let c = both_true (s.statement.every == 0) (are_named changed (sources_of s.statement)) b.0 in
+              Changed (now before) (firing ∙ (λ i. if p i then Some (now before) else None))
+              (latest_now (sources_of s.statement) command before ((λ i. list_any (λ name. names name i) (sources_of s.statement)) ∙ c.1))
+          | false ↦ λ p. Quiet (firing ∙ (λ i. if p i then Some (now before) else None)) (λ first q. stays command (delta_apart rising p first q) first q)
+        ] refl
 
   way_create : (statement : _) → Way s (Create statement) before
   way_create statement =
@@ -233,7 +253,8 @@ module _ (s : Subscription) (based : s.statement.every == 0 ≡ true) (before : 
 
   way : (command : Command) → IsRising before → mark s before ≡ greatest s command before (first_mark s before) before → Way s command before
   way (Declare name root key) rising e = Quiet refl (stays (Declare name root key) (λ n d h. true≢false (sym d)))
-  way (Delta source items) rising e = way_delta source items rising
+  way (Delta changed) rising e = way_delta (Delta changed) changed (λ name. refl) refl rising
+  way (Batch changed) rising e = way_delta (Batch changed) changed (λ name. refl) refl rising
   way (Create statement) rising e = way_create statement
   way (Delete name) rising e = Quiet refl (stays (Delete name) (λ n d h. true≢false (sym d)))
   way (Clock instant) rising e = way_clock instant e

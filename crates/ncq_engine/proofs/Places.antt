@@ -1,18 +1,14 @@
 -- A source of the store, found by its name, and what changing it changes.
-use Rattle.std.proofs.Common.{◌≡◌, ℕ, zero, suc, ◌+◌, ◌<◌, Bool, true, false, cond, not, nat_lt, List, [], ◌∷◌, ◌++◌, map, length, get_or, slice_get, slice_set, refl, sym, ◌∙◌, ap, subst, arith, true≢false}
+use Rattle.std.proofs.Common.{◌≡◌, ℕ, zero, suc, ◌+◌, ◌<◌, Bool, true, false, cond, not, nat_lt, List, [], ◌∷◌, ◌++◌, map, length, get_or, slice_get, refl, sym, ◌∙◌, ap, arith, true≢false}
 use Rattle.std.specs.Prelude.{Some, None, if◌then◌else◌}
 use Rattle.std.specs.List.{position, position_or_len}
 use Rattle.std.proofs.lemmas.Bool.Decides.{nat_tests}
 use Rattle.std.proofs.lemmas.List.Quantifiers.{position-Some}
 use Rattle.std.specs.FinMap.{empty}
 use Rattle.std.specs.Str.{bytes_eq}
-use Rattle.ncq_pyx.specs.declared.item.Item.{Item}
-use Rattle.std.proofs.lemmas.Option.{slice_get-get_or}
-use Rattle.ncq_source.specs.Changes.{store_after, after}
-use Rattle.ncq_source.specs.declared.change.Entry.{Entry}
-use Rattle.ncq_source.specs.Stores.{Source as Declared, declared, without_room, Follows}
+use Rattle.ncq_source.specs.Stores.{Source as Declared, declared, without_room}
 use Rattle.ncq_source.specs.declared.key.Key.{Key}
-use Rattle.ncq_engine.specs.History.{Source, with_items, source_in}
+use Rattle.ncq_engine.specs.History.{Source, source_in}
 use Rattle.ncq_engine.specs.Stands.{content_of}
 
 abbrev names_of : List Declared → List (List ℕ)
@@ -54,23 +50,8 @@ module _ (name : List ℕ) where
       (λ i. if before 0 (let some : 0 < suc at = omega arith in some) i then Some (content_of x) else source_in name (map content_of all))
       ∙ at_place all at d here is (λ k less. before (suc k) (let more : suc k < suc at = omega (arith, less) in more))
 
-  set_place : (items : List Item) (all : List Declared) (at : ℕ) (d new : Declared) → slice_get all at ≡ Some d → bytes_eq name (get_or (names_of all) at []) ≡ true
-      → ((k : ℕ) → k < at → bytes_eq name (get_or (names_of all) k []) ≡ false)
-      → content_of new ≡ record (content_of d) { elements = store_after d.key d.elements items } → map content_of (slice_set all at new) ≡ with_items name items (map content_of all)
-  set_place items [] at d new here is before e = cc
-  set_place items (x ∷ all) zero d new here is before e =
-      ap (λ (s : Source). s ∷ map content_of all) (e ∙ ap (λ (y : Declared). record (content_of y) { elements = store_after y.key y.elements items }) (sym (same_Some x d here)))
-      ∙ sym (λ i. if is i then record (content_of x) { elements = store_after x.key x.elements items } ∷ map content_of all else content_of x ∷ with_items name items (map content_of all))
-  set_place items (x ∷ all) (suc at) d new here is before e =
-      ap (λ (ss : List Source). content_of x ∷ ss) (set_place items all at d new here is (λ k less. before (suc k) (let more : suc k < suc at = omega (arith, less) in more)) e)
-      ∙ sym (λ i. if before 0 (let some : 0 < suc at = omega arith in some) i then record (content_of x) { elements = store_after x.key x.elements items } ∷ map content_of all else content_of x ∷ with_items name items (map content_of all))
-
   pub is_found : (all : List Declared) (at : ℕ) (d : Declared) → position (bytes_eq name) (map (λ d. d.name) all) ≡ Some at → slice_get all at ≡ Some d → source_in name (map content_of all) ≡ Some (content_of d)
   is_found all at d found here = let p = position-Some (bytes_eq name) (names_of all) at [] found in at_place all at d here p.1 p.2
-
-  pub is_changed : (items : List Item) (all : List Declared) (at : ℕ) (d new : Declared) → position (bytes_eq name) (map (λ d. d.name) all) ≡ Some at → slice_get all at ≡ Some d
-      → content_of new ≡ record (content_of d) { elements = store_after d.key d.elements items } → map content_of (slice_set all at new) ≡ with_items name items (map content_of all)
-  is_changed items all at d new found here e = let p = position-Some (bytes_eq name) (names_of all) at [] found in set_place items all at d new here p.1 p.2 e
 
   pub found_within : (all : List Declared) (at : ℕ) → position (bytes_eq name) (map (λ d. d.name) all) ≡ Some at → at < length all
   found_within all at found = let p = position-Some (bytes_eq name) (names_of all) at [] found in within_names all at p.0
@@ -98,36 +79,3 @@ one_declared old new name root key e =
 
 pub same_names : (old new : List Declared) → map without_room new ≡ map without_room old → map (λ d. d.name) new ≡ map (λ d. d.name) old
 same_names old new e = map_map without_room (λ w. w.name) new ∙ ap (map (λ w. w.name)) e ∙ sym (map_map without_room (λ w. w.name) old)
-
-module _ {A B : Type 0} (f : A → B) where
-  same_at : (xs ys : List A) (i : ℕ) (x y : A) → map f xs ≡ map f ys → slice_get xs i ≡ Some x → slice_get ys i ≡ Some y → f x ≡ f y
-  same_at [] ys i x y e p q = cc
-  same_at (a ∷ xs) [] i x y e p q = cc
-  same_at (a ∷ xs) (b ∷ ys) zero x y e p q = let heads : f a ≡ f b = cc in ap f (sym (same_Some a x p)) ∙ heads ∙ ap f (same_Some b y q)
-  same_at (a ∷ xs) (b ∷ ys) (suc i) x y e p q = let tails : map f xs ≡ map f ys = cc in same_at xs ys i x y tails p q
-
-  same_length : (xs ys : List A) → map f xs ≡ map f ys → length xs ≡ length ys
-  same_length [] [] e = refl
-  same_length [] (b ∷ ys) e = cc
-  same_length (a ∷ xs) [] e = cc
-  same_length (a ∷ xs) (b ∷ ys) e = let tails : map f xs ≡ map f ys = cc in ap suc (same_length xs ys tails)
-
--- a change that was prepared before the room was taken
-pub moved_by : (name : List ℕ) (items : List Item) (old ready new : List Declared) (at : ℕ) (d : Declared) (entries : List Entry) (number : ℕ)
-    → position (bytes_eq name) (map (λ d. d.name) old) ≡ Some at → slice_get old at ≡ Some d → map without_room ready ≡ map without_room old
-    → ((r : Declared) → slice_get ready at ≡ Some r → (t : Declared) × (new ≡ slice_set ready at t) × Follows r t entries number)
-    → after d.elements entries ≡ store_after d.key d.elements items → map content_of new ≡ with_items name items (map content_of old)
-moved_by name items old ready new at d entries number found here same changed fold =
-    let within : at < length ready = omega (arith, found_within name old at found, same_length without_room ready old same) in
-    let r = get_or ready at d in
-    let there : slice_get ready at ≡ Some r = slice_get-get_or ready at d within in
-    let parts : without_room r ≡ without_room d = same_at without_room ready old at r d same there here in
-    let fold_r : after r.elements entries ≡ store_after r.key r.elements items =
-    subst (λ (w : Declared). after w.elements entries ≡ store_after w.key w.elements items) (sym parts) fold in
-    let c = changed r there in
-    let f = c.2 in
-    let e : content_of c.0 ≡ record (content_of r) { elements = store_after r.key r.elements items } =
-    (λ i. record { name = f.name i; root = f.root i; key = f.key i; elements = (f.elements ∙ fold_r) i }) in
-    ap (map content_of) c.1
-    ∙ is_changed name items ready at r c.0 (ap (position (bytes_eq name)) (same_names old ready same) ∙ found) there e
-    ∙ ap (with_items name items) (room_is_no_content old ready same)

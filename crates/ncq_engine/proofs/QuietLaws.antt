@@ -19,13 +19,14 @@ use Rattle.ncq_plan.specs.declared.expr.Expr.{Expr}
 use Rattle.ncq_plan.specs.Exprs.{World, rows_in}
 use Rattle.ncq_plan.specs.Plans.{plan_of}
 use Rattle.ncq_pyx.specs.Canonical.{pyx}
-use Rattle.ncq_pyx.specs.declared.item.Item.{Item}
 use Rattle.ncq_row.specs.Embeddings.{Row}
 use Rattle.ncq_script.specs.declared.command.Command.TheVariants.{Delta}
 use Rattle.ncq_shelf.specs.Contents.{AreUpTo}
+use Rattle.ncq_source.specs.Sections.{is_named}
+use Rattle.ncq_source.specs.declared.change.Section.{Section}
 use Rattle.ncq_source.specs.StoreStates.{StoreState}
 use Rattle.ncq_engine.specs.Engines.{CanTell, last_in, mark_in, news_of, rows_in_file, notice_text}
-use Rattle.ncq_engine.specs.Firing.{mark, sources_of}
+use Rattle.ncq_engine.specs.Firing.{are_named, mark, sources_of}
 use Rattle.ncq_engine.specs.History.{History, Subscription, changes, last_change, now, sources, up_to, world}
 use Rattle.ncq_engine.specs.Languages.{language_of}
 use Rattle.ncq_engine.specs.Marks.{IsRising, first_mark, latest_change, noted}
@@ -34,7 +35,7 @@ use Rattle.ncq_engine.specs.Stands.{AreContents, Keeps}
 use Rattle.ncq_engine.proofs.AskedLaws.{other_stays, same_answer, same_bag, stays_since}
 use Rattle.ncq_engine.proofs.HistoryLaws.{key_is}
 use Rattle.ncq_engine.proofs.Keeping.{mark_few, mark_is}
-use Rattle.ncq_engine.proofs.MarkLaws.{last_few, marks_follow}
+use Rattle.ncq_engine.proofs.MarkLaws.{any_named, last_few, marks_follow}
 use Rattle.ncq_engine.proofs.NoticeLaws.{answer_is, text_is}
 use Rattle.ncq_engine.proofs.StartedLaws.{FiresFirst}
 use Rattle.ncq_engine.proofs.Worlds.{world_at_mark}
@@ -73,10 +74,10 @@ started_mark s h rising fired based started =
         ∙ (λ i. if based i then option_map (λ first. max first (latest_change (sources_of s.statement) h)) (if based i then first_mark s h else mark s h) else noted s h)
         ∙ ap (option_map (λ first. max first (latest_change (sources_of s.statement) h))) first.1
 
-not_asked : (name asked : List ℕ) (names : List (List ℕ)) → list_any (bytes_eq name) names ≡ false → list_any (bytes_eq asked) names ≡ true → bytes_eq name asked ≡ false
-not_asked name asked names elsewhere there =
-    elim (bytes_eq name asked) as (λ t. bytes_eq name asked ≡ t → t ≡ false) [
-      | true ↦ λ p. sym there ∙ ap (λ n. list_any (bytes_eq n) names) (sym (key_is name asked p)) ∙ elsewhere
+not_asked : (changed : List Section) (asked : List ℕ) (names : List (List ℕ)) → are_named changed names ≡ false → list_any (bytes_eq asked) names ≡ true → is_named asked changed ≡ false
+not_asked changed asked names elsewhere there =
+    elim (is_named asked changed) as (λ t. is_named asked changed ≡ t → t ≡ false) [
+      | true ↦ λ p. sym (any_named (λ source. is_named source changed) asked names p there) ∙ elsewhere
       | false ↦ λ p. refl
     ] refl
 
@@ -90,9 +91,9 @@ none_since n (r ∷ rows) none =
     ] refl none
 
 -- a subscription that fires at changes and has started, behind a change
-module _ (labels : List Label) (h : History) (name : List ℕ) (items : List Item) (store : StoreState) (table : TableState)
-    (last : (asked : List ℕ) → last_in store asked ≡ last_change asked h) (rising : IsRising h) (contents : AreContents table.files (Delta name items ∷ h))
-    (upto : AreUpTo (changes (Delta name items ∷ h)) table.files) where
+module _ (labels : List Label) (h : History) (changed : List Section) (store : StoreState) (table : TableState)
+    (last : (asked : List ℕ) → last_in store asked ≡ last_change asked h) (rising : IsRising h) (contents : AreContents table.files (Delta changed ∷ h))
+    (upto : AreUpTo (changes (Delta changed ∷ h)) table.files) where
   module _ (s : Subscription) (m : Kept) (k : Keeps labels h s m) (can : CanTell labels store table m) (fired : FiresFirst h s)
       (based : m.timing.every == 0 ≡ true) (started : nat_le m.timing.start (now h) ≡ true) where
     has_mark : HasMark s h
@@ -114,19 +115,19 @@ module _ (labels : List Label) (h : History) (name : List ℕ) (items : List Ite
     answer_since number covers = ap (map pyx) (same_answer s.statement (world (sources (up_to number h))) (world (sources h)) (λ asked there. stays_since asked number h (covers asked there)))
 
     -- nothing is told of a source that it does not ask
-    pub quiet_elsewhere : list_any (bytes_eq name) m.sources ≡ false → (instant : ℕ) → notice_text labels store table.files m instant ≡ []
+    pub quiet_elsewhere : are_named changed m.sources ≡ false → (instant : ℕ) → notice_text labels store table.files m instant ≡ []
     quiet_elsewhere elsewhere instant =
-        text_is labels h (Delta name items) store table last rising contents upto s m k can instant
+        text_is labels h (Delta changed) store table last rising contents upto s m k can instant
         ∙ ap (rendered (kind_in s.statement.action labels) (unwrap_or s.statement.argument []) s.statement.name instant) nothing
       where
-        unasked : list_any (bytes_eq name) (sources_of s.statement) ≡ false
-        unasked = ap (list_any (bytes_eq name)) (sym k.sources) ∙ elsewhere
+        unasked : are_named changed (sources_of s.statement) ≡ false
+        unasked = ap (are_named changed) (sym k.sources) ∙ elsewhere
 
-        answer_now : map pyx (answer s.statement.query (world (sources (Delta name items ∷ h)))) ≡ old_answer
-        answer_now = ap (map pyx) (same_answer s.statement (world (sources (Delta name items ∷ h))) (world (sources h))
-            (λ asked there. other_stays asked name items h (not_asked name asked (sources_of s.statement) unasked there)))
+        answer_now : map pyx (answer s.statement.query (world (sources (Delta changed ∷ h)))) ≡ old_answer
+        answer_now = ap (map pyx) (same_answer s.statement (world (sources (Delta changed ∷ h))) (world (sources h))
+            (λ asked there. other_stays asked changed h (not_asked changed asked (sources_of s.statement) unasked there)))
 
-        nothing : news (language_of labels) s h (Delta name items) ≡ []
+        nothing : news (language_of labels) s h (Delta changed) ≡ []
         nothing =
             (λ i. difference (answer_now i) (answer_at (language_of labels) s.statement.query h (has_mark.is i)))
             ∙ ap (difference old_answer) (answer_since has_mark.number has_mark.covers)
@@ -144,9 +145,9 @@ module _ (labels : List Label) (h : History) (name : List ℕ) (items : List Ite
 
         content_then : (number : ℕ) → can.file.content.base ≤ number → number ≤ changes h → IsContent number can.file.content.rows (then_rows number)
         content_then number low few =
-            let within : number ≤ changes (Delta name items ∷ h) = omega (arith, few) in
+            let within : number ≤ changes (Delta changed ∷ h) = omega (arith, few) in
             subst (λ (e : Expr). IsContent number can.file.content.rows (rows_in e (world (sources (up_to number h))))) can.own
-            (subst (λ (w : World). IsContent number can.file.content.rows (rows_in can.file.expr w)) (world_at_mark number (Delta name items) h few)
+            (subst (λ (w : World). IsContent number can.file.content.rows (rows_in can.file.expr w)) (world_at_mark number (Delta changed) h few)
             (contents m.file.0 can.file number can.at low within))
 
         answers_then : (number : ℕ) → ((asked : List ℕ) → list_any (bytes_eq asked) (sources_of s.statement) ≡ true → last_change asked h ≤ number)

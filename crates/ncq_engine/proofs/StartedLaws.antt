@@ -1,18 +1,18 @@
 -- Who is live, fires at changes and has started has fired: so a change is never a first firing, and nothing has to be written down at it.
 use Rattle.std.proofs.Common.{◌≡◌, ℕ, ◌-◌, ◌%◌, ◌<◌, ◌≤◌, Bool, true, false, not, ◌&&◌, ◌==◌, cond, List, [], ◌∷◌, refl, sym, ◌∙◌, arith, true≢false, inl, inr}
 use Rattle.std.specs.Prelude.{Option, Some, None, nat_le, if◌then◌else◌}
-use Rattle.std.specs.List.{filter, list_any, AllByRecursion}
-use Rattle.std.specs.Str.{bytes_eq}
+use Rattle.std.specs.List.{filter, AllByRecursion}
 use Rattle.std.proofs.lemmas.Bool.{cases_lt}
 use Rattle.std.proofs.lemmas.Bool.Decides.{nat_tests}
 use Rattle.ncq_script.specs.declared.command.Command.{Command}
-use Rattle.ncq_script.specs.declared.command.Command.TheVariants.{Declare, Delta, Create, Delete, Clock, Report, Malformed}
+use Rattle.ncq_script.specs.declared.command.Command.TheVariants.{Declare, Delta, Batch, Create, Delete, Clock, Report, Malformed}
 use Rattle.ncq_event.specs.declared.timing.Timing.{Timing}
 use Rattle.ncq_event.specs.Instants.{due, is_expired, is_instant, is_past}
 use Rattle.ncq_event.proofs.DueLaws.{due_none}
 use Rattle.ncq_xmlql.specs.declared.model.Statement.{Statement}
 use Rattle.ncq_engine.specs.History.{History, now, changes, creates, Subscription, created, is_named, live, start_of, timing_of}
-use Rattle.ncq_engine.specs.Firing.{fires, has_news, is_installed, is_new, is_told_of, mark, marked, sources_of}
+use Rattle.ncq_source.specs.declared.change.Section.{Section}
+use Rattle.ncq_engine.specs.Firing.{fires, has_news, is_installed, is_new, is_told_of, are_named, mark, marked, sources_of}
 use Rattle.ncq_engine.specs.Marks.{first_mark, first_marked, noted}
 use Rattle.ncq_engine.proofs.HistoryLaws.{installed}
 use Rattle.ncq_engine.proofs.Lists.{each_both, each_filter, each_more, each_push}
@@ -107,7 +107,8 @@ kept_pass P test (x ∷ xs) h =
 pub all_fired : (h : History) → AllByRecursion (FiresFirst h) (live h)
 all_fired [] = tt
 all_fired ((Declare name root key) ∷ before) = stays_fired (Declare name root key) before refl (live before) (all_fired before)
-all_fired ((Delta name items) ∷ before) = stays_fired (Delta name items) before refl (live before) (all_fired before)
+all_fired ((Delta changed) ∷ before) = stays_fired (Delta changed) before refl (live before) (all_fired before)
+all_fired ((Batch changed) ∷ before) = stays_fired (Batch changed) before refl (live before) (all_fired before)
 all_fired ((Create statement) ∷ before) =
     each_push (FiresFirst (Create statement ∷ before)) (live before) (created statement before) (stays_fired (Create statement) before refl (live before) (all_fired before)) (create_fires statement before)
 all_fired ((Delete name) ∷ before) = each_filter (FiresFirst (Delete name ∷ before)) (λ s. not (is_named name s)) (live before) (stays_fired (Delete name) before refl (live before) (all_fired before))
@@ -123,39 +124,39 @@ all_fired (Report ∷ before) = stays_fired Report before refl (live before) (al
 all_fired ((Malformed why) ∷ before) = stays_fired (Malformed why) before refl (live before) (all_fired before)
 
 -- a change writes nothing down of who is live
-pub delta_notes : (s : Subscription) (h : History) (name : List ℕ) (items : _) → FiresFirst h s → noted s (Delta name items ∷ h) ≡ noted s h
-delta_notes s h name items f = by_kind (s.statement.every == 0) refl
+pub delta_notes : (s : Subscription) (h : History) (changed : List Section) → FiresFirst h s → noted s (Delta changed ∷ h) ≡ noted s h
+delta_notes s h changed f = by_kind (s.statement.every == 0) refl
   where
-    quiet : s.statement.every == 0 ≡ false → fires s h (Delta name items) ≡ None
-    quiet timer = (λ i. if is_installed s h && ((timer i && list_any (bytes_eq name) (sources_of s.statement)) && nat_le s.start (now h)) then Some (now h) else None) ∙ none (is_installed s h)
+    quiet : s.statement.every == 0 ≡ false → fires s h (Delta changed) ≡ None
+    quiet timer = (λ i. if is_installed s h && ((timer i && are_named changed (sources_of s.statement)) && nat_le s.start (now h)) then Some (now h) else None) ∙ none (is_installed s h)
       where
         none : (b : Bool) → (if b && false then Some (now h) else None) ≡ None
         none true = refl
         none false = refl
 
-    stays : s.statement.every == 0 ≡ true → (told started : Bool) → is_told_of name s h ≡ told → nat_le s.start (now h) ≡ started → first_mark s (Delta name items ∷ h) ≡ first_mark s h
+    stays : s.statement.every == 0 ≡ true → (told started : Bool) → is_told_of changed s h ≡ told → nat_le s.start (now h) ≡ started → first_mark s (Delta changed ∷ h) ≡ first_mark s h
     stays based told true t e =
         let fired = f based (let l : s.start ≤ now h = grind (arith, nat_tests, e) in l) in
-        (λ i. first_marked (fires s h (Delta name items)) (changes (Delta name items ∷ h)) (fired.1 i)) ∙ sym fired.1
+        (λ i. first_marked (fires s h (Delta changed)) (changes (Delta changed ∷ h)) (fired.1 i)) ∙ sym fired.1
     stays based told false t e =
-        let none : fires s h (Delta name items) ≡ None = (λ i. if is_installed s h && ((based i && list_any (bytes_eq name) (sources_of s.statement)) && e i) then Some (now h) else None) ∙ nobody (is_installed s h) (list_any (bytes_eq name) (sources_of s.statement)) in
-        (λ i. first_marked (none i) (changes (Delta name items ∷ h)) (first_mark s h)) ∙ unmarked (first_mark s h)
+        let none : fires s h (Delta changed) ≡ None = (λ i. if is_installed s h && ((based i && are_named changed (sources_of s.statement)) && e i) then Some (now h) else None) ∙ nobody (is_installed s h) (are_named changed (sources_of s.statement)) in
+        (λ i. first_marked (none i) (changes (Delta changed ∷ h)) (first_mark s h)) ∙ unmarked (first_mark s h)
       where
         nobody : (a b : Bool) → (if a && ((true && b) && false) then Some (now h) else None) ≡ None
         nobody true true = refl
         nobody true false = refl
         nobody false b = refl
 
-        unmarked : (o : Option ℕ) → first_marked None (changes (Delta name items ∷ h)) o ≡ o
+        unmarked : (o : Option ℕ) → first_marked None (changes (Delta changed ∷ h)) o ≡ o
         unmarked None = refl
         unmarked (Some number) = refl
 
-    by_kind : (b : Bool) → s.statement.every == 0 ≡ b → noted s (Delta name items ∷ h) ≡ noted s h
+    by_kind : (b : Bool) → s.statement.every == 0 ≡ b → noted s (Delta changed ∷ h) ≡ noted s h
     by_kind true based =
-        (λ i. if based i then first_mark s (Delta name items ∷ h) else mark s (Delta name items ∷ h))
-        ∙ stays based (is_told_of name s h) (nat_le s.start (now h)) refl refl
+        (λ i. if based i then first_mark s (Delta changed ∷ h) else mark s (Delta changed ∷ h))
+        ∙ stays based (is_told_of changed s h) (nat_le s.start (now h)) refl refl
         ∙ (λ i. if sym based i then first_mark s h else mark s h)
     by_kind false timer =
-        (λ i. if timer i then first_mark s (Delta name items ∷ h) else mark s (Delta name items ∷ h))
-        ∙ (λ i. marked (quiet timer i) (changes (Delta name items ∷ h)) (mark s h))
+        (λ i. if timer i then first_mark s (Delta changed ∷ h) else mark s (Delta changed ∷ h))
+        ∙ (λ i. marked (quiet timer i) (changes (Delta changed ∷ h)) (mark s h))
         ∙ (λ i. if sym timer i then first_mark s h else mark s h)

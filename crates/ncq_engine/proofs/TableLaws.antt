@@ -22,7 +22,7 @@ use Rattle.ncq_shelf.specs.KeptFiles.{KeptFile, Files}
 use Rattle.ncq_shelf.specs.Stands.{Stands as HasFile}
 use Rattle.ncq_shelf.specs.Contents.{AreUpTo, Fits, cut_to}
 use Rattle.ncq_midfile.specs.declared.signed.SignedRow.{SignedRow}
-use Rattle.ncq_source.specs.ChangeStates.{ChangeState}
+use Rattle.ncq_source.specs.declared.change.Portion.{Portion}
 use Rattle.ncq_source.specs.StoreStates.{StoreState}
 use Rattle.ncq_engine.specs.Engines.{CanTell, fired_if, last_in, latest_in, mark_in}
 use Rattle.ncq_engine.specs.Tellings.{AreOf}
@@ -79,7 +79,7 @@ can_table labels store old new still m can =
     }
 
 -- behind a change that the files were fed
-pub fed_still : (store : StoreState) (change : ChangeState) (old new : TableState) (w : World) → AreFed store change old.files new.files → Fits new.number w new.files
+pub fed_still : (store : StoreState) (change : List Portion) (old new : TableState) (w : World) → AreFed store change old.files new.files → Fits new.number w new.files
     → (number : ℕ) (file : KeptFile) → get old.files number ≡ Some file → HasStill new number file
 fed_still store change old new w fed fits number file at =
     let f = fed.each number file at in
@@ -162,7 +162,7 @@ can_noted labels store table upto true m can = record {
     by false = low
 
 -- without the rows of a change that was fed the files are those before
-pub rolled_back : (store : StoreState) (change : ChangeState) (old fed after : Files) → AreFed store change old fed → AreUpTo store.changes old
+pub rolled_back : (store : StoreState) (change : List Portion) (old fed after : Files) → AreFed store change old fed → AreUpTo store.changes old
     → ((number : ℕ) → get after number ≡ option_map (cut_to store.changes) (get fed number)) → after ≡ old
 rolled_back store change old fed after done upto cut = same_map nat_cmp_total nat_cmp-IsAntisymmetric after old (λ number. cut number ∙ back number (get old number) refl)
   where
@@ -175,7 +175,7 @@ rolled_back store change old fed after done upto cut = same_map nat_cmp_total na
         ∙ sym e
 
 -- and the table is the one before
-pub table_back : (store : StoreState) (change : ChangeState) (old fed after : TableState) → AreFed store change old.files fed.files → AreUpTo old.number old.files → store.changes ≡ old.number
+pub table_back : (store : StoreState) (change : List Portion) (old fed after : TableState) → AreFed store change old.files fed.files → AreUpTo old.number old.files → store.changes ≡ old.number
     → ((number : ℕ) → get after.files number ≡ option_map (cut_to old.number) (get fed.files number)) → after.number ≡ old.number → after.next_file ≡ old.next_file → after ≡ old
 table_back store change old fed after done upto now cut number next =
     let files : after.files ≡ old.files =
@@ -184,7 +184,7 @@ table_back store change old fed after done upto now cut number next =
     λ i. record { files = files i; next_file = next i; number = number i }
 
 -- a fed file was made at the change before the marks or earlier, and its number was given
-pub fed_base : (store : StoreState) (change : ChangeState) (old fed : Files) (mark next : ℕ) → AreFed store change old fed → AreUpTo mark old → ((number : ℕ) (file : KeptFile) → get old number ≡ Some file → number < next)
+pub fed_base : (store : StoreState) (change : List Portion) (old fed : Files) (mark next : ℕ) → AreFed store change old fed → AreUpTo mark old → ((number : ℕ) (file : KeptFile) → get old number ≡ Some file → number < next)
     → (number : ℕ) (file : KeptFile) → get fed number ≡ Some file → (file.content.base ≤ mark) × (number < next)
 fed_base store change old fed mark next done upto below number file at = by (get old number) refl
   where

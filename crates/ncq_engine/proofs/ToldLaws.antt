@@ -7,7 +7,7 @@ use Rattle.ncq_callback.specs.Labels.{Label}
 use Rattle.ncq_event.specs.declared.firing.Firing.{Firing}
 use Rattle.ncq_event.specs.Orders.{is_before, placed_by, ordered_by}
 use Rattle.ncq_script.specs.declared.command.Command.{Command}
-use Rattle.ncq_script.specs.declared.command.Command.TheVariants.{Declare, Delta, Create, Delete, Clock, Report, Malformed}
+use Rattle.ncq_script.specs.declared.command.Command.TheVariants.{Declare, Delta, Batch, Create, Delete, Clock, Report, Malformed}
 use Rattle.ncq_source.specs.StoreStates.{StoreState}
 use Rattle.ncq_book.specs.declared.subscription.Subscription.{Subscription as Kept}
 use Rattle.ncq_engine.specs.Engines.{NoticeText}
@@ -81,7 +81,8 @@ rises_filter keep (s ∷ xs) r =
 pub live_rises : (h : History) → Rises (live h)
 live_rises [] = tt
 live_rises ((Declare name root key) ∷ before) = live_rises before
-live_rises ((Delta name items) ∷ before) = live_rises before
+live_rises ((Delta changed) ∷ before) = live_rises before
+live_rises ((Batch changed) ∷ before) = live_rises before
 live_rises ((Create statement) ∷ before) = rises_push (creates before) (live before) (created statement before) (live_rises before) (installed before) (let l : creates before < creates before + 1 = omega arith in l)
 live_rises ((Delete name) ∷ before) = rises_filter (λ s. not (is_named name s)) (live before) (live_rises before)
 live_rises ((Clock instant) ∷ before) = rises_filter (λ s. not (is_expired (timing_of s) instant)) (live before) (live_rises before)

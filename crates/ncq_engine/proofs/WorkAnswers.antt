@@ -6,9 +6,9 @@ use Rattle.ncq_feed.specs.Feeds.{feed_work}
 use Rattle.ncq_group.specs.Installs.{NamesTheMissing, rows_of_all}
 use Rattle.ncq_plan.specs.declared.expr.Expr.{Expr}
 use Rattle.ncq_plan.specs.Plans.{plan_of}
-use Rattle.ncq_pyx.specs.declared.item.Item.{Item}
 use Rattle.ncq_script.specs.declared.command.Command.TheVariants.{Create, Delta}
-use Rattle.ncq_source.specs.ChangeStates.{ChangeState}
+use Rattle.ncq_source.specs.declared.change.Portion.{Portion}
+use Rattle.ncq_source.specs.declared.change.Section.{Section}
 use Rattle.ncq_source.specs.StoreStates.{StoreState}
 use Rattle.ncq_xmlql.specs.declared.model.Statement.{Statement}
 use Rattle.ncq_engine.specs.Joins.{IsSubscriptionOf}
@@ -21,11 +21,11 @@ use Rattle.ncq_engine.proofs.WorkLaws.{change_steps, create_steps}
 
 module _ {was e : EngineState} (is : was ≡ e) (old new : ℕ) where
   -- the steps of feeding a change that was prepared are within the work of the delta
-  pub change_work : {ready : StoreState} {name : List ℕ} {items : List Item} {change : ChangeState} → IsReserved was name items change ready
-      → new ≤ old + feed_work ready change was.table.files → IsWithinWork e (Delta name items) old new
-  change_work {ready = ready} {name = name} {items = items} {change = change} r cost =
-      subst (λ (x : EngineState). IsWithinWork x (Delta name items) old new) is (λ h stands bound work.
-      change_steps was ready name items change r.here r.alike r.prepares r.good h stands.follows stands.shares (mid_engine was ready) refl bound work old new cost)
+  pub change_work : {ready : StoreState} {changed : List Section} {change : List Portion} → IsReserved was changed change ready
+      → new ≤ old + feed_work ready change was.table.files → IsWithinWork e (Delta changed) old new
+  change_work {ready = ready} {changed = changed} {change = change} r cost =
+      subst (λ (x : EngineState). IsWithinWork x (Delta changed) old new) is (λ h stands bound work.
+      change_steps was ready changed change r.alike r.known r.tried r.prepares h stands.follows stands.shares (mid_engine was ready) refl bound work old new cost)
 
   -- the steps of adding a new subscription are within the work of the create
   pub join_work : (m : Kept) (plan : Expr) → plan ≡ plan_of m.query

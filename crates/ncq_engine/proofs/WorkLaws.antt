@@ -1,21 +1,19 @@
 -- What a command costs is at most its work.
-use Rattle.std.proofs.Common.{◌≡◌, ◌≢◌, ℕ, ◌+◌, ◌≤◌, true, false, cond, List, [], ◌∷◌, length, map, ◌⊎◌, inl, inr, refl, sym, ◌∙◌, ap, subst, arith, true≢false}
-use Rattle.std.specs.Prelude.{Some, None, Ok, slice_get, slice_set}
+use Rattle.std.proofs.Common.{◌≡◌, ◌≢◌, ℕ, zero, suc, ◌+◌, ◌≤◌, true, false, cond, List, [], ◌∷◌, length, map, ◌⊎◌, inl, inr, refl, sym, ◌∙◌, ap, subst, arith, true≢false}
+use Rattle.std.specs.Prelude.{Option, Some, None, Ok, slice_get}
 use Rattle.std.specs.FinMap.{get, entries, entries_sorted, get-entries, find, is_sorted}
 use Rattle.std.specs.FinMap.Entries.{below_all}
-use Rattle.std.specs.List.{AllByRecursion, position}
+use Rattle.std.specs.List.{AllByRecursion}
 use Rattle.std.specs.Ordering.{nat_cmp, is_lt}
 use Rattle.std.specs.Cmp.{unsigned_tied}
-use Rattle.std.specs.Str.{bytes_eq}
 use Rattle.std.proofs.lemmas.Bool.{cases_eq, eq-eqb, ne_eqb}
 use Rattle.ncq_base.specs.Counts.{total_by}
 use Rattle.ncq_base.proofs.CountLaws.{total_by-congr}
 use Rattle.ncq_base.proofs.Tests.{both_true}
 use Rattle.ncq_base.proofs.Totals.{told, not_tied}
 use Rattle.ncq_bind.specs.Bindings.{Binds, roots_in}
-use Rattle.ncq_change.specs.Entries.{of_source, scans_of}
-use Rattle.ncq_change.specs.Stores.{world_in}
-use Rattle.ncq_change.proofs.CommitLaws.{found_name}
+use Rattle.ncq_change.specs.Entries.{scans_of}
+use Rattle.ncq_change.specs.Stores.{entries_in, world_in}
 use Rattle.ncq_feed.specs.Feeds.{delta_by, feed_work, world_after}
 use Rattle.ncq_group.specs.Installs.{NamesTheMissing, rows_of_all}
 use Rattle.ncq_plan.specs.ExprLists.{IsIn}
@@ -25,33 +23,35 @@ use Rattle.ncq_plan.specs.declared.query.NormalQuery.{NormalQuery}
 use Rattle.ncq_plan.specs.Deltas.{delta_of}
 use Rattle.ncq_plan.specs.Exprs.{World}
 use Rattle.ncq_plan.specs.Plans.{plan_of}
-use Rattle.ncq_pyx.specs.declared.item.Item.{Item}
 use Rattle.ncq_live.specs.Shares.{Shares}
 use Rattle.ncq_script.specs.declared.command.Command.TheVariants.{Delta, Create}
 use Rattle.ncq_shelf.specs.KeptFiles.{KeptFile, Files}
 use Rattle.ncq_shelf.specs.Parts.{IsPart, IsPartOfOne}
 use Rattle.ncq_shelf.specs.Stands.{IsGrounded}
 use Rattle.ncq_shelf.proofs.CallerLemmas.{there}
-use Rattle.ncq_source.specs.Changes.{after, prepared}
+use Rattle.ncq_source.specs.Changes.{after}
 use Rattle.ncq_source.specs.Changes.Trial.{Good}
-use Rattle.ncq_source.specs.ChangeStates.{ChangeState}
-use Rattle.ncq_source.specs.Prepared.{IsPrepared}
-use Rattle.ncq_source.specs.Stores.{Source as Declared, Follows as IsChanged}
-use Rattle.ncq_source.specs.StoreStates.{StoreState, At, IsAlike, IsCommitted, found}
-use Rattle.ncq_source.proofs.Folds.{fold_of_entries}
-use Rattle.ncq_engine.specs.History.{History, live, source_in, sources, with_items, world}
+use Rattle.ncq_source.specs.ChangeStates.{entries_at}
+use Rattle.ncq_source.specs.Sections.{are_known, batch_trial}
+use Rattle.ncq_source.specs.Stores.{Source as Declared}
+use Rattle.ncq_source.specs.StoreStates.{ArePortionsOf, FollowsPortion, IsAlike, IsCommitted, StoreState, holdings_of}
+use Rattle.ncq_source.specs.declared.change.Entry.{Entry}
+use Rattle.ncq_source.specs.declared.change.Portion.{Portion}
+use Rattle.ncq_source.specs.declared.change.Section.{Section}
+use Rattle.ncq_engine.specs.History.{History, live, sources, with_sections, world}
 use Rattle.ncq_engine.specs.Languages.{language_of}
-use Rattle.ncq_engine.specs.Output.{delta_refusal, first_refusal, unless_refused}
+use Rattle.ncq_engine.specs.Output.{first_refusal, sections_refusal, unless_refused}
 use Rattle.ncq_engine.specs.Stands.{EngineState, Follows, content_of}
-use Rattle.ncq_engine.specs.Works.{IsWorkUpTo, delta_rows, entries_in, made_rows, prepared_entries}
+use Rattle.ncq_engine.specs.Works.{IsWorkUpTo, delta_rows, entries_for, made_rows}
 use Rattle.ncq_engine.proofs.ChangeAnswers.{mid_engine}
 use Rattle.ncq_engine.proofs.ChangeLaws.{good_allowed}
 use Rattle.ncq_engine.proofs.ClockAnswers.{counted_engine}
 use Rattle.ncq_engine.proofs.CreateAnswers.{IsRead}
 use Rattle.ncq_engine.proofs.CreateLaws.{binds_freely, create_refusal}
-use Rattle.ncq_engine.proofs.InvariantLaws.{name_is, world_alike, world_committed}
+use Rattle.ncq_engine.proofs.InvariantLaws.{world_alike}
+use Rattle.ncq_engine.proofs.Moved.{entries_are, moved, portions_alike, same_holdings, world_committed}
 use Rattle.ncq_engine.proofs.PartLaws.{plans_are}
-use Rattle.ncq_engine.proofs.Places.{is_found, moved_by, same_names}
+use Rattle.ncq_engine.proofs.Places.{room_is_no_content}
 use Rattle.ncq_engine.proofs.Worlds.{world_is}
 use Rattle.ncq_xmlql.specs.declared.model.Statement.{Statement}
 
@@ -126,72 +126,95 @@ work_named files grounded f exprs names =
     let at = all_there files grounded (entries files) sorted (λ number file found. get-entries files number ∙ found) in
     apart_total files grounded f (entries files) exprs sorted at (all_named files grounded exprs names (entries files) at)
 
--- a change that was prepared from a store, and is fed from that store with room
-module _ (e : EngineState) (ready : StoreState) (name : List ℕ) (items : List Item) (change : ChangeState) (here : found e.store name ≡ Some change.source.0) (alike : IsAlike e.store ready)
-    (prepares : At e.store change.source (λ s. IsPrepared s items change.entries))
-    (good : (d : Declared) → slice_get e.store.sources change.source.0 ≡ Some d → prepared d.key 1 d.elements items ≡ Good change.entries) where
-  abbrev own : (d : Declared) × (slice_get e.store.sources change.source.0 ≡ Some d) × (bytes_eq name d.name ≡ true)
-  own = found_name e.store name change.source.0 here
+-- a source as the commit would leave it
+abbrev followed : ℕ → Declared → Option (List Entry) → Declared
+followed number d None = d
+followed number d (Some entries) = record d { elements = after d.elements entries; last = number }
 
-  abbrev roomy : (d : Declared) × (slice_get ready.sources change.source.0 ≡ Some d) × (bytes_eq name d.name ≡ true)
-  roomy = found_name ready name change.source.0 (ap (position (bytes_eq name)) (same_names e.store.sources ready.sources alike.sources) ∙ here)
+followed_is : (number : ℕ) (d : Declared) (o : Option (List Entry)) → FollowsPortion d (followed number d o) o number
+followed_is number d None = refl
+followed_is number d (Some entries) = record { name = refl; root = refl; key = refl; elements = refl; last = refl }
+
+-- the sources as the commit would leave them, the first of them at this place
+abbrev all_followed : ℕ → List Portion → ℕ → List Declared → List Declared
+all_followed number change at [] = []
+all_followed number change at (d ∷ all) = followed number d (entries_at at change) ∷ all_followed number change (suc at) all
+
+as_many_followed : (number : ℕ) (change : List Portion) (at : ℕ) (all : List Declared) → length (all_followed number change at all) ≡ length all
+as_many_followed number change at [] = refl
+as_many_followed number change at (d ∷ all) = ap suc (as_many_followed number change (suc at) all)
+
+followed_at : (number : ℕ) (change : List Portion) (first : ℕ) (all : List Declared) (at : ℕ) (d : Declared) → slice_get all at ≡ Some d
+    → slice_get (all_followed number change first all) at ≡ Some (followed number d (entries_at (first + at) change))
+followed_at number change first [] at d here = absurd cc
+followed_at number change first (x ∷ all) zero d here =
+    let one : x ≡ d = cc in
+    let n : first ≡ first + 0 = omega arith in
+    λ i. Some (followed number (one i) (entries_at (n i) change))
+followed_at number change first (x ∷ all) (suc at) d here =
+    let n : suc first + at ≡ first + suc at = omega arith in
+    followed_at number change (suc first) all at d here ∙ (λ i. Some (followed number d (entries_at (n i) change)))
+
+-- a change that was prepared from a store, and is fed from that store with room
+module _ (e : EngineState) (ready : StoreState) (changed : List Section) (change : List Portion) (alike : IsAlike e.store ready)
+    (known : are_known (holdings_of e.store) changed ≡ true) (tried : batch_trial 1 (holdings_of e.store) changed ≡ Good tt)
+    (prepares : ArePortionsOf e.store changed change) where
+  made : ArePortionsOf ready changed change
+  made = portions_alike e.store ready alike changed change prepares
 
   -- the store as the commit would leave it
-  abbrev changed : Declared → Declared
-  changed d = record d { elements = after d.elements change.entries; last = ready.changes + 1 }
-
   abbrev committed_store : StoreState
-  committed_store = record { sources = slice_set ready.sources change.source.0 (changed roomy.0); changes = ready.changes + 1 }
+  committed_store = record { sources = all_followed (ready.changes + 1) change 0 ready.sources; changes = ready.changes + 1 }
 
   committed : IsCommitted ready change committed_store
   committed = record {
     changes = refl;
-    sources = λ d at.
-        let one : Some roomy.0 ≡ Some d = sym roomy.1 ∙ at in
-        let same : roomy.0 ≡ d = cc in
-        (changed roomy.0, refl, subst (λ x. IsChanged x (changed roomy.0) change.entries (ready.changes + 1)) same (record { name = refl; root = refl; key = refl; elements = refl; last = refl }));
+    sources = record {
+      count = as_many_followed (ready.changes + 1) change 0 ready.sources;
+      each = λ at d here.
+          let n : 0 + at ≡ at = omega arith in
+          (followed (ready.changes + 1) d (entries_at at change), followed_at (ready.changes + 1) change 0 ready.sources at d here ∙ (λ i. Some (followed (ready.changes + 1) d (entries_at (n i) change))), followed_is (ready.changes + 1) d (entries_at at change));
+    };
   }
 
   module _ (h : History) (s : Follows e h) where
-    source_is : source_in name (sources h) ≡ Some (content_of own.0)
-    source_is = ap (source_in name) (sym s.sources) ∙ is_found name e.store.sources change.source.0 own.0 here own.1
+    ready_sources : map content_of ready.sources ≡ sources h
+    ready_sources = room_is_no_content e.store.sources ready.sources alike.sources ∙ s.sources
 
-    allowed : first_refusal (language_of e.labels) h (Delta name items) ≡ None
-    allowed = ap (delta_refusal items) source_is ∙ good_allowed own.0 items change.entries (good own.0 own.1)
+    allowed : first_refusal (language_of e.labels) h (Delta changed) ≡ None
+    allowed =
+        ap (sections_refusal changed) (same_holdings e.store (sources h) s.sources)
+        ∙ good_allowed changed (holdings_of e.store) known tried
 
     world_before : world_in ready ≡ world (sources h)
     world_before = world_alike e.store ready alike.sources ∙ sym (world_is e.store (sources h) s.sources)
 
-    sources_after : map content_of committed_store.sources ≡ sources (Delta name items ∷ h)
-    sources_after =
-        moved_by name items e.store.sources ready.sources committed_store.sources change.source.0 own.0 change.entries committed_store.changes here own.1 alike.sources committed.sources
-        (fold_of_entries own.0.key 1 own.0.elements items change.entries (good own.0 own.1)).0
-        ∙ ap (with_items name items) s.sources
+    world_behind : world_after ready change ≡ world (with_sections changed (sources h))
+    world_behind =
+        world_committed ready changed change made committed_store committed
+        ∙ sym (world_is committed_store (with_sections changed (sources h)) (moved ready changed change made committed_store committed ∙ ap (with_sections changed) ready_sources))
 
-    world_behind : world_after ready change ≡ world (sources (Delta name items ∷ h))
-    world_behind = world_committed e.store ready name items change here alike prepares committed_store committed ∙ sym (world_is committed_store (sources (Delta name items ∷ h)) sources_after)
-
-    entries_are : change.entries ≡ entries_in items (source_in name (sources h))
-    entries_are = sym (ap (entries_in items) source_is ∙ ap prepared_entries (good own.0 own.1))
+    entries_same : entries_in ready change ≡ entries_for changed (sources h)
+    entries_same = entries_are ready changed change made (sources h) ready_sources
 
     -- what the change makes of an expression is what the delta makes of it
-    delta_is : (expr : Expr) → delta_by ready change expr ≡ delta_rows h name items expr
-    delta_is expr = λ i. delta_of (world_before i) (world_behind i) (scans_of (of_source (name_is e.store ready name items change here alike prepares i) (entries_are i))) expr
+    delta_is : (expr : Expr) → delta_by ready change expr ≡ delta_rows h changed expr
+    delta_is expr = λ i. delta_of (world_before i) (world_behind i) (scans_of (entries_same i)) expr
 
     -- To feed an accepted change to the files costs at most the work of the delta: each file has
     -- the expression of a part of a live subscription's plan.
-    pub change_cost : Shares e.subscriptions e.table → (bound : ℕ) → IsWorkUpTo (language_of e.labels) h (Delta name items) bound → feed_work ready change e.table.files ≤ bound
+    pub change_cost : Shares e.subscriptions e.table → (bound : ℕ) → IsWorkUpTo (language_of e.labels) h (Delta changed) bound → feed_work ready change e.table.files ≤ bound
     change_cost shares bound work =
         let named : feed_work ready change e.table.files ≤ total_by (λ expr. length (delta_by ready change expr)) work.0 =
         work_named e.table.files shares.facts.grounded (λ expr. length (delta_by ready change expr)) work.0 (λ number file at.
         work.1 file.expr (subst (IsPartOfOne file.expr) (plans_are e.labels h (live h) e.subscriptions s.subscriptions) ((shares.kept file.expr).0 (number, record { file = file; at = at; of = refl })))) in
-        let same : total_by (λ expr. length (delta_by ready change expr)) work.0 ≡ made_rows h (Delta name items) work.0 = total_by-congr _ _ (λ expr. ap length (delta_is expr)) work.0 in
-        let is : bound ≡ made_rows h (Delta name items) work.0 = work.2 ∙ (λ i. unless_refused 0 (allowed i) (made_rows h (Delta name items) work.0)) in
+        let same : total_by (λ expr. length (delta_by ready change expr)) work.0 ≡ made_rows h (Delta changed) work.0 = total_by-congr _ _ (λ expr. ap length (delta_is expr)) work.0 in
+        let is : bound ≡ made_rows h (Delta changed) work.0 = work.2 ∙ (λ i. unless_refused 0 (allowed i) (made_rows h (Delta changed) work.0)) in
         omega (arith, named, same, is)
 
     -- The same by the names of the code: the steps that feeding may take, from the store with room
     -- and the files of the counted engine, are within the work of the delta.
-    pub change_steps : Shares e.subscriptions e.table → (inside : EngineState) → inside ≡ mid_engine e ready → (bound : ℕ) → IsWorkUpTo (language_of e.labels) h (Delta name items) bound
+    pub change_steps : Shares e.subscriptions e.table → (inside : EngineState) → inside ≡ mid_engine e ready → (bound : ℕ) → IsWorkUpTo (language_of e.labels) h (Delta changed) bound
         → (old new : ℕ) → new ≤ old + feed_work inside.store change inside.table.files → new ≤ old + bound
     change_steps shares inside is bound work old new steps =
         let few : feed_work inside.store change inside.table.files ≤ bound = subst (λ (x : EngineState). feed_work x.store change x.table.files ≤ bound) (sym is) (change_cost shares bound work) in

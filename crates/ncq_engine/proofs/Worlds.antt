@@ -12,11 +12,11 @@ use Rattle.std.specs.Str.{bytes_eq}
 use Rattle.ncq_tree.specs.declared.model.Element.{Element}
 use Rattle.ncq_source.specs.declared.key.Key.{Key}
 use Rattle.ncq_source.specs.Stores.{Source as Declared}
-use Rattle.ncq_source.specs.StoreStates.{StoreState}
+use Rattle.ncq_source.specs.StoreStates.{StoreState, source_named}
 use Rattle.ncq_bind.specs.Bindings.{roots_in}
-use Rattle.ncq_change.specs.Stores.{source_named, world_in, elements_of as kept_of}
+use Rattle.ncq_change.specs.Stores.{world_in, elements_of as kept_of}
 use Rattle.ncq_script.specs.declared.command.Command.{Command}
-use Rattle.ncq_script.specs.declared.command.Command.TheVariants.{Declare, Delta, Create, Delete, Clock, Report, Malformed}
+use Rattle.ncq_script.specs.declared.command.Command.TheVariants.{Declare, Delta, Batch, Create, Delete, Clock, Report, Malformed}
 use Rattle.ncq_engine.specs.History.{History, Source, changes, elements_of, source_in, sources, up_to, world}
 use Rattle.ncq_engine.specs.Languages.{roots_of}
 use Rattle.ncq_engine.specs.Stands.{content_of}
@@ -104,7 +104,8 @@ new_is_empty name new root key (s ∷ ss) =
 
 whole_now : (command : Command) (before : History) → nat_le (changes (command ∷ before)) (changes before) ≡ true → world (sources (command ∷ before)) ≡ world (sources before)
 whole_now (Declare name root key) before h = λ i. λ asked. new_is_empty asked name root key (sources before) i
-whole_now (Delta name items) before h = absurd (let bad : true ≡ false = grind (arith, nat_tests, h) in true≢false bad)
+whole_now (Delta changed) before h = absurd (let bad : true ≡ false = grind (arith, nat_tests, h) in true≢false bad)
+whole_now (Batch changed) before h = absurd (let bad : true ≡ false = grind (arith, nat_tests, h) in true≢false bad)
 whole_now (Create statement) before h = refl
 whole_now (Delete name) before h = refl
 whole_now (Clock instant) before h = refl

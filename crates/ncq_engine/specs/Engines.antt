@@ -7,10 +7,9 @@ use Rattle.std.specs.Prelude.{Option, Some, None, nat_lt, nat_le, slice_get, ◌
 use Rattle.std.specs.FinMap.{get}
 use Rattle.std.specs.Option.{option_map, unwrap_or}
 use Rattle.std.specs.List.{list_any, AllByRecursion}
-use Rattle.std.specs.Str.{bytes_eq}
 use Rattle.ncq_base.specs.declared.atom.FileId.{FileId}
 use Rattle.ncq_callback.specs.Labels.{Label}
-use Rattle.ncq_change.specs.Stores.{source_named, world_in}
+use Rattle.ncq_change.specs.Stores.{world_in}
 use Rattle.ncq_event.specs.Instants.{due}
 use Rattle.ncq_event.specs.declared.firing.Firing.{Firing}
 use Rattle.ncq_event.specs.declared.timing.Timing.{Timing}
@@ -22,13 +21,14 @@ use Rattle.ncq_shelf.specs.KeptFiles.{KeptFile, Files}
 use Rattle.ncq_shelf.specs.Contents.{Fits}
 use Rattle.ncq_group.specs.Tables.{TableState}
 use Rattle.ncq_live.specs.LiveTables.{plan_in}
-use Rattle.ncq_source.specs.StoreStates.{StoreState}
+use Rattle.ncq_source.specs.StoreStates.{StoreState, source_named}
 use Rattle.ncq_source.specs.Stores.{Source}
 use Rattle.ncq_book.specs.declared.subscription.Subscription.{Subscription as Kept}
 use Rattle.ncq_book.specs.Books.{InstallsRise}
 use Rattle.ncq_news.specs.News.{since_mark, entries_of}
 use Rattle.ncq_xmlql.specs.declared.model.Statement.{Statement}
-use Rattle.ncq_engine.specs.Firing.{sources_of}
+use Rattle.ncq_source.specs.declared.change.Section.{Section}
+use Rattle.ncq_engine.specs.Firing.{are_named, sources_of}
 use Rattle.ncq_engine.specs.Notices.{rendered}
 
 -- the number of the last change of the source of this name, 0 where it never changed or is not
@@ -66,10 +66,10 @@ notice_text labels store files m instant =
     rendered (option_map (λ label. label.1) (slice_get labels m.action)) m.argument m.name instant
     (entries_of m.query (news_of store files m))
 
--- whether it fires at a change of this source now
-abbrev pub is_told_change : List ℕ → ℕ → Kept → Bool
-is_told_change source now m =
-    m.timing.every == 0 && nat_le m.timing.start now && list_any (bytes_eq source) m.sources
+-- whether it fires at a change of these sections now
+abbrev pub is_told_change : List Section → ℕ → Kept → Bool
+is_told_change changed now m =
+    m.timing.every == 0 && nat_le m.timing.start now && are_named changed m.sources
 
 -- whether a source of it has a change above this number, or there is no number
 abbrev pub has_news_in : StoreState → Option ℕ → List (List ℕ) → Bool

@@ -2,14 +2,15 @@
 use Rattle.std.specs.Prelude.{ℕ, ◌+◌, Bool, true, ◌==◌, ◌&&◌, nat_le, nat_lt, if◌then◌else◌}
 use Rattle.std.specs.Prelude.{List, [], ◌∷◌, Option, Some, None}
 use Rattle.std.specs.List.{flat_map, list_any}
-use Rattle.std.specs.Str.{bytes_eq}
 use Rattle.ncq_xmlql.specs.declared.model.QueryItem.{QueryItem}
 use Rattle.ncq_xmlql.specs.declared.model.QueryItem.TheVariants.{Match, Condition}
 use Rattle.ncq_xmlql.specs.declared.model.Statement.{Statement}
 use Rattle.ncq_script.specs.declared.command.Command.{Command}
-use Rattle.ncq_script.specs.declared.command.Command.TheVariants.{Delta, Create}
+use Rattle.ncq_script.specs.declared.command.Command.TheVariants.{Delta, Batch, Create}
 use Rattle.ncq_script.specs.declared.command.Command.TheVariants.{Clock}
 use Rattle.ncq_event.specs.Instants.{due}
+use Rattle.ncq_source.specs.Sections.{is_named}
+use Rattle.ncq_source.specs.declared.change.Section.{Section}
 use Rattle.ncq_engine.specs.History.{History, now, changes, creates, last_change, Subscription}
 use Rattle.ncq_engine.specs.History.{timing_of}
 
@@ -34,10 +35,14 @@ has_news None statement before = true
 has_news (Some number) statement before
     = list_any (λ source. nat_lt number (last_change source before)) (sources_of statement)
 
--- whether it is change-based, about this source, and has started
-abbrev pub is_told_of : List ℕ → Subscription → History → Bool
-is_told_of source s before = s.statement.every == 0
-    && list_any (bytes_eq source) (sources_of s.statement) && nat_le s.start (now before)
+-- whether one of the sources is named by the sections
+abbrev pub are_named : List Section → List (List ℕ) → Bool
+are_named changed sources = list_any (λ source. is_named source changed) sources
+
+-- whether it is change-based, about a source that the sections name, and has started
+abbrev pub is_told_of : List Section → Subscription → History → Bool
+is_told_of changed s before = s.statement.every == 0
+    && are_named changed (sources_of s.statement) && nat_le s.start (now before)
 
 -- the instant at which a live subscription with this mark fires, where the command is accepted
 -- after the history: at its create where its start is now; at a delta of one of its sources where
@@ -46,8 +51,10 @@ is_told_of source s before = s.statement.every == 0
 abbrev pub fires_at : Option ℕ → Subscription → History → Command → Option ℕ
 fires_at mark s before (Create statement) = if is_new s before
     && s.start == now before then Some (now before) else None
-fires_at mark s before (Delta source items) = if is_installed s before
-    && is_told_of source s before then Some (now before) else None
+fires_at mark s before (Delta changed) = if is_installed s before
+    && is_told_of changed s before then Some (now before) else None
+fires_at mark s before (Batch changed) = if is_installed s before
+    && is_told_of changed s before then Some (now before) else None
 fires_at mark s before (Clock instant) = if is_installed s before
     && has_news mark s.statement before then due (timing_of s) (now before) instant else None
 fires_at mark s before command = None

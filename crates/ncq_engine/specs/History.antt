@@ -1,19 +1,22 @@
 -- A history is the list of the accepted commands, the newest first; and what stands after it.
 use Rattle.std.specs.Prelude.{ℕ, ◌+◌, max, Bool, true, false, not, nat_le, if◌then◌else◌, List, []}
 use Rattle.std.specs.Prelude.{◌∷◌, ◌++◌, map, Option, Some, None}
+use Rattle.std.specs.Option.{is_some}
 use Rattle.std.specs.FinMap.{empty, entries}
 use Rattle.std.specs.List.{filter}
 use Rattle.ncq_base.specs.Keys.{times}
 use Rattle.std.specs.Str.{bytes_eq}
 use Rattle.ncq_tree.specs.declared.model.Element.{Element}
-use Rattle.ncq_pyx.specs.declared.item.Item.{Item}
 use Rattle.ncq_source.specs.declared.key.Key.{Key}
+use Rattle.ncq_pyx.specs.declared.item.Item.{Item}
 use Rattle.ncq_source.specs.Held.{Kept}
 use Rattle.ncq_source.specs.Changes.{store_after}
+use Rattle.ncq_source.specs.Sections as sections
+use Rattle.ncq_source.specs.declared.change.Section.{Section}
 use Rattle.ncq_xmlql.specs.declared.model.Statement.{Statement}
 use Rattle.ncq_script.specs.declared.command.Command.{Command}
-use Rattle.ncq_script.specs.declared.command.Command.TheVariants.{Declare, Delta, Create, Delete}
-use Rattle.ncq_script.specs.declared.command.Command.TheVariants.{Clock}
+use Rattle.ncq_script.specs.declared.command.Command.TheVariants.{Declare, Delta, Batch}
+use Rattle.ncq_script.specs.declared.command.Command.TheVariants.{Create, Delete, Clock}
 use Rattle.ncq_plan.specs.Exprs.{World}
 use Rattle.ncq_event.specs.declared.timing.Timing.{Timing}
 use Rattle.ncq_event.specs.Instants.{is_expired}
@@ -31,15 +34,21 @@ abbrev pub now : History → ℕ
 now [] = 0
 now (command ∷ before) = moved command (now before)
 
+-- what a change asks of the sources: a delta is a batch of one section
+abbrev pub sections_of : Command → Option (List Section)
+sections_of (Delta sections) = Some sections
+sections_of (Batch sections) = Some sections
+sections_of command = None
+
+-- whether it is a change: a delta or a batch
 abbrev pub is_delta : Command → Bool
-is_delta (Delta source items) = true
-is_delta command = false
+is_delta command = is_some (sections_of command)
 
 abbrev pub is_create : Command → Bool
 is_create (Create statement) = true
 is_create command = false
 
--- how many deltas were accepted
+-- how many deltas and batches were accepted
 abbrev pub changes : History → ℕ
 changes history = times is_delta history
 
@@ -47,9 +56,13 @@ changes history = times is_delta history
 abbrev pub creates : History → ℕ
 creates history = times is_create history
 
+-- whether the sections of a change name the source
+abbrev pub name_it : List ℕ → Option (List Section) → Bool
+name_it name None = false
+name_it name (Some changed) = sections.is_named name changed
+
 abbrev pub is_delta_of : List ℕ → Command → Bool
-is_delta_of name (Delta source items) = bytes_eq name source
-is_delta_of name command = false
+is_delta_of name command = name_it name (sections_of command)
 
 -- the number of the last change of the source of this name, 0 where it never changed
 abbrev pub last_change : List ℕ → History → ℕ
@@ -72,11 +85,18 @@ with_items name items (source ∷ more) =
     then record source { elements = store_after source.key source.elements items } ∷ more
     else source ∷ with_items name items more
 
+-- the sources with the sections applied, one after the other
+abbrev pub with_sections : List Section → List Source → List Source
+with_sections [] sources = sources
+with_sections (section ∷ more) sources =
+    with_sections more (with_items section.source section.items sources)
+
 -- the sources behind a command
 abbrev pub sources_after : Command → List Source → List Source
 sources_after (Declare name root key) sources = sources
     ++ record { name = name; root = root; key = key; elements = empty } ∷ []
-sources_after (Delta name items) sources = with_items name items sources
+sources_after (Delta changed) sources = with_sections changed sources
+sources_after (Batch changed) sources = with_sections changed sources
 sources_after command sources = sources
 
 -- the declared sources, in the order in which they were declared

@@ -1,20 +1,22 @@
 -- What is written for commands: the answer of each in turn.
 use Rattle.std.specs.Prelude.{ℕ, ◌+◌, Bool, true, false, not, nat_lt, List, []}
 use Rattle.std.specs.Prelude.{◌∷◌, ◌++◌, codes, Option, Some, None, decimal}
-use Rattle.std.specs.Option.{is_some, is_none, option_and_then, option_or}
+use Rattle.std.specs.Option.{is_some, is_none, option_and_then, option_map, option_or}
 use Rattle.std.specs.List.{flat_map, filter, list_any}
 use Rattle.ncq_callback.specs.declared.notice.Kind.{Kind}
 use Rattle.ncq_callback.specs.declared.notice.Kind.TheVariants.{Print, Count, MailTo}
-use Rattle.ncq_source.specs.Faults.{first_fault}
+use Rattle.ncq_source.specs.Faults.{sections_fault}
+use Rattle.ncq_source.specs.Sections.{Holding, Holdings}
 use Rattle.ncq_source.specs.declared.change.ChangeError.{ChangeError}
 use Rattle.ncq_source.specs.declared.change.ChangeError.TheVariants as change
-use Rattle.ncq_pyx.specs.declared.item.Item.{Item}
+use Rattle.ncq_source.specs.declared.change.Section.{Section}
 use Rattle.ncq_xmlql.specs.declared.model.Statement.{Statement}
 use Rattle.ncq_script.specs.Refusals.{refused_text}
 use Rattle.ncq_script.specs.declared.refusal.Refusal.{Refusal}
 use Rattle.ncq_script.specs.declared.refusal.Refusal.TheVariants as refusal
 use Rattle.ncq_script.specs.declared.command.Command.{Command}
-use Rattle.ncq_script.specs.declared.command.Command.TheVariants.{Declare, Delta, Create, Delete}
+use Rattle.ncq_script.specs.declared.command.Command.TheVariants.{Declare, Delta, Batch}
+use Rattle.ncq_script.specs.declared.command.Command.TheVariants.{Create, Delete}
 use Rattle.ncq_script.specs.declared.command.Command.TheVariants.{Clock, Report, Malformed}
 use Rattle.ncq_event.specs.Instants.{is_past, is_expired}
 use Rattle.ncq_engine.specs.History.{History, Source, now, sources, source_in}
@@ -39,11 +41,18 @@ change_refusal (change.BadKey position) = Some (refusal.Key position)
 change_refusal (change.NoSuchKey position) = Some (refusal.NoKey position)
 change_refusal change.OutOfMemory = None
 
--- the refusal of a delta of this source: the first item that cannot be applied decides
-abbrev pub delta_refusal : List Item → Option Source → Option Refusal
-delta_refusal items None = Some refusal.NoSource
-delta_refusal items (Some source) =
-    option_and_then change_refusal (first_fault source.key 1 source.elements items)
+-- what sections are tried on: the declared sources by their names
+abbrev pub holding_in : Source → Holding
+holding_in source = record { rule = source.key; elements = source.elements }
+
+abbrev pub holdings_in : List Source → Holdings
+holdings_in sources name = option_map holding_in (source_in name sources)
+
+-- the refusal of a change of these sections: one of them names no source, else the first item that
+-- cannot be applied decides
+abbrev pub sections_refusal : List Section → Holdings → Option Refusal
+sections_refusal changed holdings =
+    option_and_then change_refusal (sections_fault holdings changed)
 
 -- whether the kind is at odds with the argument: `mailto` needs one, `print` and `count` have none
 abbrev pub is_at_odds : Option Kind → Option (List ℕ) → Bool
@@ -86,7 +95,8 @@ module _ (language : Language) where
   abbrev pub first_refusal : History → Command → Option Refusal
   first_refusal history (Declare name root key)
       = refused_if (is_some (source_in name (sources history))) refusal.SourceExists
-  first_refusal history (Delta name items) = delta_refusal items (source_in name (sources history))
+  first_refusal history (Delta changed) = sections_refusal changed (holdings_in (sources history))
+  first_refusal history (Batch changed) = sections_refusal changed (holdings_in (sources history))
   first_refusal history (Create statement) =
       option_or (refused_if (is_taken statement.name history) refusal.NameTaken)
       (option_or (language.binding statement.query (sources history))

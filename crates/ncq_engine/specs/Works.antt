@@ -1,7 +1,7 @@
 -- What a command costs: the rows that it makes, each expression of the live queries counted once.
 use Rattle.std.specs.Prelude.{◌≡◌, ◌+◌, ◌≤◌, ℕ, List, [], ◌∷◌, length, Option, Some, None}
 use Rattle.ncq_base.specs.Counts.{total_by}
-use Rattle.ncq_change.specs.Entries.{of_source, scans_of}
+use Rattle.ncq_change.specs.Entries.{scans_of}
 use Rattle.ncq_plan.specs.ExprLists.{IsIn}
 use Rattle.ncq_plan.specs.declared.expr.Expr.{Expr}
 use Rattle.ncq_plan.specs.Deltas.{delta_of}
@@ -9,12 +9,15 @@ use Rattle.ncq_plan.specs.Exprs.{rows_in}
 use Rattle.ncq_plan.specs.Totals.{SignedRow}
 use Rattle.ncq_pyx.specs.declared.item.Item.{Item}
 use Rattle.ncq_script.specs.declared.command.Command.{Command}
-use Rattle.ncq_script.specs.declared.command.Command.TheVariants.{Delta, Create}
+use Rattle.ncq_script.specs.declared.command.Command.TheVariants.{Delta, Batch, Create}
 use Rattle.ncq_shelf.specs.Parts.{IsPart, IsPartOfOne}
+use Rattle.ncq_source.specs.Sections.{items_for}
+use Rattle.ncq_source.specs.declared.change.Section.{Section}
 use Rattle.ncq_source.specs.Changes.{Trial, prepared}
 use Rattle.ncq_source.specs.Changes.Trial.{Good}
 use Rattle.ncq_source.specs.declared.change.Entry.{Entry}
-use Rattle.ncq_engine.specs.History.{History, Source, created, source_in, sources, world}
+use Rattle.ncq_engine.specs.History.{History, Source, created, source_in, sources, with_sections}
+use Rattle.ncq_engine.specs.History.{world}
 use Rattle.ncq_engine.specs.Applies.{OfEach}
 use Rattle.ncq_engine.specs.Languages.{language_of}
 use Rattle.ncq_engine.specs.Notices.{Language}
@@ -32,17 +35,21 @@ abbrev pub entries_in : List Item → Option Source → List Entry
 entries_in items None = []
 entries_in items (Some source) = prepared_entries (prepared source.key 1 source.elements items)
 
--- the signed rows that a delta makes of an expression
-abbrev pub delta_rows : History → List ℕ → List Item → Expr → List SignedRow
-delta_rows history source items expr =
-    delta_of (world (sources history)) (world (sources (Delta source items ∷ history)))
-    (scans_of (of_source source (entries_in items (source_in source (sources history))))) expr
+-- what the sections do to the source of a name
+abbrev pub entries_for : List Section → List Source → List ℕ → List Entry
+entries_for changed sources name = entries_in (items_for name changed) (source_in name sources)
 
--- the expressions for which an accepted command makes rows: for a delta the parts of the live
+-- the signed rows that a change makes of an expression
+abbrev pub delta_rows : History → List Section → Expr → List SignedRow
+delta_rows history changed expr =
+    delta_of (world (sources history)) (world (with_sections changed (sources history)))
+    (scans_of (entries_for changed (sources history))) expr
+
+-- the expressions for which an accepted command makes rows: for a change the parts of the live
 -- plans; for a create those of its plan that no live plan has
 abbrev pub IsMade : Language → History → Command → Expr → Type 0
-IsMade language history (Delta source items) expr =
-    IsPartOfOne expr (live_plans language history)
+IsMade language history (Delta changed) expr = IsPartOfOne expr (live_plans language history)
+IsMade language history (Batch changed) expr = IsPartOfOne expr (live_plans language history)
 IsMade language history (Create statement) expr =
     IsPart expr (plan_for language (created statement history))
     × (IsPartOfOne expr (live_plans language history) → ⊥)
@@ -50,8 +57,10 @@ IsMade language history command expr = ⊥
 
 -- the rows that an accepted command makes for these expressions
 abbrev pub made_rows : History → Command → List Expr → ℕ
-made_rows history (Delta source items) exprs =
-    total_by (λ expr. length (delta_rows history source items expr)) exprs
+made_rows history (Delta changed) exprs =
+    total_by (λ expr. length (delta_rows history changed expr)) exprs
+made_rows history (Batch changed) exprs =
+    total_by (λ expr. length (delta_rows history changed expr)) exprs
 made_rows history (Create statement) exprs =
     total_by (λ expr. length (rows_in expr (world (sources history)))) exprs
 made_rows history command exprs = 0

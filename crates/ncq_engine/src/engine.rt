@@ -23,8 +23,8 @@ ghost use Rattle.ncq_engine.specs.Languages.{language_of};
 ghost use Rattle.ncq_engine.specs.Notices.{kind_in, name_at};
 ghost use Rattle.ncq_engine.specs.Output.{is_at_odds, first_refusal, accepted_text};
 ghost use Rattle.ncq_plan.specs.WellFormed.{IsWellFormed};
-ghost use Rattle.ncq_pyx.specs.Items.{item_is_proper};
 ghost use Rattle.ncq_script.specs.Proper.{IsProperCommand};
+ghost use Rattle.ncq_source.specs.Proper.{puts_proper};
 ghost use Rattle.ncq_source.specs.StoreStates.{found, IsDeclared};
 ghost use Rattle.ncq_xmlql.specs.declared.model.Statement.{Statement as a_statement};
 ghost use Rattle.ncq_xmlql.specs.WellFormed.{IsWellFormed as StatementIsWellFormed};
@@ -40,10 +40,9 @@ use ncq_callback::{Handlers, Kind};
 use ncq_event::{Timing, is_expired};
 use ncq_live::LiveTable;
 use ncq_plan::{NormalQuery, plan};
-use ncq_pyx::Items;
 use ncq_report::{Summary, write_report};
 use ncq_script::{Command, Refusal};
-use ncq_source::{ChangeError, DeclareError, Key, Store};
+use ncq_source::{ChangeError, DeclareError, Key, Sections, Store};
 use ncq_xmlql::{QueryItem, Statement};
 use std::alloc::{AllocError, Global};
 use std::hash::RandomState;
@@ -304,9 +303,8 @@ impl Engine {
     {
         match command {
             Command::Declare { name, root, key } => self.declare(alloc, name, root, key, out),
-            Command::Delta { source, items } => {
-                self.change(alloc, source, items, handlers, out, steps)
-            }
+            Command::Delta { sections } => self.change(alloc, sections, handlers, out, steps),
+            Command::Batch { sections } => self.change(alloc, sections, handlers, out, steps),
             Command::Create { statement } => self.create(alloc, statement, handlers, out, steps),
             Command::Delete { name } => self.delete(alloc, name, out),
             Command::Clock { instant } => self.move_clock(alloc, *instant, handlers, out),
@@ -347,27 +345,25 @@ impl Engine {
         }
     }
 
-    /// Changes a source, and tells those that ask it.
+    /// Changes sources, and tells those that ask one of them.
     fn change<L: Ledger>(
         &mut self,
         alloc: Global,
-        source: &Bytes,
-        items: &Items,
+        sections: &Sections,
         handlers: &Handlers,
         out: &mut Vec<u8>,
         steps: &mut Steps<L>,
     ) -> Result<Answered, ApplyError>
         requires few { self.old.count < 2 ^ 48 }
-        requires proper { list_all item_is_proper items.now ≡ true }
+        requires proper { list_all puts_proper sections.now ≡ true }
         requires handlers { self.old.labels
             ≡ (labels handlers.now.items.items (λ h. h.name) (λ h. h.kind)) }
-        ensures applies { Applies self.old (Command.Delta source.now items.now)
+        ensures applies { Applies self.old (Command.Delta sections.now)
             out.old.items result self.new out.new.items }
         ensures labels { self.new.labels ≡ self.old.labels }
-        ensures work { IsWithinWork self.old (Command.Delta source.now items.now) steps.old
-            steps.new }
+        ensures work { IsWithinWork self.old (Command.Delta sections.now) steps.old steps.new }
     {
-        let change = match self.store.prepare(alloc, source.as_slice(), items) {
+        let change = match self.store.prepare(alloc, sections) {
             Ok(change) => change,
             Err(error) => return self.refuse_change(error),
         };

@@ -1,14 +1,17 @@
 //! Laws of histories: each function's contract is the law, and it does nothing.
-ghost use Rattle.std.specs.Prelude.{◌≡◌, ◌↔◌, ℕ, List, []};
+ghost use Rattle.std.specs.Prelude.{◌≡◌, ◌↔◌, ◌++◌, ◌∷◌, ℕ, List, []};
 ghost use Rattle.ncq_plan.specs.declared.expr.Expr.{Expr};
 ghost use Rattle.ncq_plan.specs.ExprLists.{AreApart, IsIn};
 ghost use Rattle.ncq_script.specs.declared.command.Command.{Command};
+ghost use Rattle.ncq_script.specs.declared.command.Command.TheVariants.{Batch, Delta};
 ghost use Rattle.ncq_shelf.specs.Parts.{IsPartOfOne};
+ghost use Rattle.ncq_source.specs.declared.change.Section.{Section};
 ghost use Rattle.ncq_engine.specs.Alone.{notes, only};
-ghost use Rattle.ncq_engine.specs.Firing.{mark};
-ghost use Rattle.ncq_engine.specs.History.{History, Subscription};
+ghost use Rattle.ncq_engine.specs.Firing.{fires, mark};
+ghost use Rattle.ncq_engine.specs.History.{History, Subscription, sources};
 ghost use Rattle.ncq_engine.specs.Marks.{IsRising, mark_from, noted};
 ghost use Rattle.ncq_engine.specs.Notices.{Language};
+ghost use Rattle.ncq_engine.specs.Output.{output};
 ghost use Rattle.ncq_engine.specs.Reports.{closure, live_plans};
 
 /// The notices of one name are what they are without the creates and deletes of all others.
@@ -22,6 +25,19 @@ pub fn subscribers_are_apart()
 pub fn marks_follow()
     ensures { (s : Subscription) (history : History) → IsRising history
         → mark s history ≡ mark_from (noted s history) s history }
+{}
+
+/// A batch fires the same subscriptions as a delta of its sections and gets the same answer, and it
+/// leaves the sources as its sections do, taken one after the other.
+pub fn batches_are_deltas()
+    ensures alike { (s : Subscription) (before : History) (changed : List Section)
+        → fires s before (Batch changed) ≡ fires s before (Delta changed) }
+    ensures written { (language : Language) (history : History) (number : ℕ)
+        (changed : List Section) → output language history number (Batch changed)
+        ≡ output language history number (Delta changed) }
+    ensures parts { (history : History) (first second : List Section)
+        → sources (Batch (first ++ second) ∷ history)
+        ≡ sources (Delta second ∷ Delta first ∷ history) }
 {}
 
 /// The closure of a history has each part of a live plan, no other expression, and none twice.

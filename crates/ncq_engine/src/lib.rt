@@ -20,5 +20,5 @@ mod telling;
 mod who;
 
 pub use engine::{Applied, ApplyError, Engine};
-pub use laws::{closures_are_the_parts, marks_follow, subscribers_are_apart};
+pub use laws::{batches_are_deltas, closures_are_the_parts, marks_follow, subscribers_are_apart};
 pub use span::{Span, Spans};

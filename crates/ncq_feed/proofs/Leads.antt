@@ -1,29 +1,20 @@
 -- A prepared change leads each expression from its rows in the store to those after it.
-use Rattle.std.proofs.Common.{subst, sym}
-use Rattle.std.specs.Prelude.{slice_get}
-use Rattle.std.specs.Option.{option_and_then}
+use Rattle.std.proofs.Common.{List, refl}
 use Rattle.ncq_plan.specs.declared.expr.Expr.{Expr}
 use Rattle.ncq_plan.specs.Exprs.{rows_in}
 use Rattle.ncq_plan.specs.Totals.{LeadsTo}
 use Rattle.ncq_plan.proofs.ExprLaws.{deltas_lead}
-use Rattle.ncq_source.specs.ChangeStates.{ChangeState}
 use Rattle.ncq_source.specs.StoreStates.{StoreState}
-use Rattle.ncq_source.specs.Changes.{Chains}
-use Rattle.ncq_change.specs.Entries.{scans_of, of_source, after_in}
-use Rattle.ncq_change.specs.Stores.{elements_of, kept_in, world_in}
-use Rattle.ncq_change.proofs.CallerLemmas.{one_source_changes, entries_lead, found_name}
-use Rattle.ncq_feed.specs.Feeds.{IsPreparedFrom, delta_by, name_at, world_after}
+use Rattle.ncq_source.specs.Changes as changes
+use Rattle.ncq_source.specs.declared.change.Portion.{Portion}
+use Rattle.ncq_change.specs.Entries.{scans_of}
+use Rattle.ncq_change.specs.Stores.{entries_in, kept_in, world_in}
+use Rattle.ncq_change.proofs.CallerLemmas.{entries_lead}
+use Rattle.ncq_feed.specs.Feeds.{IsPreparedFrom, delta_by, world_after}
 
-module _ (store : StoreState) (change : ChangeState) (prepared : IsPreparedFrom store change) where
-  chains_in : Chains (kept_in store (name_at store change.source)) change.entries
-  chains_in =
-      let own = found_name store (name_at store change.source) change.source.0 prepared.source in
-      subst (λ o. Chains (elements_of (option_and_then (slice_get store.sources) o)) change.entries) (sym prepared.source)
-      (subst (λ o. Chains (elements_of o) change.entries) (sym own.1) (prepared.chains own.0 own.1))
-
+module _ (store : StoreState) (change : List Portion) (prepared : IsPreparedFrom store change) where
   pub leads : (expr : Expr) → LeadsTo (rows_in expr (world_in store)) (delta_by store change expr) (rows_in expr (world_after store change))
   leads expr =
-      let name = name_at store change.source in
-      deltas_lead (world_in store) (world_after store change) (scans_of (of_source name change.entries))
-      (entries_lead (kept_in store) (after_in (kept_in store) name change.entries) (of_source name change.entries)
-      (one_source_changes (kept_in store) name change.entries chains_in)) expr
+      deltas_lead (world_in store) (world_after store change) (scans_of (entries_in store change))
+      (entries_lead (kept_in store) (λ name. changes.after (kept_in store name) (entries_in store change name)) (entries_in store change)
+      (record { chains = prepared.chains; ends = λ name. refl })) expr

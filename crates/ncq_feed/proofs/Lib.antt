@@ -12,6 +12,8 @@ pub mod PendingLaws
 pub mod ParcelLaws
 pub mod JoinLaws
 pub mod ScanLaws
+pub mod PortionLaws
 pub mod FeedLaws
 pub mod SumLaws
 pub mod CountLaws
+pub mod CallerLemmas

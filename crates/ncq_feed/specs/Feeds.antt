@@ -6,16 +6,18 @@ use Rattle.std.specs.FinMap.{get, entries}
 use Rattle.ncq_base.specs.Counts.{total_by}
 use Rattle.ncq_source.specs.Stores.{Source}
 use Rattle.ncq_source.specs.Changes.{Chains}
-use Rattle.ncq_source.specs.ChangeStates.{ChangeState}
-use Rattle.ncq_source.specs.StoreStates.{StoreState, found, At}
+use Rattle.ncq_source.specs.Changes as changes
+use Rattle.ncq_source.specs.ChangeStates.{AreRising}
+use Rattle.ncq_source.specs.StoreStates.{StoreState, found}
+use Rattle.ncq_source.specs.declared.change.Portion.{Portion}
 use Rattle.ncq_source.specs.declared.change.SourceId.{SourceId}
 use Rattle.ncq_plan.specs.declared.expr.Expr.{Expr}
 use Rattle.ncq_plan.specs.Exprs.{World}
 use Rattle.ncq_plan.specs.Deltas.{delta_of}
 use Rattle.ncq_plan.specs.Totals.{SameChanges}
 use Rattle.ncq_plan.specs.Totals.{SignedRow as PlainRow}
-use Rattle.ncq_change.specs.Entries.{scans_of, world_of, of_source, after_in}
-use Rattle.ncq_change.specs.Stores.{kept_in, world_in}
+use Rattle.ncq_change.specs.Entries.{scans_of, world_of}
+use Rattle.ncq_change.specs.Stores.{entries_in, kept_in, world_in}
 use Rattle.ncq_midfile.specs.declared.signed.SignedRow.{SignedRow}
 use Rattle.ncq_midfile.specs.Content.{since}
 use Rattle.ncq_delta.specs.Leads.{unnumbered}
@@ -32,21 +34,26 @@ name_in (Some source) = source.name
 abbrev pub name_at : StoreState → SourceId → List ℕ
 name_at store id = name_in (slice_get store.sources id.0)
 
--- the change is one of a source that is found by its name, and its entries say what their keys held
-pub record IsPreparedFrom (store : StoreState) (change : ChangeState) : Type 0 where
-  pub source : found store (name_at store change.source) ≡ Some change.source.0
-  pub chains : At store change.source (λ source. Chains source.elements change.entries)
+-- each source of the change is found by its name
+abbrev pub IsNamed : StoreState → Portion → Type 0
+IsNamed store portion = found store (name_at store portion.source) ≡ Some portion.source.0
+
+-- the sources of the change rise, each is found by its name, and the entries say what their keys
+-- held
+pub record IsPreparedFrom (store : StoreState) (change : List Portion) : Type 0 where
+  pub rising : AreRising change
+  pub named : AllByRecursion (IsNamed store) change
+  pub chains : (name : List ℕ) → Chains (kept_in store name) (entries_in store change name)
 
 -- the elements of each source after the change
-abbrev pub world_after : StoreState → ChangeState → World
+abbrev pub world_after : StoreState → List Portion → World
 world_after store change =
-    world_of (after_in (kept_in store) (name_at store change.source) change.entries)
+    world_of (λ name. changes.after (kept_in store name) (entries_in store change name))
 
 -- the signed rows that the change makes of an expression
-abbrev pub delta_by : StoreState → ChangeState → Expr → List PlainRow
+abbrev pub delta_by : StoreState → List Portion → Expr → List PlainRow
 delta_by store change expr =
-    delta_of (world_in store) (world_after store change)
-    (scans_of (of_source (name_at store change.source) change.entries)) expr
+    delta_of (world_in store) (world_after store change) (scans_of (entries_in store change)) expr
 
 -- the files stand for the sources at a change: each has the rows of its expression over the world,
 -- and none of a later change
@@ -66,7 +73,7 @@ pub record IsFedFile (number : ℕ) (delta : List PlainRow) (old new : KeptFile)
   pub rows : SameChanges (unnumbered news) delta
 
 -- each file has the signed rows that the change makes of its expression, and no file came or went
-pub record AreFed (store : StoreState) (change : ChangeState) (old new : Files) : Type 0 where
+pub record AreFed (store : StoreState) (change : List Portion) (old new : Files) : Type 0 where
   pub each : EachFile old (λ number file. (fed : KeptFile) × (get new number ≡ Some fed)
       × IsFedFile (store.changes + 1) (delta_by store change file.expr) file fed)
   pub no_other : (number : ℕ) → get old number ≡ None → get new number ≡ None
@@ -78,6 +85,6 @@ NamesTheFed now files numbers =
     list_any (nat_eq number) numbers ≡ false → since now file.content.rows ≡ [])
 
 -- the signed rows that the change makes of the expressions of all files, together
-abbrev pub feed_work : StoreState → ChangeState → Files → ℕ
+abbrev pub feed_work : StoreState → List Portion → Files → ℕ
 feed_work store change files =
     total_by (λ entry. length (delta_by store change entry.1.expr)) (entries files)

@@ -6,7 +6,7 @@ use Rattle.std.specs.Option.{option_map}
 use Rattle.std.specs.FinMap.{get}
 use Rattle.ncq_row.specs.declared.shape.Shape.{Shape}
 use Rattle.ncq_row.specs.Embeddings.{Row}
-use Rattle.ncq_source.specs.ChangeStates.{ChangeState}
+use Rattle.ncq_source.specs.declared.change.Portion.{Portion}
 use Rattle.ncq_source.specs.StoreStates.{StoreState}
 use Rattle.ncq_plan.specs.declared.expr.Expr.TheVariants.{Scan}
 use Rattle.ncq_plan.specs.Exprs.{expr_width}
@@ -26,7 +26,7 @@ use Rattle.ncq_feed.specs.Passing.{Wiring, IsPassedTo}
 -- a prepared change, the store from which it was prepared, and the files before it
 pub record Run : Type 0 where
   pub store : StoreState
-  pub change : ChangeState
+  pub change : List Portion
   pub files : Files
 
 -- what the caller knew

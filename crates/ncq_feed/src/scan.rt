@@ -1,15 +1,13 @@
 //! What a change makes of the files of scans.
-ghost use Rattle.std.specs.Prelude.{◌≡◌, ◌+◌, ◌≤◌, ◌++◌, [], ℕ, List, true, false, length};
-ghost use Rattle.std.specs.Prelude.{IfOk, OnOk};
+ghost use Rattle.std.specs.Prelude.{◌≡◌, ◌+◌, ◌<◌, ◌≤◌, ◌++◌, [], ℕ, List, true, false, length};
+ghost use Rattle.std.specs.Prelude.{IfOk, OnOk, take};
 ghost use Rattle.ncq_plan.specs.Deltas.{signed};
 ghost use Rattle.ncq_change.specs.Entries.{element_rows, entry_delta, scan_delta};
 ghost use Rattle.ncq_row.specs.declared.shape.Shape.{Shape as a_shape};
-ghost use Rattle.ncq_shelf.specs.Readers.{IsScanOf};
 ghost use Rattle.ncq_shelf.specs.Stands.{Stands};
-ghost use Rattle.ncq_feed.specs.Feeds.{name_at};
 ghost use Rattle.ncq_feed.specs.Runs.{Run, IsUnderWay, ArePassed, news_in, IsScanFile, all_due};
 ghost use Rattle.ncq_feed.specs.Runs.{all_in, due};
-ghost use Rattle.ncq_feed.specs.ScanFeeds.{IsScanFed, numbered};
+ghost use Rattle.ncq_feed.specs.ScanFeeds.{AreScansFed, IsScanFed, IsScanWith, numbered};
 
 use crate::append::append_all;
 use crate::pending::note;
@@ -19,12 +17,13 @@ use ncq_plan::Expr;
 use ncq_pyx::Written;
 use ncq_row::{Rows, Shape, match_written};
 use ncq_shelf::Shelf;
-use ncq_source::{Change, Entry, Store};
+use ncq_source::{Change, Entry, Portion, Store};
 use std::alloc::{AllocError, Global};
 use std::collections::BTreeSet;
 use std::sync::ledger::Ledger;
 
-/// Gives the scans of the changed source their rows of the change. Those that got any are pending.
+/// Gives the scans of the changed sources their rows of the change, portion by portion. Those that
+/// got any are pending.
 pub(crate) fn feed_scans<L: Ledger>(
     alloc: Global,
     shelf: &mut Shelf,
@@ -44,10 +43,42 @@ pub(crate) fn feed_scans<L: Ledger>(
     ensures cost { steps.new ≤ steps.old + all_due run }
     ensures spent { OnOk result (steps.new ≤ steps.old + all_in run shelf.new) }
 {
+    let portions = change.portions();
+    for at in 0..portions.len() {
+        feed_portion(alloc, shelf, portions, at, store, pending, steps)?;
+    }
+    Ok(())
+}
+
+/// Gives the scans of the source of the portion at this place their rows of the change.
+fn feed_portion<L: Ledger>(
+    alloc: Global,
+    shelf: &mut Shelf,
+    portions: &[Portion],
+    at: usize,
+    store: &Store,
+    pending: &mut BTreeSet<u64>,
+    steps: &mut Steps<L>,
+) -> Result<(), AllocError>
+    ghost run: { Run }
+    requires store { store.now ≡ run.store }
+    requires portions { portions.now ≡ run.change }
+    requires at { at < length run.change }
+    requires under { IsUnderWay run shelf.old }
+    requires fed { AreScansFed run (take at run.change) [] pending.old.keys shelf.old }
+    ensures under { IsUnderWay run shelf.new }
+    ensures fed { OnOk result
+        (AreScansFed run (take (at + 1) run.change) [] pending.new.keys shelf.new) }
+    ensures cost { steps.new + all_in run shelf.old ≤ steps.old + all_due run }
+    ensures spent { OnOk result
+        (steps.new + all_in run shelf.old ≤ steps.old + all_in run shelf.new) }
+{
+    let portion = &portions[at];
+    let entries = portion.entries.as_slice();
     let now = store.changes();
-    let scans = shelf.scans_of(alloc, store.name_of(change.source()))?;
-    for at in scans.into_vec() {
-        feed_scan(alloc, shelf, at, change.entries(), now, pending, steps)?;
+    let scans = shelf.scans_of(alloc, store.name_of(portion.source))?;
+    for scan in scans.into_vec() {
+        feed_scan(alloc, shelf, scan, entries, now, pending, steps)?;
     }
     Ok(())
 }
@@ -64,9 +95,8 @@ fn feed_scan<L: Ledger>(
 ) -> Result<(), AllocError>
     ghost run: { Run }
     requires now { now ≡ run.store.changes }
-    requires entries { entries.now ≡ run.change.entries }
     requires under { IsUnderWay run shelf.old }
-    requires scan { IsScanOf run.files (name_at run.store run.change.source) at }
+    requires scan { IsScanWith run entries.now at }
     requires still { news_in run.store.changes shelf.old at ≡ [] }
     ensures under { IsUnderWay run shelf.new }
     ensures fed { OnOk result (IsScanFed run at pending.old.keys pending.new.keys

@@ -16,9 +16,9 @@ use Rattle.ncq_row.specs.Embeddings.{Row, rows_of}
 use Rattle.ncq_row.specs.declared.shape.Shape.{Shape}
 use Rattle.ncq_plan.specs.Exprs.{scan_rows}
 use Rattle.ncq_source.specs.Stores.{Source, ShowsEach}
-use Rattle.ncq_source.specs.StoreStates.{StoreState, found}
+use Rattle.ncq_source.specs.StoreStates.{StoreState, found, source_named}
 use Rattle.ncq_source.proofs.Shown.{shows_counts}
-use Rattle.ncq_change.specs.Stores.{source_named, world_in, elements_of}
+use Rattle.ncq_change.specs.Stores.{world_in, elements_of}
 use Rattle.ncq_change.proofs.CallerLemmas.{found_name}
 
 -- one element more

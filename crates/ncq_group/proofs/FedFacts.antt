@@ -1,7 +1,7 @@
 -- What a fed table is.
-use Rattle.std.proofs.Common.{◌≡◌, ℕ, ◌+◌, Some, None, refl, sym, ap, ◌∙◌, subst}
+use Rattle.std.proofs.Common.{◌≡◌, ℕ, List, ◌+◌, Some, None, refl, sym, ap, ◌∙◌, subst}
 use Rattle.std.specs.FinMap.{get}
-use Rattle.ncq_source.specs.ChangeStates.{ChangeState}
+use Rattle.ncq_source.specs.declared.change.Portion.{Portion}
 use Rattle.ncq_source.specs.StoreStates.{StoreState}
 use Rattle.ncq_plan.specs.Exprs.{World}
 use Rattle.ncq_shelf.specs.Parts.{IsInput}
@@ -14,7 +14,7 @@ use Rattle.ncq_feed.specs.Feeds.{AreReady, AreFed}
 use Rattle.ncq_group.specs.Tables.{TableState, Facts}
 
 -- each file keeps its expression
-pub all_fed : (store : StoreState) (change : ChangeState) (old new : Files) → AreFed store change old new → HaveSameExprs old new
+pub all_fed : (store : StoreState) (change : List Portion) (old new : Files) → AreFed store change old new → HaveSameExprs old new
 all_fed store change old new fed number = elim (get old number) as (λ o. get old number ≡ o → expr_at (get new number) ≡ expr_at o) [
   | Some file ↦ λ at.
       let f = fed.each number file at in
@@ -29,7 +29,7 @@ record WasThere (old : Files) (number : ℕ) (file : KeptFile) : Type 0 where
   expr : file.expr ≡ was.expr
   uses : file.uses ≡ was.uses
 
-module _ (store : StoreState) (change : ChangeState) (old : TableState) (facts : Facts old) (new : Files) (fed : AreFed store change old.files new) where
+module _ (store : StoreState) (change : List Portion) (old : TableState) (facts : Facts old) (new : Files) (fed : AreFed store change old.files new) where
   before : (number : ℕ) (file : KeptFile) → get new number ≡ Some file → WasThere old.files number file
   before number file at = elim (get old.files number) as (λ o. get old.files number ≡ o → WasThere old.files number file) [
     | Some was ↦ λ here.

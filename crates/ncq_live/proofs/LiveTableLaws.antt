@@ -9,7 +9,7 @@ use Rattle.ncq_plan.specs.declared.expr.Expr.{Expr}
 use Rattle.ncq_plan.specs.declared.query.NormalQuery.{NormalQuery}
 use Rattle.ncq_plan.specs.Plans.{plan_of}
 use Rattle.ncq_plan.specs.WellFormed.{IsWellFormed}
-use Rattle.ncq_source.specs.ChangeStates.{ChangeState}
+use Rattle.ncq_source.specs.declared.change.Portion.{Portion}
 use Rattle.ncq_source.specs.StoreStates.{StoreState}
 use Rattle.ncq_shelf.specs.KeptFiles.{KeptFile, Files}
 use Rattle.ncq_shelf.specs.Stands.{Stands}
@@ -190,7 +190,7 @@ module _ (old : TableState) (subscriptions : List Subscription) (live_table : Is
       (λ n. users_rest n install subscriptions subscription rise found)
 
 -- the files were fed
-module _ (store : StoreState) (change : ChangeState) (old new : TableState) (subscriptions : List Subscription) (live_table : IsLiveTable old subscriptions) (fed : AreFed store change old.files new.files) where
+module _ (store : StoreState) (change : List Portion) (old new : TableState) (subscriptions : List Subscription) (live_table : IsLiveTable old subscriptions) (fed : AreFed store change old.files new.files) where
   file_fed : (m : Subscription) → HasFile old.files m → HasFile new.files m
   file_fed m s =
       let f = fed.each m.file.0 s.file s.at in

@@ -2,7 +2,7 @@
 use Rattle.std.proofs.Common.{◌≡◌, ℕ, true, false, not, cond, List, [], ◌∷◌, refl, sym, ◌∙◌, ap, subst}
 use Rattle.std.specs.Prelude.{Option, Some, None, Result, Ok, Err, OnOk, OnErr, IfSome, IfNone}
 use Rattle.ncq_feed.specs.Feeds.{AreFed}
-use Rattle.ncq_source.specs.ChangeStates.{ChangeState}
+use Rattle.ncq_source.specs.declared.change.Portion.{Portion}
 use Rattle.ncq_source.specs.StoreStates.{StoreState}
 use Rattle.ncq_live.proofs.LiveTableLaws.{table_fed, table_taken, taken_uses}
 use Rattle.ncq_group.specs.Releases.{HasUse, IsReleased}
@@ -41,7 +41,7 @@ table_cut change old new subscriptions cut live_table = record {
 }
 
 -- fed, or as before
-pub table_fed_or_not : {X E : Type 0} (store : StoreState) (change : ChangeState) (old new : TableState) (subscriptions : List Subscription) (r : Result X E) → OnOk r (AreFed store change old.files new.files) → OnErr r (new ≡ old)
+pub table_fed_or_not : {X E : Type 0} (store : StoreState) (change : List Portion) (old new : TableState) (subscriptions : List Subscription) (r : Result X E) → OnOk r (AreFed store change old.files new.files) → OnErr r (new ≡ old)
     → IsLiveTable old subscriptions → IsLiveTable new subscriptions
 table_fed_or_not store change old new subscriptions (Ok x) fed err live_table = table_fed store change old new subscriptions live_table fed
 table_fed_or_not store change old new subscriptions (Err e) fed err live_table = subst (λ (t : TableState). IsLiveTable t subscriptions) (sym err) live_table

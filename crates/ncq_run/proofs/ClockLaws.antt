@@ -3,7 +3,7 @@ use Rattle.std.proofs.Common.{◌≡◌, ℕ, ◌≤◌, Bool, true, false, List
 use Rattle.std.specs.Prelude.{Option, Some, None, nat_lt}
 use Rattle.std.proofs.lemmas.Bool.Decides.{nat_tests}
 use Rattle.ncq_script.specs.declared.command.Command.{Command}
-use Rattle.ncq_script.specs.declared.command.Command.TheVariants.{Declare, Delta, Create, Delete, Clock, Report, Malformed}
+use Rattle.ncq_script.specs.declared.command.Command.TheVariants.{Declare, Delta, Batch, Create, Delete, Clock, Report, Malformed}
 use Rattle.ncq_script.specs.declared.refusal.Refusal.{Refusal}
 use Rattle.ncq_script.specs.declared.refusal.Refusal.TheVariants as refusal
 use Rattle.ncq_engine.specs.History.{History, moved, now}
@@ -23,7 +23,8 @@ module _ (language : Language) where
       by_test true e n = absurd cc
       by_test false e n = grind (arith, nat_tests, e)
   never_back h (Declare name root key) none = stays (now h)
-  never_back h (Delta name items) none = stays (now h)
+  never_back h (Delta changed) none = stays (now h)
+  never_back h (Batch changed) none = stays (now h)
   never_back h (Create statement) none = stays (now h)
   never_back h (Delete name) none = stays (now h)
   never_back h Report none = stays (now h)

@@ -1,6 +1,11 @@
+mod BatchFaults
+pub mod BatchLaws
 pub mod CallerLemmas
 mod Cut
+mod GroupLaws
 mod Kept
+mod OneAnswer
+mod PartLaws
 mod Follow
 mod LineLaws
 mod WordLaws
@@ -8,5 +13,6 @@ mod BlockLaws
 mod CommandLaws
 mod Taken
 mod Following
+mod SpellLaws
 mod ScriptLaws
 mod TextLaws

@@ -6,8 +6,8 @@ use Rattle.ncq_script.specs.Lines.{LineText, lines, whole_lines}
 use Rattle.ncq_script.specs.Words.{begins}
 use Rattle.ncq_script.specs.declared.command_lines.CommandLines.{CommandLines}
 use Rattle.ncq_script.specs.declared.word.Keyword.{Keyword}
-use Rattle.ncq_script.specs.declared.word.Keyword.TheVariants.{Source, Delta, Create, Delete, Clock}
-use Rattle.ncq_script.specs.declared.word.Keyword.TheVariants.{Report, Unknown}
+use Rattle.ncq_script.specs.declared.word.Keyword.TheVariants.{Source, Delta, Batch, Create, Delete}
+use Rattle.ncq_script.specs.declared.word.Keyword.TheVariants.{Clock, Report, Unknown}
 
 -- exactly `.`
 abbrev pub is_dot : List ℕ → Bool
@@ -19,9 +19,10 @@ is_dot (b ∷ c ∷ text) = false
 abbrev pub is_end : LineText → Bool
 is_end line = is_dot line.bytes && not line.long
 
--- `delta` and `create` open a block
+-- `delta`, `batch` and `create` open a block
 abbrev pub opens_block : Keyword → Bool
 opens_block Delta = true
+opens_block Batch = true
 opens_block Create = true
 opens_block Source = false
 opens_block Delete = false

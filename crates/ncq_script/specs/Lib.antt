@@ -1,3 +1,6 @@
+pub mod BatchReading
+pub mod Batches
+pub mod SpellsBatch
 pub mod Lines
 pub mod LineReading
 pub mod NextOfLines

@@ -1,6 +1,6 @@
 -- A reader of lines, as contracts see it. A caller needs `FollowsLines` alone, and not what it
 -- says.
-use Rattle.std.specs.Prelude.{◌≡◌, ◌≤◌, ◌+◌, ℕ, Bool, true, false, List, [], ◌∷◌, ◌++◌, length}
+use Rattle.std.specs.Prelude.{◌≡◌, ◌≤◌, ◌+◌, ℕ, Bool, true, List, [], ◌++◌, length}
 use Rattle.std.specs.Prelude.{take, All, nat_lt, ◌⊎◌}
 use Rattle.std.specs.List.{flat_map}
 use Rattle.ncq_base.specs.Lines.{IsClean, ended}

@@ -1,5 +1,5 @@
 -- The lines of a script: what stands between line feeds, cut at a limit.
-use Rattle.std.specs.Prelude.{◌==◌, ℕ, Bool, List, [], ◌∷◌, length, take, nat_lt, if◌then◌else◌}
+use Rattle.std.specs.Prelude.{ℕ, Bool, List, [], ◌∷◌, length, take, nat_lt, if◌then◌else◌}
 use Rattle.std.specs.List.{slice_split}
 use Rattle.std.specs.Str.Lines.{strip_carriage_return}
 use Rattle.ncq_base.specs.Lines.{is_feed}

@@ -1,6 +1,6 @@
 -- What the lines of a command say, or the first refusal of reading.
 use Rattle.std.specs.Prelude.{◌==◌, ℕ, Bool, List, [], ◌∷◌, Option, Some, None, Result, Ok, Err}
-use Rattle.std.specs.Prelude.{if◌then◌else◌, nat_le, length, map, option_map}
+use Rattle.std.specs.Prelude.{if◌then◌else◌, nat_le, length, option_map}
 use Rattle.std.specs.Option.{option_and_then}
 use Rattle.ncq_base.specs.Names.{is_pyx_name}
 use Rattle.ncq_base.specs.Numbers.{read_u64}
@@ -16,14 +16,16 @@ use Rattle.ncq_xmlql.specs.declared.statement.StatementError.{StatementError}
 use Rattle.ncq_xmlql.specs.declared.statement.StatementError.TheVariants.{NotAStatement, Limit}
 use Rattle.ncq_xmlql.specs.declared.statement.StatementError.TheVariants as statement_error
 use Rattle.ncq_source.specs.declared.key.Key.TheVariants.{Child, Attribute}
+use Rattle.ncq_source.specs.declared.change.Section.{Section}
+use Rattle.ncq_script.specs.Batches.{batch_of}
 use Rattle.ncq_script.specs.Words.{words}
 use Rattle.ncq_script.specs.Forms.{source_form, one_argument, statement_text}
 use Rattle.ncq_script.specs.declared.command_lines.CommandLines.{CommandLines}
 use Rattle.ncq_script.specs.declared.word.Keyword.{Keyword}
 use Rattle.ncq_script.specs.declared.word.Keyword.TheVariants as keyword
 use Rattle.ncq_script.specs.declared.command.Command.{Command}
-use Rattle.ncq_script.specs.declared.command.Command.TheVariants.{Declare, Delta, Create, Delete}
-use Rattle.ncq_script.specs.declared.command.Command.TheVariants.{Clock, Report, Malformed}
+use Rattle.ncq_script.specs.declared.command.Command.TheVariants.{Declare, Delta, Batch, Create}
+use Rattle.ncq_script.specs.declared.command.Command.TheVariants.{Delete, Clock, Report, Malformed}
 use Rattle.ncq_script.specs.declared.refusal.Refusal.TheVariants as refusal
 
 -- the key rule that a word writes: `@<attribute>` or `<tag>`
@@ -53,9 +55,10 @@ or_refused (Some command) = command
 abbrev pub if_closed : Bool → Command → Command
 if_closed closed command = if closed then command else Malformed refusal.Unfinished
 
--- a delta of what its block says; a block never says that memory ran out
+-- a delta of what its block says, as the one section of its source; a block never says that memory
+-- ran out
 abbrev pub delta_of : List ℕ → Result (List Item) PyxError → Command
-delta_of source (Ok items) = Delta source items
+delta_of source (Ok items) = Delta (record { source = source; items = items } ∷ [])
 delta_of source (Err (BadLine line)) = Malformed (refusal.Pyx line)
 delta_of source (Err (TooDeep line)) = Malformed (refusal.Limit Nesting)
 delta_of source (Err OutOfMemory) = Malformed refusal.Command
@@ -65,6 +68,20 @@ abbrev pub delta_form : Option (List ℕ) → CommandLines → Command
 delta_form None lines = Malformed refusal.Command
 delta_form (Some source) lines
     = if_closed lines.closed (delta_of source (block_of max_nesting lines.block))
+
+-- a batch of what its block says; a block never says that memory ran out
+abbrev pub batch_said : Result (List Section) PyxError → Command
+batch_said (Ok sections) = Batch sections
+batch_said (Err (BadLine line)) = Malformed (refusal.Pyx line)
+batch_said (Err (TooDeep line)) = Malformed (refusal.Limit Nesting)
+batch_said (Err OutOfMemory) = Malformed refusal.Command
+
+-- `batch` with its block
+abbrev pub batch_form : CommandLines → Command
+batch_form lines =
+    if nat_le (length (words lines.head)) 1
+    then if_closed lines.closed (batch_said (batch_of max_nesting lines.block))
+    else Malformed refusal.Command
 
 -- a create of what its text says, or why it says nothing; a text never says that memory ran out
 abbrev pub create_of : Result Statement StatementError → Command
@@ -77,6 +94,7 @@ create_of (Err statement_error.OutOfMemory) = Malformed refusal.Query
 abbrev pub form_of : Keyword → CommandLines → Command
 form_of keyword.Source lines = or_refused (declare_of (words lines.head))
 form_of keyword.Delta lines = delta_form (one_argument (words lines.head)) lines
+form_of keyword.Batch lines = batch_form lines
 form_of keyword.Create lines = if_closed lines.closed
     (create_of (statement_of (statement_text lines)))
 form_of keyword.Delete lines = or_refused (option_map Delete (one_argument (words lines.head)))

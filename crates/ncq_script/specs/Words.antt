@@ -4,8 +4,8 @@ use Rattle.std.specs.Prelude.{None, if◌then◌else◌, codes}
 use Rattle.std.specs.List.{filter, slice_split}
 use Rattle.std.specs.Str.{str_eq_ignore_ascii_case}
 use Rattle.ncq_script.specs.declared.word.Keyword.{Keyword}
-use Rattle.ncq_script.specs.declared.word.Keyword.TheVariants.{Source, Delta, Create, Delete, Clock}
-use Rattle.ncq_script.specs.declared.word.Keyword.TheVariants.{Report, Unknown}
+use Rattle.ncq_script.specs.declared.word.Keyword.TheVariants.{Source, Delta, Batch, Create, Delete}
+use Rattle.ncq_script.specs.declared.word.Keyword.TheVariants.{Clock, Report, Unknown}
 
 -- space, tab and carriage return part words
 abbrev pub is_blank : ℕ → Bool
@@ -30,11 +30,12 @@ abbrev pub keyword_of : List ℕ → Keyword
 keyword_of word =
     if str_eq_ignore_ascii_case word (codes "source") then Source
     else (if str_eq_ignore_ascii_case word (codes "delta") then Delta
+    else (if str_eq_ignore_ascii_case word (codes "batch") then Batch
     else (if str_eq_ignore_ascii_case word (codes "create") then Create
     else (if str_eq_ignore_ascii_case word (codes "delete") then Delete
     else (if str_eq_ignore_ascii_case word (codes "clock") then Clock
     else (if str_eq_ignore_ascii_case word (codes "report") then Report
-    else Unknown)))))
+    else Unknown))))))
 
 -- a line without words, and a comment, begin nothing
 abbrev pub begun_by : List (List ℕ) → Option Keyword

@@ -8,16 +8,19 @@ ghost use Rattle.ncq_xmlql.specs.Answered.{statement_of};
 ghost use Rattle.ncq_script.specs.Words.{words};
 ghost use Rattle.ncq_script.specs.Reads.{rule_of, declare_of, clock_of, if_closed, delta_of};
 ghost use Rattle.ncq_script.specs.Reads.{delta_form, create_of, form_of, or_refused, read};
+ghost use Rattle.ncq_script.specs.Reads.{batch_form, batch_said};
+ghost use Rattle.ncq_script.specs.Batches.{batch_of};
 ghost use Rattle.ncq_script.specs.Forms.{one_argument};
 ghost use Rattle.ncq_script.specs.Proper.{IsProperCommand};
 
+use crate::batch::sections_of;
 use crate::command_lines::CommandLines;
 use crate::form::{one_argument, source_form, statement_text};
 use crate::refusal::Refusal;
 use crate::word::{Keyword, next_word};
 use ncq_base::{Bytes, Limit, Lines, bytes_of, is_pyx_name, read_u64};
-use ncq_pyx::{Items, PyxError, read_block};
-use ncq_source::Key;
+use ncq_pyx::{PyxError, read_block};
+use ncq_source::{Key, Section, Sections};
 use ncq_xmlql::{Statement, StatementError, parse_statement};
 use std::alloc::{AllocError, Global};
 
@@ -35,10 +38,13 @@ pub enum Command {
     },
     /// Changes a source.
     Delta {
-        /// What the source is called.
-        source: Bytes,
-        /// What is put and removed, in order. Each element is proper.
-        items: Items,
+        /// The one section of that source. Each element that it puts is proper.
+        sections: Sections,
+    },
+    /// Changes several sources at once.
+    Batch {
+        /// What is put and removed, source by source, in order. Each element is proper.
+        sections: Sections,
     },
     /// Leaves a query.
     Create {
@@ -79,6 +85,7 @@ pub(crate) fn read(alloc: Global, lines: &CommandLines) -> Result<Command, Alloc
     match lines.keyword {
         Keyword::Source => Ok(declare_of(alloc, head)?.unwrap_or(refused(Refusal::Command))),
         Keyword::Delta => delta_form(alloc, head, lines),
+        Keyword::Batch => batch_form(alloc, head, lines),
         Keyword::Create => create_form(alloc, lines),
         Keyword::Delete => delete_form(alloc, head),
         Keyword::Clock => Ok(clock_form(head)),
@@ -152,10 +159,44 @@ fn delta_of(alloc: Global, source: &[u8], block: &Lines) -> Result<Command, Allo
     ensures proper { IfOk result (λ command. IsProperCommand command) }
 {
     match read_block(alloc, block) {
-        Ok(items) => Ok(Command::Delta {
-            source: bytes_of(alloc, source)?,
-            items,
-        }),
+        Ok(items) => {
+            let mut sections = Sections::new(alloc);
+            sections.push(Section {
+                source: bytes_of(alloc, source)?,
+                items,
+            })?;
+            Ok(Command::Delta { sections })
+        }
+        Err(PyxError::BadLine { line }) => Ok(refused(Refusal::Pyx { line })),
+        Err(PyxError::TooDeep { .. }) => Ok(refused(Refusal::Limit {
+            which: Limit::Nesting,
+        })),
+        Err(PyxError::OutOfMemory) => Err(AllocError),
+    }
+}
+
+fn batch_form(alloc: Global, head: &[u8], lines: &CommandLines) -> Result<Command, AllocError>
+    requires { head.now ≡ lines.now.head }
+    ensures said { IfOk result (λ command. command ≡ batch_form lines.now) }
+    ensures proper { IfOk result (λ command. IsProperCommand command) }
+{
+    if !has_one_word(head) {
+        return Ok(refused(Refusal::Command));
+    }
+    if !lines.closed {
+        return Ok(refused(Refusal::Unfinished));
+    }
+    batch_said(alloc, &lines.block)
+}
+
+/// The batch that a block says.
+fn batch_said(alloc: Global, block: &Lines) -> Result<Command, AllocError>
+    ensures said { IfOk result (λ command.
+        command ≡ batch_said (batch_of max_nesting block.now)) }
+    ensures proper { IfOk result (λ command. IsProperCommand command) }
+{
+    match sections_of(alloc, block) {
+        Ok(sections) => Ok(Command::Batch { sections }),
         Err(PyxError::BadLine { line }) => Ok(refused(Refusal::Pyx { line })),
         Err(PyxError::TooDeep { .. }) => Ok(refused(Refusal::Limit {
             which: Limit::Nesting,

@@ -102,7 +102,7 @@ fn begin_command(
 fn opens_block(keyword: Keyword) -> bool
     ensures { result ≡ opens_block keyword }
 {
-    matches!(keyword, Keyword::Delta | Keyword::Create)
+    matches!(keyword, Keyword::Delta | Keyword::Batch | Keyword::Create)
 }
 
 // Adds a line to the block that is open.

@@ -6,10 +6,12 @@
 //! and the front of a line that is not whole.
 #![tactic(auto)]
 
+mod batch;
 mod command;
 mod command_lines;
 mod command_reader;
 mod form;
+mod laws;
 mod line;
 mod refusal;
 mod script_reader;
@@ -18,5 +20,6 @@ mod tests;
 mod word;
 
 pub use command::Command;
+pub use laws::batches_are_exact;
 pub use refusal::{Refusal, write_refused};
 pub use script_reader::{Next, ScriptReader};

@@ -1,4 +1,5 @@
 //! Scripts, and what their commands are, by values worked out by hand.
+mod batches;
 mod commands;
 mod forms;
 mod saying;

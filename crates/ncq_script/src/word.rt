@@ -9,6 +9,7 @@ ghost use Rattle.ncq_script.specs.Words.{StartsWord, StartsBlank};
 pub(crate) enum Keyword {
     Source,
     Delta,
+    Batch,
     Create,
     Delete,
     Clock,
@@ -78,6 +79,8 @@ pub(crate) fn keyword_of(word: &[u8]) -> Keyword
         Keyword::Source
     } else if same_word(word, b"delta") {
         Keyword::Delta
+    } else if same_word(word, b"batch") {
+        Keyword::Batch
     } else if same_word(word, b"create") {
         Keyword::Create
     } else if same_word(word, b"delete") {

@@ -1,5 +1,5 @@
 -- What cannot be prepared is what the first item that cannot be applied says.
-use Rattle.std.proofs.Common.{◌≡◌, ℕ, ◌+◌, List, [], ◌∷◌, Option, Some, None, refl, ◌∙◌}
+use Rattle.std.proofs.Common.{◌≡◌, ℕ, ◌+◌, List, [], ◌∷◌, length, Option, Some, None, refl, ap, ◌∙◌}
 use Rattle.std.specs.Prelude.{if◌then◌else◌}
 use Rattle.std.specs.FinMap.{get, insert, remove}
 use Rattle.std.specs.Option.{is_none, option_or}
@@ -8,11 +8,13 @@ use Rattle.ncq_pyx.specs.declared.item.Item.{Item}
 use Rattle.ncq_pyx.specs.declared.item.Item.TheVariants.{Put, Remove}
 use Rattle.ncq_source.specs.Changes.{Trial, prepared, put_entry, gone_entry, behind, next, put_at}
 use Rattle.ncq_source.specs.Changes.Trial.{Good, NoKey, NotThere}
-use Rattle.ncq_source.specs.Faults.{fault_in, first_fault}
+use Rattle.ncq_source.specs.Faults.{batch_fault, fault_in, first_fault, section_fault}
 use Rattle.ncq_source.specs.Held.{Kept}
 use Rattle.ncq_source.specs.Keys.{key_of}
+use Rattle.ncq_source.specs.Sections.{Holding, Holdings, after_section, batch_trial, go_on, section_trial}
 use Rattle.ncq_source.specs.declared.change.ChangeError.TheVariants.{BadKey, NoSuchKey}
 use Rattle.ncq_source.specs.declared.change.Entry.{Entry}
+use Rattle.ncq_source.specs.declared.change.Section.{Section}
 use Rattle.ncq_source.specs.declared.key.Key.{Key}
 use Rattle.ncq_source.proofs.Folds.{rest_of}
 
@@ -38,3 +40,21 @@ fault_in-prepared rule p kept (Remove k ∷ items) = by (fault_in-prepared rule 
         ≡ option_or (if is_none o then Some (NoSuchKey p) else None) (first_fault rule (p + 1) (remove kept k) items)
     by again None = refl
     by again (Some x) = fault_behind _ _ ∙ again
+
+fault_go_on : {A : Type 0} (t : Trial (List Entry)) (rest : Trial A) → fault_in (go_on t rest) ≡ option_or (fault_in t) (fault_in rest)
+fault_go_on (Good entries) rest = refl
+fault_go_on (NoKey position) rest = refl
+fault_go_on (NotThere position) rest = refl
+
+fault_in-section : (p : ℕ) (items : List Item) (o : Option Holding) → fault_in (section_trial p items o) ≡ section_fault p items o
+fault_in-section p items None = refl
+fault_in-section p items (Some h) = fault_in-prepared h.rule p h.elements items
+
+-- sections cannot be applied for the first of their items that cannot be
+pub fault_in-batch : (p : ℕ) (holdings : Holdings) (sections : List Section) → fault_in (batch_trial p holdings sections) ≡ batch_fault p holdings sections
+fault_in-batch p holdings [] = refl
+fault_in-batch p holdings (section ∷ more) =
+    let rest = batch_trial (p + length section.items) (after_section holdings section) more in
+    fault_go_on (section_trial p section.items (holdings section.source)) rest
+    ∙ ap (λ o. option_or o (fault_in rest)) (fault_in-section p section.items (holdings section.source))
+    ∙ ap (option_or (section_fault p section.items (holdings section.source))) (fault_in-batch (p + length section.items) (after_section holdings section) more)

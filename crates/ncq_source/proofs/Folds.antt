@@ -25,7 +25,7 @@ pub no : {A : Type 0} {a : A} {t : Trial A} {B : Type 0} → t ≡ Good a → is
 no e f = absurd (true≢false (ap is_good (sym e) ∙ f))
 
 -- an entry does to the elements what its item does, and its key holds what it says
-one : (rule : Key) (p : ℕ) (kept : Kept) (item : Item) (e : Entry) → entry_of rule p kept item ≡ Good e → (with_at kept e.key e.after ≡ taken rule kept item) × (e.before ≡ get kept e.key)
+pub one : (rule : Key) (p : ℕ) (kept : Kept) (item : Item) (e : Entry) → entry_of rule p kept item ≡ Good e → (with_at kept e.key e.after ≡ taken rule kept item) × (e.before ≡ get kept e.key)
 one rule p kept (Put x) e = by (key_of rule x)
   where
     by : (o : Option (List ℕ)) → put_entry p kept o x ≡ Good e → (with_at kept e.key e.after ≡ put_at kept o x) × (e.before ≡ get kept e.key)

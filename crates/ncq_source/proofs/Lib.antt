@@ -1,3 +1,4 @@
+pub mod AloneLaws
 pub mod KeyLaws
 pub mod CallerLemmas
 pub mod Commits
@@ -8,3 +9,5 @@ pub mod Places
 pub mod Prepares
 pub mod Shown
 pub mod Trials
+pub mod Portions
+pub mod SectionLaws

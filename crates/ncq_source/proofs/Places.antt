@@ -98,7 +98,7 @@ module _ {A B : Type 0} (f : A → B) where
   pub seen_at : (xs : List A) (i : ℕ) (x : A) (y : B) → x ≡ get_or xs i x → slice_get (map f xs) i ≡ Some y → y ≡ f x
   seen_at xs i x y at here = let p = from_map xs i y here in sym p.2 ∙ ap f (sym (item_at xs i x p.0 at p.1))
 
-  length_of : (xs : List A) → length xs ≡ length (map f xs)
+  pub length_of : (xs : List A) → length xs ≡ length (map f xs)
   length_of [] = refl
   length_of (x ∷ xs) = ap suc (length_of xs)
 

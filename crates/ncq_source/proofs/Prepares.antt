@@ -1,5 +1,5 @@
 -- What holds of the entries of a prepared change.
-use Rattle.std.proofs.Common.{◌≡◌, ℕ, suc, ◌+◌, true, List, [], ◌∷◌, length, Option, Some, None, refl, ap, ◌∙◌, subst}
+use Rattle.std.proofs.Common.{◌≡◌, ℕ, ◌+◌, true, List, [], ◌∷◌, Option, Some, None, refl, ap, subst}
 use Rattle.std.specs.Prelude.{IfSome}
 use Rattle.std.specs.List.{list_all}
 use Rattle.std.specs.FinMap.{get}
@@ -12,12 +12,10 @@ use Rattle.ncq_source.specs.Changes.{Trial, prepared, entry_of, put_entry, gone_
 use Rattle.ncq_source.specs.Changes.Trial.{Good, NoKey, NotThere}
 use Rattle.ncq_source.specs.Held.{Kept, with_at}
 use Rattle.ncq_source.specs.Keys.{key_of}
-use Rattle.ncq_source.specs.Prepared.{IsPrepared}
 use Rattle.ncq_source.specs.Proper.{IsProper, PutsProper}
-use Rattle.ncq_source.specs.Stores.{Source}
 use Rattle.ncq_source.specs.declared.change.Entry.{Entry}
 use Rattle.ncq_source.specs.declared.key.Key.{Key}
-use Rattle.ncq_source.proofs.Folds.{no, value_or, rest_of, fold_of_entries}
+use Rattle.ncq_source.proofs.Folds.{no, value_or, rest_of}
 
 module _ (rule : Key) (P : List Item → List Entry → Type 0) (none : P [] [])
     (more : (p : ℕ) (kept : Kept) (item : Item) (e : Entry) (items : List Item) (es : List Entry) → entry_of rule p kept item ≡ Good e → P items es → P (item ∷ items) (e ∷ es)) where
@@ -36,10 +34,6 @@ module _ (rule : Key) (P : List Item → List Entry → Type 0) (none : P [] [])
       by again (Good e) good h = last e (again e) good (rest_of rule p kept items e) refl h
       by again (NoKey n) good h = no h refl
       by again (NotThere n) good h = no h refl
-
--- one entry for each item
-count_of_entries : (rule : Key) (p : ℕ) (kept : Kept) (items : List Item) (es : List Entry) → prepared rule p kept items ≡ Good es → length es ≡ length items
-count_of_entries rule = by_items rule (λ items es. length es ≡ length items) refl (λ p kept item e items es good same. ap suc same)
 
 -- the entry of a proper item puts nothing that is not proper
 proper_entry : (rule : Key) (p : ℕ) (kept : Kept) (item : Item) (e : Entry) → entry_of rule p kept item ≡ Good e → item_is_proper item ≡ true → IfSome e.after IsProper
@@ -60,13 +54,3 @@ puts_proper rule = by_items rule (λ items es. list_all item_is_proper items ≡
     (λ p kept item e items es good rest h.
     let both = both_true (item_is_proper item) (list_all item_is_proper items) h in
     (proper_entry rule p kept item e good both.0, rest both.1))
-
--- the entries of a trial that is good are a prepared change
-pub is_prepared : (s : Source) (items : List Item) (es : List Entry) → prepared s.key 1 s.elements items ≡ Good es → IsPrepared s items es
-is_prepared s items es h =
-    let fold = fold_of_entries s.key 1 s.elements items es h in
-    record { count = count_of_entries s.key 1 s.elements items es h; chains = fold.1; fold = fold.0 }
-
--- what was prepared from a source, told by what is seen of it
-pub prepared_from : (s seen : Source) (items : List Item) (es : List Entry) → s ≡ seen → prepared seen.key 1 seen.elements items ≡ Good es → prepared s.key 1 s.elements items ≡ Good es
-prepared_from s seen items es is h = (λ i. prepared (is i).key 1 (is i).elements items) ∙ h

@@ -1,18 +1,20 @@
 -- A prepared change, as callers see it.
-use Rattle.std.specs.Prelude.{List, refl}
-use Rattle.std.specs.Coded.{Coded, code_by, coded×, coded_list}
+use Rattle.std.specs.Prelude.{ℕ, ◌==◌, if◌then◌else◌, List, [], ◌∷◌, map, Option, Some, None}
+use Rattle.std.specs.List.Sorted.{IsStrictlySortedBy}
+use Rattle.std.specs.Ordering.{nat_cmp}
 use Rattle.ncq_source.specs.declared.change.Entry.{Entry}
-use Rattle.ncq_source.specs.declared.change.SourceId.{SourceId}
-use Rattle.ncq_source.specs.contracts.change.Entry.{the_row as entry_row}
-use Rattle.ncq_source.specs.contracts.change.SourceId.{the_row as id_row}
+use Rattle.ncq_source.specs.declared.change.Portion.{Portion}
 
--- a source, and one entry for each item, in order
-pub record ChangeState : Type 0 where
-  pub source : SourceId
-  pub entries : List Entry
+-- the sources that a change names, by their places in the store
+abbrev pub places : List Portion → List ℕ
+places portions = map (λ portion. portion.source.0) portions
 
--- how a change is written as a value
-abbrev pub change_code : Coded ChangeState
-change_code = code_by (SourceId × List Entry) (coded× id_row.coded (coded_list entry_row.coded))
-    (λ c. (c.source, c.entries))
-    (λ p. record { source = p.0; entries = p.1 }) (λ _. refl)
+-- the sources rise, so each stands once
+abbrev pub AreRising : List Portion → Type 0
+AreRising portions = IsStrictlySortedBy nat_cmp (places portions)
+
+-- the entries of the source at this place, where the change names it
+abbrev pub entries_at : ℕ → List Portion → Option (List Entry)
+entries_at at [] = None
+entries_at at (portion ∷ portions) =
+    if at == portion.source.0 then Some portion.entries else entries_at at portions

@@ -2,6 +2,7 @@
 use Rattle.std.specs.Prelude.{ℕ, List, [], ◌∷◌, Option, Some, None, refl}
 use Rattle.std.specs.Coded.{Coded, code_by, coded×, coded_ℕ, coded_list}
 use Rattle.std.specs.FinMap.{insert, remove, code}
+use Rattle.indexmap.specs.IndexMap.{IndexMap}
 use Rattle.ncq_base.specs.Keys.{ByBytes}
 use Rattle.ncq_tree.specs.declared.model.Element.{Element}
 use Rattle.ncq_tree.specs.contracts.model.Element.{the_row as element_row}
@@ -30,6 +31,12 @@ with_at kept key None = remove kept key
 -- how elements by their keys are written as a value
 abbrev pub kept_code : Coded Kept
 kept_code = code (coded_list coded_ℕ) element_row.coded
+
+-- what keys hold by a map, and nothing where there is none
+abbrev pub changes_of : {S : Type 0}
+    → Option (IndexMap (List ℕ) (Option Element) S) → List (List ℕ × Option Element)
+changes_of None = []
+changes_of (Some changes) = changes.entries
 
 -- the elements, with what each pair says of its key; of two pairs with one key the first
 abbrev pub over : Kept → List (List ℕ × Option Element) → Kept

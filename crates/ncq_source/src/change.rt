@@ -1,16 +1,18 @@
 //! Prepared changes, entry by entry, and why none was prepared.
 ghost use Rattle.std.specs.Prelude.{◌≡◌};
+ghost use Rattle.ncq_source.specs.ChangeStates.{AreRising};
+ghost use Rattle.ncq_source.specs.Fews.{portions_in};
 
 use ncq_base::{Bytes, Sequence, Shared};
-use ncq_pyx::Written;
+use ncq_pyx::{Items, Written};
 use std::alloc::{AllocError, Global};
 use std::marker::Model;
+use std::slice;
 use thiserror::Error;
 
 /// What one item does to its key: the element that the key holds after the items before it, if any,
 /// and the element that it holds after the item, if any. A put has an `after`, which is proper
-/// where the item is; a removal has a
-/// `before` and no `after`.
+/// where the item is; a removal has a `before` and no `after`.
 #[derive(Drop)]
 pub struct Entry {
     pub key: Bytes,
@@ -18,64 +20,91 @@ pub struct Entry {
     pub after: Option<Shared<Written>>,
 }
 
-/// The entries of a change, in the order of its items.
+/// The entries of a source in a change, in the order of its items.
 pub type Entries = Sequence<Entry>;
 
 /// The place of a source in its store, from 0 in the order of declaration.
 #[derive(Clone, Copy, Debug, PartialEq, Eq)]
 pub struct SourceId(pub usize);
 
-/// What items do to a source, prepared: the source, and one entry for each item. `Store::prepare`
-/// makes it, and contracts see it as the two.
+/// What a section of a batch asks of the source of this name.
+#[derive(Drop)]
+pub struct Section {
+    pub source: Bytes,
+    pub items: Items,
+}
+
+/// What a change does to one source: one entry for each item of the sections that name it, section
+/// by section and item by item.
+#[derive(Drop)]
+pub struct Portion {
+    pub source: SourceId,
+    pub entries: Entries,
+}
+
+/// The portions of a change, of which one alone stands in the value itself.
+#[derive(Drop)]
+pub(crate) enum Portions {
+    One(Portion),
+    Several(Vec<Portion>),
+}
+
+/// What sections do to the sources that they name, prepared: a portion for each such source, rising
+/// by source. `Store::prepare` makes it, and contracts see it as the list of its portions.
 #[derive(Drop)]
 pub struct Change {
-    source: SourceId,
-    entries: Entries,
+    portions: Portions,
 }
 
 impl Model for Change {
-    ghost use Rattle.ncq_source.specs.ChangeStates.{ChangeState, change_code};
+    ghost use Rattle.std.specs.Prelude.{List};
+    ghost use Rattle.std.specs.Coded.{coded_list};
+    ghost use Rattle.ncq_source.specs.ChangeStates.{AreRising};
+    ghost use Rattle.ncq_source.specs.Fews.{portions_in};
+    ghost use Rattle.ncq_source.specs.declared.change.Portion.{Portion};
+    ghost use Rattle.ncq_source.specs.contracts.change.Portion.{the_row};
 
-    ghost Value = { ChangeState };
+    ghost Value = { List Portion };
 
-    ghost coded = { change_code };
+    ghost coded = { coded_list the_row.coded };
 
-    ghost view = { λ c. record { source = c.source; entries = c.entries } };
+    ghost view = { λ c. portions_in c.portions };
+
+    ghost invariant = { λ c. AreRising (portions_in c.portions) };
 }
 
 impl Change {
-    pub(crate) fn new(source: SourceId, entries: Entries) -> Change
-        ensures source { result.source ≡ source }
-        ensures entries { result.entries ≡ entries }
+    pub(crate) fn new(portions: Portions) -> Change
+        requires { AreRising (portions_in portions) }
+        ensures { result ≡ portions_in portions }
     {
-        Change { source, entries }
+        Change { portions }
     }
 
-    /// The source that the change is of.
-    pub fn source(&self) -> SourceId
-        ensures { result ≡ self.now.source }
+    /// What the change does to each source that it names, rising by source.
+    pub fn portions(&self) -> &[Portion]
+        ensures portions { result.now ≡ self.now }
+        ensures rising { AreRising self.now }
     {
-        self.source
+        match &self.portions {
+            Portions::One(portion) => slice::from_ref(portion),
+            Portions::Several(portions) => portions.as_slice(),
+        }
     }
 
-    /// One entry for each item, in the order of the items.
-    pub fn entries(&self) -> &[Entry]
-        ensures { result.now ≡ self.now.entries }
+    pub(crate) fn into_portions(self) -> Portions
+        ensures portions { portions_in result ≡ self }
+        ensures rising { AreRising self }
     {
-        self.entries.as_slice()
-    }
-
-    pub(crate) fn into_entries(self) -> Entries
-        ensures { result ≡ self.entries }
-    {
-        self.entries
+        let Change { portions } = self;
+        portions
     }
 }
 
-/// Why a change was not prepared. Positions count the items from 1.
+/// Why a change was not prepared. Positions count the items of all sections from 1.
 #[derive(Debug, Drop, Error)]
 pub enum ChangeError {
-    /// No source has the name.
+    /// No source has the name of one of the sections.
     #[error("no such source")]
     NoSource,
     /// The item at the position is the first that cannot be applied: it puts an element that has

@@ -24,6 +24,7 @@ impl Declared {
     pub(crate) fn reserve(&mut self, additional: usize) -> Result<(), AllocError>
         ensures same { without_room (source_of self.new) ≡ without_room (source_of self.old) }
         ensures room { OnOk result (additional ≤ self.new.elements.room) }
+        ensures more { self.old.elements.room ≤ self.new.elements.room }
     {
         self.elements.reserve(additional)
     }

@@ -79,6 +79,7 @@ impl Elements {
     pub(crate) fn reserve(&mut self, additional: usize) -> Result<(), AllocError>
         ensures pairs { self.new.pairs ≡ self.old.pairs }
         ensures room { OnOk result (additional ≤ self.new.room) }
+        ensures more { self.old.room ≤ self.new.room }
     {
         self.elements.reserve(additional)
     }

@@ -1,38 +1,56 @@
 //! The entries of items.
-ghost use Rattle.std.specs.Prelude.{◌≡◌, ◌+◌, Ok, IfOk, IsTrue, OnOk, Some};
+ghost use Rattle.std.specs.Prelude.{◌≡◌, ◌+◌, ◌<◌, ◌^◌, Ok, IfOk, IsTrue, IsFalse, OnOk, Some};
+ghost use Rattle.std.specs.Prelude.{length};
 ghost use Rattle.ncq_source.specs.Changes.{Tells, entry_of, put_entry, gone_entry, prepared};
-ghost use Rattle.ncq_source.specs.Held.{map_of, with_at};
+ghost use Rattle.ncq_source.specs.Changes.{store_after};
+ghost use Rattle.ncq_source.specs.Held.{with_at};
 ghost use Rattle.ncq_source.specs.Keys.{key_of};
 ghost use Rattle.std.specs.Option.{option_copied};
 ghost use Rattle.std.specs.FinMap.{get};
 
 use crate::ahead::Ahead;
 use crate::change::{ChangeError, Entries, Entry};
-use crate::elements::Elements;
 use crate::key::{Key, key_of};
 use ncq_base::{Bytes, Copied, Shared};
 use ncq_pyx::{Item, Written};
 use std::alloc::{AllocError, Global};
 
 /// One entry for each item, in order, or the first item that cannot be applied, seen through the
-/// items before it. No element of the source is looked at but those under the keys of the items.
+/// items before it. So many items came before. No element of the source is looked at but those
+/// under the keys of the items. Behind the last section nobody looks at the elements.
 pub(crate) fn prepare(
     alloc: Global,
     rule: &Key,
-    elements: &Elements,
+    ahead: &mut Ahead<'_>,
     items: &[Item],
+    before: u64,
+    last: bool,
 ) -> Result<Entries, ChangeError>
-    ensures { Tells result (prepared rule.now 1 (map_of elements.now.pairs) items.now) }
+    requires { before + length items.now < 2 ^ 64 }
+    ensures tells { Tells result (prepared rule.now (before + 1) ahead.old items.now) }
+    ensures ahead { OnOk result (IsFalse last
+        → ahead.new ≡ store_after rule.now ahead.old items.now) }
 {
     let count = items.len();
-    let mut ahead = Ahead::new(alloc, elements);
     let mut entries = Entries::with_capacity(alloc, count)?;
     for item in items {
-        let entry = entry_of(alloc, rule, &ahead, item, entries.len() as u64 + 1)?;
-        note(alloc, &mut ahead, &entry, entries.len() + 1 < count)?;
+        let position = before + entries.len() as u64 + 1;
+        let entry = entry_of(alloc, rule, ahead, item, position)?;
+        let seen = is_seen(last, entries.len(), count);
+        note(alloc, ahead, &entry, seen)?;
         entries.push(entry)?;
     }
     Ok(entries)
+}
+
+/// Whether somebody looks at the elements behind the item at this place: another section may
+/// follow, or another item.
+fn is_seen(last: bool, at: usize, count: usize) -> bool
+    requires { at < count }
+    ensures section { IsFalse last → IsTrue result }
+    ensures item { at + 1 < count → IsTrue result }
+{
+    !last || at + 1 < count
 }
 
 /// The entry of one item.
@@ -105,7 +123,7 @@ fn note(
     }
     let key = entry.key.copy(alloc)?;
     let after = shared(entry.after.as_ref())?;
-    ahead.set(key, after)
+    ahead.set(alloc, key, after)
 }
 
 /// One more owner of the element, where there is one.

@@ -1,26 +1,27 @@
 //! The store: sources that are declared, looked at and changed.
 ghost use Rattle.std.specs.Prelude.{◌≡◌, ◌<◌, ◌-◌, ◌^◌, ◌↔◌, [], length, map, slice_get, Some};
-ghost use Rattle.std.specs.Prelude.{None, Err, IfOk, OnOk, OnErr, IsSome, true};
-ghost use Rattle.std.specs.Option.{option_map};
-ghost use Rattle.std.specs.List.{list_all};
-ghost use Rattle.ncq_pyx.specs.Items.{item_is_proper};
-ghost use Rattle.ncq_source.specs.Changes.{prepared};
+ghost use Rattle.std.specs.Prelude.{None, Err, IfOk, OnOk, OnErr, IsSome, true, false};
+ghost use Rattle.std.specs.Option.{is_some, option_map};
+ghost use Rattle.std.specs.List.{list_all, AllByRecursion};
 ghost use Rattle.ncq_source.specs.Keys.{key_of};
-ghost use Rattle.ncq_source.specs.Prepared.{IsPrepared};
-ghost use Rattle.ncq_source.specs.Proper.{IsProper, IsProperStore, PutsProper};
+ghost use Rattle.ncq_source.specs.Proper.{IsProper, IsProperStore, PutsProperPortion, puts_proper};
+ghost use Rattle.ncq_source.specs.Sections.{are_known, batch_trial};
 ghost use Rattle.ncq_source.specs.Stores.{ShowsEach};
-ghost use Rattle.ncq_source.specs.StoreStates.{At, Declares, HasRoom, IsAlike, IsCommitted};
-ghost use Rattle.ncq_source.specs.StoreStates.{IsDeclared, TellsChange, found};
+ghost use Rattle.ncq_source.specs.StoreStates.{AreDeclared, ArePortionsOf, At, Declares, HasRoom};
+ghost use Rattle.ncq_source.specs.StoreStates.{IsAlike, IsCommitted, IsDeclared, TellsBatch, found};
+ghost use Rattle.ncq_source.specs.StoreStates.{holdings_of};
 ghost use Rattle.ncq_source.specs.Views.{source_of};
 
-use crate::change::{Change, ChangeError, SourceId};
+use crate::batch::Sections;
+use crate::change::{Change, ChangeError, Section, SourceId};
+use crate::commit::{commit_all, reserve_all};
 use crate::declared::Declared;
 use crate::elements::Elements;
 use crate::key::{Key, key_of};
 use crate::names::Names;
-use crate::prepare::prepare;
+use crate::sections::prepare_sections;
 use ncq_base::{Bytes, Shared};
-use ncq_pyx::{Items, Written};
+use ncq_pyx::Written;
 use ncq_tree::Element;
 use std::alloc::{AllocError, Global};
 use std::hash::RandomState;
@@ -143,7 +144,7 @@ impl Store {
         Ok(SourceId(at))
     }
 
-    fn source(&self, id: SourceId) -> &Declared
+    pub(crate) fn source(&self, id: SourceId) -> &Declared
         requires { IsDeclared self.now id }
         ensures { slice_get self.now.sources id.0 ≡ Some (source_of result.now) }
     {
@@ -223,60 +224,71 @@ impl Store {
         elements.at(at)
     }
 
-    /// What the items do to the source of this name, without doing it: one entry for each item,
-    /// with what its key holds before and after. `NoSource` comes exactly where the name is not
-    /// declared. Else the first item that cannot be applied, seen through the items before it,
-    /// decides: `BadKey` for a put whose element has not exactly one key value that is not empty,
-    /// `NoSuchKey` for a removal of a key that holds no element there. Positions count from 1. It
-    /// shares the elements of the items, and copies their keys.
-    pub fn prepare(&self, alloc: Global, name: &[u8], items: &Items) -> Result<Change, ChangeError>
-        ensures declared { IfOk result (λ change. IsDeclared self.now change.source) }
-        ensures source { IfOk result (λ change. found self.now name.now ≡ Some change.source.0) }
-        ensures prepared { IfOk result (λ change.
-            At self.now change.source (λ s. IsPrepared s items.now change.entries)) }
-        ensures proper { list_all item_is_proper items.now ≡ true
-            → IfOk result (λ change. PutsProper change.entries) }
-        ensures only { result ≡ Err ChangeError.NoSource → found self.now name.now ≡ None }
-        ensures none { found self.now name.now ≡ None → result ≡ Err ChangeError.NoSource }
-        ensures some { (at : _) (s : _) → found self.now name.now ≡ Some at
-            → slice_get self.now.sources at ≡ Some s
-            → TellsChange result at (prepared s.key 1 s.elements items.now) }
+    /// What the sections do to the sources that they name, without doing it: for each such source
+    /// one entry for each item, with what its key holds before and after. `NoSource` comes exactly
+    /// where a section names no declared source. Else the first item that cannot be applied, seen
+    /// through the items before it, decides: `BadKey` for a put whose element has not exactly one
+    /// key value that is not empty, `NoSuchKey` for a removal of a key that holds no element there.
+    /// Positions count the items of all sections from 1. It shares the elements of the items, and
+    /// copies their keys.
+    pub fn prepare(&self, alloc: Global, sections: &Sections) -> Result<Change, ChangeError>
+        ensures declared { IfOk result (λ change. AreDeclared self.now change) }
+        ensures portions { IfOk result (λ change. ArePortionsOf self.now sections.now change) }
+        ensures tells { TellsBatch result (are_known (holdings_of self.now) sections.now)
+            (batch_trial 1 (holdings_of self.now) sections.now) }
+        ensures proper { list_all puts_proper sections.now ≡ true
+            → IfOk result (λ change. AllByRecursion PutsProperPortion change) }
+        ensures none { are_known (holdings_of self.now) sections.now ≡ false
+            → result ≡ Err ChangeError.NoSource }
     {
-        let Some(source) = self.find(name) else {
-            return Err(ChangeError::NoSource);
-        };
-        let declared = self.source(source);
-        let entries = prepare(alloc, &declared.key, &declared.elements, items.as_slice())?;
-        Ok(Change::new(source, entries))
+        let portions = prepare_sections(alloc, self, sections.as_slice())?;
+        Ok(Change::new(portions))
     }
 
-    /// Gives the change's source room for the elements that the change puts, so that its commit
-    /// takes no memory. No element, number or other source changes; after an error there may be
-    /// more room than before, or not.
+    /// Whether each section names a declared source.
+    pub(crate) fn are_declared(&self, sections: &[Section]) -> bool
+        ensures { result ≡ are_known (holdings_of self.now) sections.now }
+    {
+        for section in sections {
+            if !self.is_declared(section) {
+                return false;
+            }
+        }
+        true
+    }
+
+    /// Whether the section names a declared source.
+    fn is_declared(&self, section: &Section) -> bool
+        ensures { result ≡ is_some (holdings_of self.now section.now.source) }
+    {
+        self.find(section.source.as_slice()).is_some()
+    }
+
+    /// Gives each source of the change room for the elements that the change puts there, so that
+    /// its commit takes no memory. No element, number or other source changes; after an error there
+    /// may be more room than before, or not.
     pub fn reserve(&mut self, change: &Change) -> Result<(), AllocError>
-        requires { IsDeclared self.old change.now.source }
+        requires { AreDeclared self.old change.now }
         ensures same { IsAlike self.old self.new }
         ensures proper { IsProperStore self.old → IsProperStore self.new }
         ensures room { OnOk result (HasRoom self.new change.now) }
     {
-        let additional = change.entries().len();
-        let source = change.source();
-        self.sources[source.0].reserve(additional)
+        reserve_all(&mut self.sources, change.portions())
     }
 
-    /// Applies the entries of a change in order, counts the change, and makes its number the
-    /// source's last. Every other source stays as it was. It takes no memory and cannot be refused.
+    /// Applies the entries of a change in order, counts the change, and makes its number the last
+    /// of each source that it names. Every other source stays as it was. It takes no memory and
+    /// cannot be refused.
     pub fn commit(&mut self, change: Change)
-        requires declared { IsDeclared self.old change.source }
+        requires declared { AreDeclared self.old change }
         requires room { HasRoom self.old change }
         requires more { self.old.changes < 2 ^ 64 - 1 }
         ensures done { IsCommitted self.old change self.new }
-        ensures proper { PutsProper change.entries
+        ensures proper { AllByRecursion PutsProperPortion change
             → IsProperStore self.old → IsProperStore self.new }
     {
         self.changes += 1;
         let number = self.changes;
-        let source = change.source();
-        self.sources[source.0].commit(change.into_entries(), number);
+        commit_all(&mut self.sources, change.into_portions(), number);
     }
 }

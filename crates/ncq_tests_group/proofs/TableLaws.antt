@@ -1,57 +1,33 @@
 -- What the tests keep about a table and its store.
-use Rattle.std.proofs.Common.{◌≡◌, ℕ, ◌+◌, ◌-◌, ◌^◌, ◌<◌, ◌≤◌, refl, sym, ap, ◌∙◌, subst, map, length, arith, inl, inr, Some, List, slice_get}
-use Rattle.std.specs.Str.{bytes_eq}
+use Rattle.std.proofs.Common.{◌≡◌, ℕ, ◌+◌, ◌-◌, ◌^◌, ◌<◌, ◌≤◌, sym, ap, ◌∙◌, subst, length, arith, inl, inr, Some, List}
 use Rattle.std.specs.FinMap.{empty, get, insert}
 use Rattle.std.specs.List.{AllByRecursion}
 use Rattle.std.proofs.lemmas.Bool.{cases_eq}
 use Rattle.std.proofs.lemmas.List.{length-map}
-use Rattle.ncq_change.specs.Entries.{world_of}
 use Rattle.ncq_change.specs.Stores.{world_in}
-use Rattle.ncq_change.proofs.CommitLaws.{commits_after, found_name}
-use Rattle.ncq_change.proofs.OneSource.{name_is}
-use Rattle.ncq_feed.specs.Feeds.{AreFed, IsPreparedFrom, name_at, name_in, world_after}
+use Rattle.ncq_feed.specs.Feeds.{AreFed, IsPreparedFrom, world_after}
+use Rattle.ncq_feed.proofs.CallerLemmas.{world_committed}
 use Rattle.ncq_feed.proofs.ContentLaws.{content_sound}
 use Rattle.ncq_group.proofs.Empty.{nothing_there}
 use Rattle.ncq_group.specs.Installs.{IsInstalled}
-use Rattle.ncq_group.specs.Tables.{TableState, Facts}
+use Rattle.ncq_group.specs.Tables.{TableState}
 use Rattle.ncq_midfile.specs.Content.{IsContent, IsSoundAt}
 use Rattle.ncq_plan.specs.declared.expr.Expr.{Expr}
 use Rattle.ncq_plan.specs.Exprs.{World, rows_in}
-use Rattle.ncq_pyx.specs.declared.item.Item.{Item}
 use Rattle.ncq_shelf.specs.Contents.{Fits, IsCompacted}
 use Rattle.ncq_shelf.specs.KeptFiles.{KeptFile, Files}
 use Rattle.ncq_shelf.specs.Stands.{IsThere}
 use Rattle.ncq_shelf.proofs.CallerLemmas.{one_value, put_same, put_other}
-use Rattle.ncq_source.specs.ChangeStates.{ChangeState}
-use Rattle.ncq_source.specs.Prepared.{IsPrepared}
-use Rattle.ncq_source.specs.declared.change.SourceId.{SourceId}
+use Rattle.ncq_source.specs.declared.change.Portion.{Portion}
 use Rattle.ncq_source.specs.Stores.{without_room}
-use Rattle.ncq_source.specs.StoreStates.{StoreState, At, IsAlike, IsCommitted, IsDeclared, found}
+use Rattle.ncq_source.specs.StoreStates.{AreDeclared, IsAlike, IsCommitted, StoreState}
 use Rattle.ncq_tests_group.specs.Tables.{StandsFor}
 
--- a change that was prepared from the source of this name
-pub is_prepared_from : (store : StoreState) (name : List ℕ) (items : List Item) (change : ChangeState) → found store name ≡ Some change.source.0
-    → At store change.source (λ s. IsPrepared s items change.entries) → IsPreparedFrom store change
-is_prepared_from store name items change here prepared =
-    let own = found_name store name change.source.0 here in
-    let named : name_at store change.source ≡ name = ap name_in own.1 ∙ sym (name_is name own.0.name own.2) in
-    record {
-      source = subst (λ n. found store n ≡ Some change.source.0) (sym named) here;
-      chains = λ source at. (prepared source at).chains;
-    }
-
--- the world after it is committed
-pub world_committed : (store ready after : StoreState) (change : ChangeState) → IsPreparedFrom store change → IsAlike store ready → IsCommitted ready change after
-    → world_after store change ≡ world_in after
-world_committed store ready after change prepared alike done =
-    ap world_of (sym (λ i. λ source. commits_after store ready after (name_at store change.source) change
-    (record { source = prepared.source; chains = prepared.chains; room = alike; committed = done }) source i))
-
--- a source that is declared is so when there is more room
-pub declared_alike : (store ready : StoreState) (id : SourceId) → IsAlike store ready → IsDeclared store id → IsDeclared ready id
-declared_alike store ready id alike within =
+-- sources that are declared are so when there is more room
+pub declared_alike : (store ready : StoreState) (change : List Portion) → IsAlike store ready → AreDeclared store change → AreDeclared ready change
+declared_alike store ready change alike within =
     let same : length ready.sources ≡ length store.sources = sym (length-map ready.sources without_room) ∙ ap length alike.sources ∙ length-map store.sources without_room in
-    omega (arith, same, within)
+    subst (λ n. AllByRecursion (λ (portion : Portion). portion.source.0 < n) change) (sym same) within
 
 -- a table without files fits every store
 pub fits_at_first : (files : Files) (now : ℕ) (world : World) → files ≡ empty → Fits now world files
@@ -73,12 +49,12 @@ stands_installed store expr old new file none same installed fits = record {
 }
 
 -- a table that was fed stands for the store after the commit
-pub stands_fed : (store ready after : StoreState) (change : ChangeState) (old new : TableState) → StandsFor store old → IsPreparedFrom store change → IsAlike store ready
+pub stands_fed : (store ready after : StoreState) (change : List Portion) (old new : TableState) → StandsFor store old → IsPreparedFrom store change → IsAlike store ready
     → IsCommitted ready change after → AreFed store change old.files new.files → Fits new.number (world_after store change) new.files → new.number ≡ old.number + 1
     → new.next_file ≡ old.next_file → StandsFor after new
 stands_fed store ready after change old new stands prepared alike done fed fits number next = record {
   number = done.changes ∙ ap (λ n. n + 1) (alike.changes ∙ stands.number) ∙ sym number;
-  fits = subst (λ w. Fits new.number w new.files) (world_committed store ready after change prepared alike done) fits;
+  fits = subst (λ w. Fits new.number w new.files) (world_committed store ready after change (record { chains = prepared.chains; room = alike; committed = done })) fits;
   each = λ at below.
       let there = stands.each at (subst (λ n. at < n) next below) in
       let got = fed.each at there.file there.at in

@@ -1,7 +1,8 @@
 //! What the calls of several crates are given, and what they are compared by.
 
-use ncq_base::{Lines, is_line};
+use ncq_base::{Lines, bytes_of, is_line};
 use ncq_pyx::{Items, read_block};
+use ncq_source::{Section, Sections};
 use std::alloc::{AllocError, Global};
 use std::process::Abort;
 
@@ -52,4 +53,16 @@ fn push_line(lines: &mut Lines, line: &[u8]) -> Result<(), AllocError> {
 fn items_of(alloc: Global, text: &str) -> Result<Items, AllocError> {
     let lines = lines_of(alloc, text.as_bytes())?;
     read_block(alloc, &lines).map_err(|_| AllocError)
+}
+
+/// The sections of a batch: each the name of a source, and lines that are parted by slashes.
+fn sections_of(alloc: Global, sections: &[(&str, &str)]) -> Result<Sections, AllocError> {
+    let mut all = Sections::new(alloc);
+    for (name, text) in sections {
+        all.push(Section {
+            source: bytes_of(alloc, name.as_bytes())?,
+            items: items_of(alloc, text)?,
+        })?;
+    }
+    Ok(all)
 }

@@ -65,6 +65,13 @@ const BLOCKS: &[(&[u8], &[u8])] = &[
     (b"CREATE x y z\n.\n", b"CCREATE x y z|"),
     (b"Delta\n.\r\nreport\n", b"DDelta|Rreport|"),
     (b"delta\n.", b"Ddelta|"),
+    (b"Batch\n@q\r\n!k\n.\nreport\n", b"BBatch|@q|!k|Rreport|"),
+    // Whatever else the line holds, the block goes up to its end.
+    (
+        b"batch x y\nclock 1\n.\nreport\n",
+        b"Bbatch x y|clock 1|Rreport|",
+    ),
+    (b"batch\n", b"Bbatch|!"),
     // No other line ends it.
     (b"delta\n. \n .\n..\n.\r\r\n\n", b"Ddelta|. | .|..|.\r||!"),
     // Comments, blank lines and commands inside it are lines of the block.
@@ -91,6 +98,7 @@ fn letter(keyword: Keyword) -> u8 {
     match keyword {
         Keyword::Source => b'S',
         Keyword::Delta => b'D',
+        Keyword::Batch => b'B',
         Keyword::Create => b'C',
         Keyword::Delete => b'X',
         Keyword::Clock => b'K',

@@ -17,6 +17,19 @@ const REFUSED: &[(&[u8], Refusal)] = &[
     (b"delta q\n", Refusal::Unfinished),
     (b"delta 1234567", Refusal::Limit { which: Limit::Line }),
     (b"create\n", Refusal::Unfinished),
+    // Of a batch first a long line, then another word behind the first, then the missing end, and
+    // then the first fault of its block, whose line counts from the block's first.
+    (
+        b"batch x\n1234567890123\n",
+        Refusal::Limit { which: Limit::Line },
+    ),
+    (b"batch x\n.\n", Refusal::Command),
+    (b"batch x\n", Refusal::Command),
+    (b"batch\n", Refusal::Unfinished),
+    (b"batch\n)a\n", Refusal::Unfinished),
+    (b"batch\n(a\n.\n", Refusal::Pyx { line: 1 }),
+    (b"batch\n@q\r\n(a\n@q\n.", Refusal::Pyx { line: 3 }),
+    (b"batch\n@\r\n.\n", Refusal::Pyx { line: 1 }),
     (b"create w\n.\n", Refusal::Query),
     (b"delta q\n(a\n.\n", Refusal::Pyx { line: 2 }),
 ];
@@ -26,6 +39,7 @@ fn letter_said(command: &Command) -> u8 {
     match command {
         Command::Declare { .. } => b'S',
         Command::Delta { .. } => b'D',
+        Command::Batch { .. } => b'B',
         Command::Create { .. } => b'C',
         Command::Delete { .. } => b'X',
         Command::Clock { .. } => b'K',
@@ -109,9 +123,9 @@ fn expect_in_turn(
     let second = b".\nclock 1\n# clock 2\nreport\ndelete w\n\
         create w WHERE <R><a><k>1</></> ELEMENT_AS $g</> IN q\n";
     expect_more(rt, reader, out, second, b"SDKRX")?;
-    let third = b"CONSTRUCT $g DO print\n.\nclock x\nreport";
-    expect_more(rt, reader, out, third, b"SDKRXC!")?;
-    expect_end(rt, reader, out, b"SDKRXC!R")?;
+    let third = b"CONSTRUCT $g DO print\n.\nclock x\nbatch\n.\nbatch\n@q\n!k\n@ r\n@q\n.\nreport";
+    expect_more(rt, reader, out, third, b"SDKRXC!BB")?;
+    expect_end(rt, reader, out, b"SDKRXC!BBR")?;
     assert!(rt; has_ended(reader)?);
     Ok(())
 }

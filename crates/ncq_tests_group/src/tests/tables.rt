@@ -6,16 +6,16 @@ ghost use Rattle.std.specs.Prelude.{◌≡◌, ◌<◌, IfOk, OnOk};
 ghost use Rattle.ncq_plan.specs.WellFormed.{IsWellFormed};
 ghost use Rattle.ncq_feed.specs.Feeds.{IsPreparedFrom};
 ghost use Rattle.ncq_shelf.specs.Stands.{IsThere};
-ghost use Rattle.ncq_source.specs.StoreStates.{IsDeclared};
+ghost use Rattle.ncq_source.specs.StoreStates.{AreDeclared};
 ghost use Rattle.ncq_tests_group.specs.Tables.{StandsFor};
 
 use super::queries::sources;
-use ncq_base::{FileId, Lines, Steps, is_line};
+use ncq_base::{FileId, Lines, Steps, bytes_of, is_line};
 use ncq_bind::bind;
 use ncq_group::GroupTable;
 use ncq_plan::{NormalQuery, plan};
 use ncq_pyx::{Items, read_block};
-use ncq_source::{Change, Store};
+use ncq_source::{Change, Section, Sections, Store};
 use ncq_xmlql::parse_statement;
 use std::alloc::Global;
 use std::hash::RandomState;
@@ -30,38 +30,97 @@ const JOINED: &str = "create j where \
     <Quotes><Quote><Symbol>INTC</><Area>$a</></></> in quotes, \
     <Companies><Company><Area>$a</></></> in companies construct <r/> do print";
 
-/// A source, the lines of a change of it, parted by slashes, the files that get rows, how many rows
-/// each file has left then, and the file that is compacted.
-type Turn = (&'static str, &'static str, &'static [u64], [usize; 4], u64);
+/// The sections of a change, each a source and the lines of its items, parted by slashes; the files
+/// that get rows, how many rows each file has left then, and the file that is compacted.
+type Turn = (&'static [Asked], &'static [u64], [usize; 4], u64);
 
-const TURNS: [Turn; 4] = [
+/// A source, and what is asked of it.
+type Asked = (&'static str, &'static str);
+
+/// One source after the other.
+const TURNS: &[Turn] = &[
     // A quote of INTC comes; there is no company yet.
     (
-        "quotes",
-        "(Quote/(Symbol/-INTC/)Symbol/(Area/-Chips/)Area/)Quote",
+        &[(
+            "quotes",
+            "(Quote/(Symbol/-INTC/)Symbol/(Area/-Chips/)Area/)Quote",
+        )],
         &[0, 1],
         [1, 1, 0, 0],
         1,
     ),
     // Two companies come; the first has the area of the quote.
     (
-        "companies",
-        "(Company/(Symbol/-A/)Symbol/(Area/-Chips/)Area/)Company/\
-         (Company/(Symbol/-B/)Symbol/(Area/-Code/)Area/)Company",
+        &[(
+            "companies",
+            "(Company/(Symbol/-A/)Symbol/(Area/-Chips/)Area/)Company/\
+             (Company/(Symbol/-B/)Symbol/(Area/-Code/)Area/)Company",
+        )],
         &[2, 3],
         [1, 1, 2, 1],
         3,
     ),
     // Another quote is none of INTC.
     (
-        "quotes",
-        "(Quote/(Symbol/-MSFT/)Symbol/(Area/-Code/)Area/)Quote",
+        &[(
+            "quotes",
+            "(Quote/(Symbol/-MSFT/)Symbol/(Area/-Code/)Area/)Quote",
+        )],
         &[0],
         [2, 1, 2, 1],
         0,
     ),
     // The quote of INTC goes, and its pair with it.
-    ("quotes", "!INTC", &[0, 1, 3], [1, 0, 2, 0], 3),
+    (&[("quotes", "!INTC")], &[0, 1, 3], [1, 0, 2, 0], 3),
+];
+
+/// Both sources at once: each pair comes once and goes once.
+const TOGETHER: &[Turn] = &[
+    // A quote of INTC comes, and two companies; the first has the area of the quote.
+    (
+        &[
+            (
+                "quotes",
+                "(Quote/(Symbol/-INTC/)Symbol/(Area/-Chips/)Area/)Quote",
+            ),
+            (
+                "companies",
+                "(Company/(Symbol/-A/)Symbol/(Area/-Chips/)Area/)Company/\
+                 (Company/(Symbol/-B/)Symbol/(Area/-Code/)Area/)Company",
+            ),
+        ],
+        &[0, 1, 2, 3],
+        [1, 1, 2, 1],
+        1,
+    ),
+    // INTC moves to the area of B, A goes, and C comes there: the pair with A goes, and those with
+    // B and C come. The second section of the quotes brings one that is none of INTC.
+    (
+        &[
+            (
+                "quotes",
+                "(Quote/(Symbol/-INTC/)Symbol/(Area/-Code/)Area/)Quote",
+            ),
+            (
+                "companies",
+                "!A/(Company/(Symbol/-C/)Symbol/(Area/-Code/)Area/)Company",
+            ),
+            (
+                "quotes",
+                "(Quote/(Symbol/-MSFT/)Symbol/(Area/-Code/)Area/)Quote",
+            ),
+        ],
+        &[0, 1, 2, 3],
+        [2, 1, 2, 2],
+        3,
+    ),
+    // The companies of both pairs go, and so does the quote.
+    (
+        &[("companies", "!B/!C"), ("quotes", "!INTC")],
+        &[0, 1, 2, 3],
+        [1, 0, 0, 0],
+        2,
+    ),
 ];
 
 /// The items that the lines, parted by slashes, spell.
@@ -74,23 +133,28 @@ fn items_of(rt: &impl Abort, alloc: Global, text: &str) -> Result<Items, Fail> {
     Ok(read_block(alloc, &lines)?)
 }
 
-/// The change of the source that the lines ask for.
-pub(super) fn change_of(
-    rt: &impl Abort,
-    alloc: Global,
-    store: &Store,
-    source: &str,
-    text: &str,
-) -> Result<Change, Fail>
+/// The sections that are asked.
+fn sections_of(rt: &impl Abort, alloc: Global, asked: &[Asked]) -> Result<Sections, Fail> {
+    let mut sections = Sections::new(alloc);
+    for (source, text) in asked {
+        let source = bytes_of(alloc, source.as_bytes())?;
+        let items = items_of(rt, alloc, text)?;
+        sections.push(Section { source, items })?;
+    }
+    Ok(sections)
+}
+
+/// The change that the sections ask for.
+fn change_of(rt: &impl Abort, alloc: Global, store: &Store, asked: &[Asked]) -> Result<Change, Fail>
     ensures prepared { IfOk result (IsPreparedFrom store.now) }
-    ensures declared { IfOk result (λ change. IsDeclared store.now change.source) }
+    ensures declared { IfOk result (AreDeclared store.now) }
 {
-    let items = items_of(rt, alloc, text)?;
-    Ok(store.prepare(alloc, source.as_bytes(), &items)?)
+    let sections = sections_of(rt, alloc, asked)?;
+    Ok(store.prepare(alloc, &sections)?)
 }
 
 /// The normal query of a statement.
-pub(super) fn query_of(alloc: Global, store: &Store, text: &str) -> Result<NormalQuery, Fail>
+fn query_of(alloc: Global, store: &Store, text: &str) -> Result<NormalQuery, Fail>
     ensures { IfOk result IsWellFormed }
 {
     let statement = parse_statement(alloc, text.as_bytes())?;
@@ -98,7 +162,7 @@ pub(super) fn query_of(alloc: Global, store: &Store, text: &str) -> Result<Norma
 }
 
 /// The store has no change yet.
-pub(super) fn expect_start(rt: &impl Abort, store: &Store)
+fn expect_start(rt: &impl Abort, store: &Store)
     ensures { store.now.changes ≡ 0 }
 {
     assert!(rt; store.changes() == 0);
@@ -142,7 +206,7 @@ fn feed<L: Ledger>(
 ) -> Result<(), Fail>
     requires stands { StandsFor store.old table.old }
     requires prepared { IsPreparedFrom store.old change }
-    requires declared { IsDeclared store.old change.source }
+    requires declared { AreDeclared store.old change }
     ensures { OnOk result (StandsFor store.new table.new) }
 {
     expect_few(rt, store);
@@ -231,8 +295,8 @@ fn take_turn<L: Ledger>(
     requires { StandsFor store.old table.old }
     ensures { OnOk result (StandsFor store.new table.new) }
 {
-    let (source, text, named, rows, file) = turn;
-    let change = change_of(rt, alloc, store, source, text)?;
+    let (asked, named, rows, file) = turn;
+    let change = change_of(rt, alloc, store, asked)?;
     feed(rt, alloc, table, store, change, named, steps)?;
     expect_rows(rt, alloc, table, store, rows)?;
     compact(rt, alloc, table, store, *file)?;
@@ -247,6 +311,7 @@ fn take_turns<L: Ledger>(
     host: &HostRuntime,
     seed: RandomState,
     blank: Blank,
+    turns: &[Turn],
 ) -> Result<(), Fail>
     requires name { blank.name ≡ L.name }
     requires parts { blank.parts ≡ L.parts }
@@ -256,14 +321,20 @@ fn take_turns<L: Ledger>(
     let mut steps = Steps::<L>::new(host, blank);
     let mut store = sources(alloc, seed)?;
     let mut table = table_of(rt, alloc, &store, JOINED, &mut steps)?;
-    for turn in &TURNS {
+    for turn in turns {
         take_turn(rt, alloc, &mut table, &mut store, turn, &mut steps)?;
     }
-    assert!(rt; store.changes() == 4 && table.number() == 4);
+    let taken = turns.len() as u64;
+    assert!(rt; store.changes() == taken && table.number() == taken);
     Ok(())
 }
 
 #[test]
 fn a_table_is_fed_and_compacted(rt: HostRuntime) -> Result<(), Fail> {
-    take_turns::<Brand>(&rt, &rt, RandomState::new(&rt)?, Blank::new(1))
+    take_turns::<Brand>(&rt, &rt, RandomState::new(&rt)?, Blank::new(1), TURNS)
+}
+
+#[test]
+fn both_sides_of_a_join_are_fed_at_once(rt: HostRuntime) -> Result<(), Fail> {
+    take_turns::<Brand>(&rt, &rt, RandomState::new(&rt)?, Blank::new(1), TOGETHER)
 }

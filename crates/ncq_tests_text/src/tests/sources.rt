@@ -1,13 +1,13 @@
-//! Deltas of sources in turn, what their elements and entries are, and the keys of elements.
+//! Deltas and batches in turn, what their elements and entries are, and the keys of elements.
 
 ghost use Rattle.std.specs.Prelude.{◌<◌, ◌^◌, ◌-◌};
-ghost use Rattle.ncq_source.specs.StoreStates.{IsDeclared};
+ghost use Rattle.ncq_source.specs.StoreStates.{AreDeclared};
 
-use super::items_of;
+use super::{items_of, sections_of};
 use ncq_base::{Bytes, Copied, Shared, bytes_of};
-use ncq_pyx::{Item, Items, Written, write_element};
+use ncq_pyx::{Item, Written, write_element};
 use ncq_source::{
-    Change, ChangeError, DeclareError, Entry, Key, SourceId, Store, child_value, key_of,
+    Change, ChangeError, DeclareError, Entry, Key, Portion, SourceId, Store, child_value, key_of,
 };
 use ncq_tree::{Attribute, Attributes, Element, Forest, Node, string_value};
 use std::alloc::{AllocError, Global};
@@ -97,7 +97,7 @@ fn sources(alloc: Global, seed: RandomState) -> Result<Store, AllocError> {
 
 /// Gives the change room and commits it: its number.
 fn commit(alloc: Global, store: &mut Store, change: Change) -> Result<String, AllocError>
-    requires declared { IsDeclared store.old change.source }
+    requires declared { AreDeclared store.old change }
     requires more { store.old.changes < 2 ^ 64 - 1 }
 {
     store.reserve(&change)?;
@@ -115,28 +115,31 @@ fn reason(alloc: Global, error: ChangeError) -> Result<String, AllocError> {
     }
 }
 
-/// The change that the lines ask for, prepared, given room and committed: its number, or why there
-/// is none.
-fn deliver(alloc: Global, store: &mut Store, name: &str, text: &str) -> Result<String, AllocError> {
+/// The change that the sections ask for, each with a source and lines: prepared, given room and
+/// committed. Its number, or why there is none.
+fn deliver(
+    alloc: Global,
+    store: &mut Store,
+    sections: &[(&str, &str)],
+) -> Result<String, AllocError> {
     if store.changes() == u64::MAX {
         return Err(AllocError);
     }
-    let items = items_of(alloc, text)?;
-    match store.prepare(alloc, name.as_bytes(), &items) {
+    let sections = sections_of(alloc, sections)?;
+    match store.prepare(alloc, &sections) {
         Ok(change) => commit(alloc, store, change),
         Err(error) => reason(alloc, error),
     }
 }
 
-/// Whether the lines get this answer.
+/// Whether the sections get this answer.
 fn is_answered(
     alloc: Global,
     store: &mut Store,
-    name: &str,
-    text: &str,
+    sections: &[(&str, &str)],
     want: &str,
 ) -> Result<bool, AllocError> {
-    let answer = deliver(alloc, store, name, text)?;
+    let answer = deliver(alloc, store, sections)?;
     Ok(answer.as_str() == want)
 }
 
@@ -276,7 +279,10 @@ fn expect_delta(
     delta: &(&str, &str, &str, &str),
 ) -> Result<(), AllocError> {
     let (name, text, answer, elements) = delta;
-    assert!(rt; is_answered(alloc, store, name, text, answer)?, "at {text}");
+    assert!(rt;
+        is_answered(alloc, store, &[(*name, *text)], answer)?,
+        "at {text}"
+    );
     assert!(rt; shows(alloc, store, name, elements)?, "at {text}");
     Ok(())
 }
@@ -304,11 +310,145 @@ fn deltas_are_answered_in_turn(rt: HostRuntime) -> Result<(), Fail> {
     Ok(())
 }
 
+/// Batches in turn: the sections, each with a source and lines; the answer; and what `quotes` and
+/// `companies` then show.
+const BATCHES: &[&[(&[(&str, &str)], &str, &str, &str)]] = &[
+    // a section of a source sees the sections before it
+    &[
+        (
+            &[("quotes", "(Q/(Symbol/-A/)Symbol/)Q"), ("quotes", "!A")],
+            "ok 1",
+            "",
+            "",
+        ),
+        (
+            &[("quotes", "!A"), ("quotes", "(Q/(Symbol/-A/)Symbol/)Q")],
+            "no key 1",
+            "",
+            "",
+        ),
+        (
+            &[
+                ("quotes", "(Q/(Symbol/-A/)Symbol/-1/)Q"),
+                ("companies", ""),
+                ("quotes", "(Q/(Symbol/-B/)Symbol/)Q"),
+                ("companies", "(C/(Symbol/-A/)Symbol/)C"),
+                ("quotes", "!A/(Q/(Symbol/-A/)Symbol/-2/)Q"),
+            ],
+            "ok 2",
+            "A 2|B|",
+            "A|",
+        ),
+    ],
+    // a source does not see the sections of another
+    &[
+        (
+            &[("quotes", "(Q/(Symbol/-A/)Symbol/)Q"), ("companies", "!A")],
+            "no key 2",
+            "",
+            "",
+        ),
+        (
+            &[
+                ("companies", "(C/(Symbol/-A/)Symbol/)C"),
+                ("quotes", "(Q/(Symbol/-A/)Symbol/-1/)Q"),
+            ],
+            "ok 1",
+            "A 1|",
+            "A|",
+        ),
+        (&[("companies", "!A"), ("quotes", "!A")], "ok 2", "", ""),
+    ],
+    // positions count the items of all sections
+    &[
+        (
+            &[
+                (
+                    "quotes",
+                    "(Q/(Symbol/-A/)Symbol/)Q/(Q/(Symbol/-B/)Symbol/)Q",
+                ),
+                ("companies", ""),
+                ("companies", "(C/(Symbol/-A/)Symbol/)C/!B"),
+            ],
+            "no key 4",
+            "",
+            "",
+        ),
+        (
+            &[("quotes", "(Q/(Symbol/-A/)Symbol/)Q"), ("quotes", "(Q/)Q")],
+            "key 2",
+            "",
+            "",
+        ),
+        (&[("companies", "(C/)C"), ("quotes", "!A")], "key 1", "", ""),
+    ],
+    // a source that is not declared comes before each item
+    &[
+        (&[("quotes", "(Q/)Q"), ("nowhere", "")], "no source", "", ""),
+        (
+            &[("nowhere", "(Q/)Q"), ("quotes", "!A")],
+            "no source",
+            "",
+            "",
+        ),
+        (
+            &[("quotes", "(Q/(Symbol/-A/)Symbol/)Q"), ("Companies", "")],
+            "no source",
+            "",
+            "",
+        ),
+    ],
+    // a batch may have no section
+    &[
+        (&[], "ok 1", "", ""),
+        (&[("quotes", ""), ("quotes", "")], "ok 2", "", ""),
+        (&[], "ok 3", "", ""),
+    ],
+];
+
+/// Delivers a batch, and compares.
+fn expect_batch(
+    rt: &impl Abort,
+    alloc: Global,
+    store: &mut Store,
+    batch: &(&[(&str, &str)], &str, &str, &str),
+) -> Result<(), AllocError> {
+    let (sections, answer, quotes, companies) = batch;
+    let got = deliver(alloc, store, sections)?;
+    assert!(rt; got.as_str() == *answer, "{got} in place of {answer}");
+    assert!(rt; shows(alloc, store, "quotes", quotes)?, "at {answer}");
+    assert!(rt; shows(alloc, store, "companies", companies)?, "at {answer}");
+    Ok(())
+}
+
+/// Delivers the batches to a new store, and compares.
+fn expect_batches(
+    rt: &impl Abort,
+    alloc: Global,
+    seed: RandomState,
+    batches: &[(&[(&str, &str)], &str, &str, &str)],
+) -> Result<(), AllocError> {
+    let mut store = sources(alloc, seed)?;
+    for batch in batches {
+        expect_batch(rt, alloc, &mut store, batch)?;
+    }
+    Ok(())
+}
+
+#[test]
+fn batches_are_answered_in_turn(rt: HostRuntime) -> Result<(), Fail> {
+    let seed = RandomState::new(&rt)?;
+    for batches in BATCHES {
+        expect_batches(&rt, rt.alloc(), seed, batches)?;
+    }
+    Ok(())
+}
+
 /// Sources by name: the root, and the last change.
 const TOLD: &[(&str, &str, u64)] = &[
-    ("quotes", "Quotes", 1),
+    ("quotes", "Quotes", 4),
     ("companies", "Companies", 3),
-    ("c", "Cs", 0),
+    ("c", "Cs", 4),
 ];
 
 /// Compares what the store says of the source of this name.
@@ -324,7 +464,7 @@ fn expect_source(rt: &impl Abort, store: &Store, name: &str, root: &str, last: u
 /// Delivers deltas without items.
 fn deliver_nothing(alloc: Global, store: &mut Store, names: &[&str]) -> Result<(), AllocError> {
     for name in names {
-        deliver(alloc, store, name, "")?;
+        deliver(alloc, store, &[(*name, "")])?;
     }
     Ok(())
 }
@@ -333,6 +473,7 @@ fn expect_told(rt: &impl Abort, alloc: Global, store: &mut Store) -> Result<(), 
     assert!(rt; !declare_by_attribute(alloc, store, "quotes", "Q", "id")?);
     assert!(rt; store.count() == 3);
     deliver_nothing(alloc, store, &["quotes", "companies", "companies"])?;
+    deliver(alloc, store, &[("c", ""), ("quotes", "")])?;
     for (name, root, last) in TOLD {
         expect_source(rt, store, name, root, *last);
     }
@@ -377,7 +518,7 @@ fn has_lines(alloc: Global, store: &Store, name: &str, want: &str) -> Result<boo
 
 fn expect_put(rt: &impl Abort, alloc: Global, store: &mut Store) -> Result<(), AllocError> {
     let text = "(C/Aid 7/-a/- b/?x/-\\n/)C";
-    assert!(rt; is_answered(alloc, store, "c", text, "ok 1")?);
+    assert!(rt; is_answered(alloc, store, &[("c", text)], "ok 1")?);
     assert!(rt; has_lines(alloc, store, "c", "(C\nAid 7\n-a b\n)C\n")?);
     Ok(())
 }
@@ -435,22 +576,104 @@ fn expect_entries(
     Ok(())
 }
 
-/// The change of the items, prepared for the source `quotes`.
-fn change_of(alloc: Global, seed: RandomState, items: Items) -> Result<Change, AllocError> {
+/// The change of the sections.
+fn change_of(
+    alloc: Global,
+    seed: RandomState,
+    sections: &[(&str, &str)],
+) -> Result<Change, AllocError> {
     let store = sources(alloc, seed)?;
-    match store.prepare(alloc, b"quotes", &items) {
+    let sections = sections_of(alloc, sections)?;
+    match store.prepare(alloc, &sections) {
         Ok(change) => Ok(change),
         Err(_) => Err(AllocError),
     }
+}
+
+/// Compares the source of the portion, and the elements that each of its entries has of its key.
+fn expect_portion(
+    rt: &impl Abort,
+    alloc: Global,
+    portion: &Portion,
+    source: usize,
+    wanted: &[(&str, &str)],
+) -> Result<(), AllocError> {
+    assert!(rt; portion.source == SourceId(source));
+    expect_entries(rt, alloc, portion.entries.as_slice(), wanted)
+}
+
+/// Compares the portions of a change.
+fn expect_portions(
+    rt: &impl Abort,
+    alloc: Global,
+    portions: &[Portion],
+    wanted: &[(usize, &[(&str, &str)])],
+) -> Result<(), AllocError> {
+    assert!(rt; portions.len() == wanted.len());
+    for (portion, (source, entries)) in portions.iter().zip(wanted) {
+        expect_portion(rt, alloc, portion, *source, entries)?;
+    }
+    Ok(())
 }
 
 #[test]
 fn an_entry_sees_the_items_before_it(rt: HostRuntime) -> Result<(), Fail> {
     let (text, wanted) = SEEN;
     let seed = RandomState::new(&rt)?;
-    let change = change_of(rt.alloc(), seed, items_of(rt.alloc(), text)?)?;
-    assert!(rt; change.source() == SourceId(0));
-    expect_entries(&rt, rt.alloc(), change.entries(), wanted)?;
+    let change = change_of(rt.alloc(), seed, &[("quotes", text)])?;
+    expect_portions(&rt, rt.alloc(), change.portions(), &[(0, wanted)])?;
+    Ok(())
+}
+
+/// Sections, and the portions of their change: the place of a source, and the string values that
+/// each key has before and after each item.
+const PORTIONS: &[(&[(&str, &str)], &[(usize, &[(&str, &str)])])] = &[
+    (&[], &[]),
+    (&[("companies", "")], &[(1, &[])]),
+    (
+        &[
+            ("c", "(C/Aid 7/-a/)C"),
+            ("quotes", "(Q/(Symbol/-A/)Symbol/)Q"),
+            ("c", "!7/(C/Aid 7/-b/)C"),
+        ],
+        &[
+            (0, &[("|", "A")]),
+            (2, &[("|", "a"), ("a", "|"), ("|", "b")]),
+        ],
+    ),
+];
+
+#[test]
+fn the_portions_of_a_change_rise_by_source(rt: HostRuntime) -> Result<(), Fail> {
+    let seed = RandomState::new(&rt)?;
+    for (sections, wanted) in PORTIONS {
+        let change = change_of(rt.alloc(), seed, sections)?;
+        expect_portions(&rt, rt.alloc(), change.portions(), wanted)?;
+    }
+    Ok(())
+}
+
+/// Sections are counted, and shown by their places.
+fn expect_sections(
+    rt: &impl Abort,
+    alloc: Global,
+    wanted: &[(&str, &str)],
+) -> Result<(), AllocError> {
+    let sections = sections_of(alloc, wanted)?;
+    assert_eq!(rt; sections.len(), wanted.len());
+    for (at, (name, _)) in wanted.iter().enumerate() {
+        let source = sections.get(at).map(|section| section.source.as_slice());
+        assert!(rt; source == Some(name.as_bytes()));
+    }
+    assert!(rt; sections.get(wanted.len()).is_none());
+    Ok(())
+}
+
+#[test]
+fn sections_are_a_list(rt: HostRuntime) -> Result<(), Fail> {
+    for (sections, _) in PORTIONS {
+        expect_sections(&rt, rt.alloc(), sections)?;
+    }
     Ok(())
 }
 

@@ -3,7 +3,7 @@
 ghost use Rattle.std.specs.Prelude.{IfOk};
 ghost use Rattle.ncq_source.specs.StoreStates.{IsDeclared};
 
-use super::{expect_bytes, items_of};
+use super::{expect_bytes, items_of, sections_of};
 use ncq_base::bytes_of;
 use ncq_pyx::Item;
 use ncq_source::{Entry, Key, SourceId, Store};
@@ -76,9 +76,11 @@ fn expect_put(rt: &impl Abort, entries: &[Entry]) {
 #[test]
 fn a_store_takes_what_was_put(rt: HostRuntime) -> Result<(), Fail> {
     let (mut store, _) = quotes(rt.alloc(), RandomState::new(&rt)?)?;
-    let items = items_of(rt.alloc(), INTC)?;
-    let change = store.prepare(rt.alloc(), b"quotes", &items)?;
-    expect_put(&rt, change.entries());
+    let sections = sections_of(rt.alloc(), &[("quotes", INTC)])?;
+    let change = store.prepare(rt.alloc(), &sections)?;
+    for portion in change.portions() {
+        expect_put(&rt, portion.entries.as_slice());
+    }
     store.reserve(&change)?;
     assert!(rt; store.changes() == 0);
     store.commit(change);

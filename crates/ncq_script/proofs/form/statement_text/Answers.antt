@@ -1,4 +1,4 @@
-use Rattle.std.proofs.Common.{◌≡◌, ◌++◌, ◌∷◌, ◌∙◌, [], ap, sym, ℕ, List, rules}
+use Rattle.std.proofs.Common.{◌≡◌, ◌++◌, ◌∷◌, ◌∙◌, [], ap, ℕ, List}
 use Rattle.std.specs.List.{flat_map}
 use Rattle.ncq_script.specs.Forms.{next_line}
 use Rattle.ncq_script.proofs.TextLaws.{text_fed, text_popped}

@@ -1,4 +1,4 @@
-use Rattle.std.proofs.Common.{◌≡◌, ◌∙◌, ◌+◌, arith, ap, refl, rules, subst, sym}
+use Rattle.std.proofs.Common.{◌≡◌, ◌∙◌, ◌+◌, ℕ, List, arith, ap, refl, rules, subst, sym}
 use Rattle.std.specs.Prelude.{Err, Ok, IfNone, IfSome}
 use Rattle.std.proofs.Math.Seq.{take-length}
 use Rattle.std.specs.FinMap.{get}
@@ -9,33 +9,31 @@ use Rattle.ncq_group.specs.Tables.{mark_of}
 use Rattle.ncq_group.specs.declared.mark.GroupMark.{GroupMark}
 use Rattle.ncq_script.specs.declared.command.Command.TheVariants.{Delta}
 use Rattle.ncq_shelf.specs.Contents.{cut_to}
-use Rattle.ncq_source.specs.StoreStates.{found}
-use Rattle.ncq_engine.specs.declared.engine.ApplyError.TheVariants.{OutOfMemory}
-use Rattle.ncq_engine.specs.Applies.{Applies, change_refusal}
+use Rattle.ncq_engine.specs.Applies.{Applies, GivesUp, change_refusal}
 use Rattle.ncq_engine.specs.Stands.{EngineState}
 use Rattle.ncq_engine.specs.Tellings.{IsAnswered, started_of}
 use Rattle.ncq_engine.proofs.ChangeAnswers.{IsFed, IsReserved, can_tell, change_answers, changed_engine, holds_changed, holds_ready, is_prepared}
-use Rattle.ncq_engine.proofs.ChangeLaws.{change_refused, good_entries}
+use Rattle.ncq_engine.proofs.ChangeLaws.{change_refused, told_known}
+use Rattle.ncq_engine.specs.declared.engine.ApplyError.TheVariants.{OutOfMemory}
 use Rattle.ncq_engine.proofs.GivenUp.{IsStill, given_up}
 use Rattle.ncq_engine.proofs.InvariantLaws.{invariant_alike, invariant_same}
 use Rattle.ncq_engine.proofs.TableLaws.{table_back}
 use Rattle.ncq_engine.proofs.Views.{view_of}
 use Rattle.ncq_engine.proofs.WorkAnswers.{change_work}
 use Rattle.ncq_engine.proofs.engine.Engine.change.Given.{Over}
-use Rattle.ncq_engine.proofs.engine.Engine.change.Goals.{After-facts-2, After-roll_back, In_err-fed, In_ok-reserve}
+use Rattle.ncq_engine.proofs.engine.Engine.change.Goals.{After-facts-2, After-roll_back, In_err-fed, In_ok-reserve, in-One-3, in-Several-3}
 use Rattle.ncq_engine.proofs.engine.Engine.change.Goals as goal
 
 -- the change was prepared, and there is room for it
-reserved : (g : Over) (c : In_ok-reserve g) → IsReserved (view_of c.self.inside) c.args.source.now c.args.items.now c.in-Ok.change c.reserve.new.self
+reserved : (g : Over) (c : In_ok-reserve g) → IsReserved (view_of c.self.inside) c.args.sections.now c.in-Ok.change c.reserve.new.self
 reserved g c =
-    let store = c.self.inside.store in
-    let here = ap (found store) (sym c.as_slice.ensures) ∙ c.in-Ok.ensures.source in
+    let told = told_known c.self.inside.store c.args.sections.now c.prepare.result c.in-Ok.change c.in-Ok.is c.prepare.ensures.tells in
     record {
       holds = c.self.invariant;
-      here = here;
       alike = c.in_ok-reserve.ensures.same;
-      prepares = c.in-Ok.ensures.prepared;
-      good = good_entries store c.args.source.now c.args.items.now c.prepare.result c.in-Ok.change c.in-Ok.is here (λ at d f there. c.prepare.ensures.some at d (ap (found store) c.as_slice.ensures ∙ f) there);
+      known = told.0;
+      tried = told.1;
+      prepares = c.in-Ok.ensures.portions;
     }
 
 -- and the files were fed
@@ -56,7 +54,7 @@ unfed : (g : Over) (c : In_err-fed g) → IsStill (view_of c.self.inside) c.feed
 unfed g c = record { subscriptions = c.feed.ensures.subscriptions; table = c.in_err-fed.ensures.err; instant = c.feed.ensures.instant }
 
 -- the files were fed, and what came was taken away again
-rolled_back : (g : Over) (c : After-roll_back g) → IsReserved (view_of c.self.inside) c.args.source.now c.args.items.now c.in-Ok.change c.reserve.new.self → IsStill (view_of c.self.inside) c.roll_back.new.self
+rolled_back : (g : Over) (c : After-roll_back g) → IsReserved (view_of c.self.inside) c.args.sections.now c.in-Ok.change c.reserve.new.self → IsStill (view_of c.self.inside) c.roll_back.new.self
 rolled_back g c reserved =
     let table = c.self.inside.live_table.table in
     let mark : c.mark-mark.result ≡ mark_of table = c.mark-mark.ensures in
@@ -71,9 +69,8 @@ rolled_back g c reserved =
 pub returns-in-Err-clause-applies : goal.returns-in-Err-clause-applies
 returns-in-Err-clause-applies g c =
     let was = view_of c.self.inside in
-    subst (λ (e : EngineState). Applies e (Delta c.args.source.now c.args.items.now) c.args.out.now.items c.refuse_change.result c.refuse_change.new.self c.args.out.now.items) c.self.view_is
-    (change_refused was c.args.source.now c.as_slice.result.now c.args.items.now
-    c.as_slice.ensures c.prepare.result c.prepare.ensures.only c.prepare.ensures.none c.prepare.ensures.some c.args.out.now.items c.refuse_change.result c.refuse_change.new.self c.args.out.now.items refl
+    subst (λ (e : EngineState). Applies e (Delta c.args.sections.now) c.args.out.now.items c.refuse_change.result c.refuse_change.new.self c.args.out.now.items) c.self.view_is
+    (change_refused was c.args.sections.now c.prepare.result c.prepare.ensures.tells c.args.out.now.items c.refuse_change.result c.refuse_change.new.self c.args.out.now.items refl
     c.in-Err.error c.in-Err.is c.refuse_change.ensures.refused
     (subst (λ (e : EngineState). IfSome (change_refusal c.in-Err.error) (λ _. c.refuse_change.new.self ≡ record e { count = e.count + 1 })) (sym c.self.view_is) c.refuse_change.ensures.counted)
     (subst (λ (e : EngineState). IfNone (change_refusal c.in-Err.error) (c.refuse_change.new.self ≡ e)) (sym c.self.view_is) c.refuse_change.ensures.same))
@@ -121,32 +118,47 @@ invariant_of-self-in-Err-answer_change g c =
     let still = rolled_back g at.After-roll_back ready in
     invariant_same (record (view_of c.self.inside) { store = c.reserve.new.self }) c.roll_back.new.self still.subscriptions still.table (holds_ready ready)
 
+pub invariant_of-self-in-Err-answer_change-2 : goal.invariant_of-self-in-Err-answer_change-2
+invariant_of-self-in-Err-answer_change-2 g c =
+    let at = goal.at.invariant_of-self-in-Err-answer_change-2 g c in
+    let ready = reserved g at.In_ok-reserve in
+    let still = rolled_back g at.After-roll_back ready in
+    invariant_same (record (view_of c.self.inside) { store = c.reserve.new.self }) c.roll_back.new.self still.subscriptions still.table (holds_ready ready)
+
 pub returns-in-Ok-answer_change-clause-applies : goal.returns-in-Ok-answer_change-clause-applies
 returns-in-Ok-answer_change-clause-applies g c =
     let at = goal.at.returns-in-Ok-answer_change-clause-applies g c in
     let known = labels c.args.handlers.now.items.items (λ h. h.name) (λ h. h.kind) in
     let after = c.feed.new.self in
-    let told = subst (λ list. IsAnswered (c.self.inside.count + 1) known c.reserve.new.self after (started_of after (watchers_of list after.subscriptions)) c.args.out.now.items c.answer_change.new.out.items c.in-Ok-answer_change.answered) c.as_slice-2.ensures c.in-Ok-answer_change.ensures.told in
-    subst (λ (e : EngineState). Applies e (Delta c.args.source.now c.args.items.now) c.args.out.now.items (Ok c.in-Ok-answer_change.answered) (changed_engine (view_of c.self.inside) c.commit.new.self after) c.answer_change.new.out.items) c.self.view_is
+    let told = subst (λ list. IsAnswered (c.self.inside.count + 1) known c.reserve.new.self after (started_of after (watchers_of list after.subscriptions)) c.args.out.now.items c.answer_change.new.out.items c.in-Ok-answer_change.answered) c.as_slice.ensures c.in-Ok-answer_change.ensures.told in
+    subst (λ (e : EngineState). Applies e (Delta c.args.sections.now) c.args.out.now.items (Ok c.in-Ok-answer_change.answered) (changed_engine (view_of c.self.inside) c.commit.new.self after) c.answer_change.new.out.items) c.self.view_is
     (change_answers (reserved g at.In_ok-reserve) (fed g at.After-facts-2) c.commit.new.self c.commit.ensures.done known (ap (λ (e : EngineState). e.labels) c.self.view_is ∙ c.requires.handlers)
     c.args.out.now.items c.answer_change.new.out.items c.in-Ok-answer_change.answered told)
 
 pub returns-in_err-reserve-clause-applies : goal.returns-in_err-reserve-clause-applies
 returns-in_err-reserve-clause-applies g c =
-    given_up c.self.view_is (Delta c.args.source.now c.args.items.now) c.args.out.now.items c.from_residual.result (search rules) c.reserve.new.self c.in_err-reserve.ensures.same
+    given_up c.self.view_is (Delta c.args.sections.now) c.args.out.now.items c.from_residual.result (search rules) c.reserve.new.self c.in_err-reserve.ensures.same
     c.self.inside.live_table (record { subscriptions = refl; table = refl; instant = refl }) c.args.out.now.items (take-length c.args.out.now.items)
 
 pub returns-in_err-fed-clause-applies : goal.returns-in_err-fed-clause-applies
 returns-in_err-fed-clause-applies g c =
     let at = goal.at.returns-in_err-fed-clause-applies g c in
-    given_up c.self.view_is (Delta c.args.source.now c.args.items.now) c.args.out.now.items c.from_residual-in_err-fed.result (search rules) c.reserve.new.self c.in_ok-reserve.ensures.same
+    given_up c.self.view_is (Delta c.args.sections.now) c.args.out.now.items c.from_residual-in_err-fed.result (search rules) c.reserve.new.self c.in_ok-reserve.ensures.same
     c.feed.new.self (unfed g at.In_err-fed) c.args.out.now.items (take-length c.args.out.now.items)
+
+-- the change that is dropped leaves the engine that is given up
+dropped : (was : EngineState) (out out' : List ℕ) → {left e : EngineState} → left ≡ e → GivesUp was out e out' → GivesUp was out left out'
+dropped was out out' is = subst (λ (e : EngineState). GivesUp was out e out') (sym is)
 
 pub returns-in-Err-answer_change-clause-applies : goal.returns-in-Err-answer_change-clause-applies
 returns-in-Err-answer_change-clause-applies g c =
     let at = goal.at.returns-in-Err-answer_change-clause-applies g c in
-    given_up c.self.view_is (Delta c.args.source.now c.args.items.now) c.args.out.now.items (Err OutOfMemory) refl c.reserve.new.self c.in_ok-reserve.ensures.same
-    c.roll_back.new.self (rolled_back g at.After-roll_back (reserved g at.In_ok-reserve)) c.answer_change.new.out.items c.answer_change.ensures.front
+    let given = given_up c.self.view_is (Delta c.args.sections.now) c.args.out.now.items (Err OutOfMemory) refl c.reserve.new.self c.in_ok-reserve.ensures.same
+    c.roll_back.new.self (rolled_back g at.After-roll_back (reserved g at.In_ok-reserve)) c.answer_change.new.out.items c.answer_change.ensures.front in
+    elim c.match-change-3.branch [
+      | in-One-3 w ↦ dropped c.args.self.now c.args.out.now.items c.answer_change.new.out.items w.self-is given
+      | in-Several-3 w ↦ dropped c.args.self.now c.args.out.now.items c.answer_change.new.out.items w.self-is given
+    ]
 
 pub returns-in-Ok-answer_change-clause-work : goal.returns-in-Ok-answer_change-clause-work
 returns-in-Ok-answer_change-clause-work g c = change_work c.self.view_is c.args.steps.now c.feed.new.steps (reserved g (goal.at.returns-in-Ok-answer_change-clause-work g c).In_ok-reserve) c.feed.ensures.cost

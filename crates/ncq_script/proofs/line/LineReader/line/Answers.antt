@@ -1,4 +1,4 @@
-use Rattle.std.proofs.Common.{◌≡◌, ◌∙◌, ℕ, List, ap, drop, length, rules, sym, take}
+use Rattle.std.proofs.Common.{◌≡◌, ◌∙◌, ℕ, List, ap, drop, length, rules, take}
 use Rattle.ncq_base.specs.Lines.{IsClean}
 use Rattle.ncq_script.proofs.Follow.{alone_line}
 use Rattle.ncq_script.proofs.line.LineReader.line.Goals as goal

@@ -1,4 +1,4 @@
-use Rattle.std.proofs.Common.{◌<◌, ◌-◌, ◌^◌, arith}
+use Rattle.std.proofs.Common.{arith}
 use Rattle.ncq_tests_group.proofs.TableLaws.{declared_alike, stands_fed}
 use Rattle.ncq_tests_group.proofs.tests.tables.feed.Goals as goal
 
@@ -12,7 +12,7 @@ pub feed-requires-clause-fits : goal.feed-requires-clause-fits
 feed-requires-clause-fits g c = c.requires.stands.fits
 
 pub commit-requires-clause-declared : goal.commit-requires-clause-declared
-commit-requires-clause-declared g c = declared_alike c.args.store.now c.reserve.new.self c.args.change.source c.in_ok-reserve.ensures.same c.requires.declared
+commit-requires-clause-declared g c = declared_alike c.args.store.now c.reserve.new.self c.args.change c.in_ok-reserve.ensures.same c.requires.declared
 
 pub commit-requires-clause-more : goal.commit-requires-clause-more
 commit-requires-clause-more g c = let few = c.expect_few.ensures in let same = c.in_ok-reserve.ensures.same.changes in omega (arith, few, same)

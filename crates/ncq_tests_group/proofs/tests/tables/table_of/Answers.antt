@@ -1,4 +1,4 @@
-use Rattle.std.proofs.Common.{sym, subst, ◌∙◌, ◌≤◌, ◌-◌, ◌^◌, arith}
+use Rattle.std.proofs.Common.{sym, subst, ◌∙◌, arith}
 use Rattle.ncq_plan.specs.WellFormed.{IsWellFormedExpr}
 use Rattle.ncq_plan.proofs.PlanFits.{plan_is_well_formed}
 use Rattle.ncq_tests_group.proofs.TableLaws.{fits_at_first, stands_installed, uses_at_first}

@@ -1,0 +1,91 @@
+-- A batch is answered as a delta of its sections: the two are one command but for their name.
+use Rattle.std.proofs.Common.{◌≡◌, ℕ, true, false, List, [], ◌∷◌, ◌++◌, refl, subst}
+use Rattle.std.specs.Prelude.{Result, Ok, Err, nat_le, if◌then◌else◌}
+use Rattle.ncq_book.specs.declared.subscription.Subscription.{Subscription as Kept}
+use Rattle.ncq_callback.specs.Labels.{Label}
+use Rattle.ncq_midfile.specs.Content.{IsContent}
+use Rattle.ncq_plan.specs.Exprs.{World, rows_in}
+use Rattle.ncq_script.specs.declared.command.Command.TheVariants.{Delta, Batch}
+use Rattle.ncq_shelf.specs.KeptFiles.{Files}
+use Rattle.ncq_source.specs.declared.change.Section.{Section}
+use Rattle.ncq_engine.specs.Applies.{Applies}
+use Rattle.ncq_engine.specs.Engines.{Pairwise}
+use Rattle.ncq_engine.specs.History.{History, Source, Subscription, changes, live, sources, up_to, with_items, with_sections, world}
+use Rattle.ncq_engine.specs.Notices.{Language}
+use Rattle.ncq_engine.specs.Output.{output}
+use Rattle.ncq_engine.specs.Stands.{AreContents, EngineState, Follows, Keeps}
+use Rattle.ncq_engine.specs.Works.{IsWithinWork}
+use Rattle.ncq_engine.specs.declared.telling.Answered.{Answered}
+use Rattle.ncq_engine.specs.declared.engine.ApplyError.{ApplyError}
+use Rattle.ncq_engine.specs.declared.engine.ApplyError.TheVariants.{OutOfMemory, Refused}
+
+module _ (changed : List Section) (h : History) where
+  same_up_to : (number : ℕ) → world (sources (up_to number (Delta changed ∷ h))) ≡ world (sources (up_to number (Batch changed ∷ h)))
+  same_up_to number =
+      elim (nat_le (changes (Delta changed ∷ h)) number) as (λ t. world (sources (if t then Delta changed ∷ h else up_to number h)) ≡ world (sources (if t then Batch changed ∷ h else up_to number h))) [
+        | true ↦ refl
+        | false ↦ refl
+      ]
+
+  contents_too : (files : Files) → AreContents files (Delta changed ∷ h) → AreContents files (Batch changed ∷ h)
+  contents_too files contents number file change at low few = subst (λ (w : World). IsContent change file.content.rows (rows_in file.expr w)) (same_up_to change) (contents number file change at low few)
+
+  keeps_too : (labels : List Label) (subs : List Subscription) (ms : List Kept) → Pairwise (Keeps labels (Delta changed ∷ h)) subs ms → Pairwise (Keeps labels (Batch changed ∷ h)) subs ms
+  keeps_too labels [] [] p = tt
+  keeps_too labels [] (m ∷ ms) p = absurd p
+  keeps_too labels (s ∷ subs) [] p = absurd p
+  keeps_too labels (s ∷ subs) (m ∷ ms) p =
+      let k = p.0 in (
+        record {
+          name = k.name;
+          sources = k.sources;
+          whole = k.whole;
+          bound = k.bound;
+          query = k.query;
+          timing = k.timing;
+          kind = k.kind;
+          action = k.action;
+          argument = k.argument;
+          install = k.install;
+          marked = k.marked;
+        },
+        keeps_too labels subs ms p.1,
+      )
+
+  follows_too : (engine : EngineState) → Follows engine (Delta changed ∷ h) → Follows engine (Batch changed ∷ h)
+  follows_too engine f = record {
+    sources = f.sources;
+    last = f.last;
+    changes = f.changes;
+    clock = f.clock;
+    creates = f.creates;
+    subscriptions = keeps_too engine.labels (live h) engine.subscriptions f.subscriptions;
+    contents = contents_too engine.table.files f.contents;
+    rising = f.rising;
+  }
+
+-- what the answer to a delta says, said of a batch of its sections
+pub batch_applies : (changed : List Section) (old : EngineState) (out : List ℕ) (result : Result Answered ApplyError) (new : EngineState) (out' : List ℕ)
+    → Applies old (Delta changed) out result new out' → Applies old (Batch changed) out result new out'
+batch_applies changed old out (Ok answered) new out' a = record {
+  accepted = a.accepted;
+  follows = λ h s. follows_too changed h new (a.follows h s);
+  answer = a.answer;
+  counted = a.counted;
+  labels = a.labels;
+  places = λ h s. let p = a.places h s in record { between = record { begins = p.between.begins; ends = p.between.ends }; spans = p.spans };
+}
+batch_applies changed old out (Err (Refused why)) new out' a = record { refused = a.refused; follows = a.follows; counted = a.counted; labels = a.labels; unwritten = a.unwritten }
+batch_applies changed old out (Err OutOfMemory) new out' a = record { follows = a.follows; uncounted = a.uncounted; labels = a.labels; front = a.front }
+
+pub batch_work : (changed : List Section) (engine : EngineState) (old new : ℕ) → IsWithinWork engine (Delta changed) old new → IsWithinWork engine (Batch changed) old new
+batch_work changed engine old new within = within
+
+pub same_output : (language : Language) (history : History) (number : ℕ) (changed : List Section) → output language history number (Batch changed) ≡ output language history number (Delta changed)
+unfolding output
+same_output language history number changed = refl
+
+-- sections that are taken in two parts lead where they lead at once
+pub sections_add_up : (first second : List Section) (all : List Source) → with_sections (first ++ second) all ≡ with_sections second (with_sections first all)
+sections_add_up [] second all = refl
+sections_add_up (section ∷ first) second all = sections_add_up first second (with_items section.source section.items all)
