@@ -1,5 +1,6 @@
 -- What trees hold when an entry comes in or goes out, and what a span rules out.
-use Rattle.std.proofs.Common.{◌≡◌, ℕ, ◌+◌, Bool, true, false, cond, ◌&&◌, nat_eq, map, filter, List, [], ◌∷◌, ◌++◌, refl, sym, ◌∙◌, ap, arith, true≢false}
+use Rattle.std.proofs.Common.{◌≡◌, ℕ, ◌+◌, ◌≤◌, Bool, true, false, cond, ◌&&◌, ◌||◌, nat_eq, map, filter, List, [], ◌∷◌, ◌++◌, refl, sym, ◌∙◌, ap, arith, true≢false}
+use Rattle.std.specs.List.{list_any}
 use Rattle.std.proofs.lemmas.Bool.{eqb-true, eq-eqb}
 use Rattle.ncq_base.specs.Counts.{total_by, SameCounts}
 use Rattle.ncq_base.specs.Intervals.{in_interval}
@@ -147,3 +148,64 @@ same_put e tree new_tree old new put same is = λ f.
     let c = total_by-append f old (e ∷ []) in
     let d = ap (total_by f) is in
     omega arith
+
+-- whether some interval holds the value
+
+or_append : (value : Atom) (xs ys : List Entry) → list_any (λ e. in_interval e.0 value) (xs ++ ys) ≡ (list_any (λ e. in_interval e.0 value) xs || list_any (λ e. in_interval e.0 value) ys)
+or_append value [] ys = refl
+or_append value (x ∷ xs) ys = ap (λ b. in_interval x.0 value || b) (or_append value xs ys) ∙ assoc (in_interval x.0 value) (list_any (λ e. in_interval e.0 value) xs) (list_any (λ e. in_interval e.0 value) ys)
+  where
+    assoc : (a b c : Bool) → (a || (b || c)) ≡ ((a || b) || c)
+    assoc true b c = refl
+    assoc false b c = refl
+
+-- of a fork: its own interval, or one on the left, or one on the right
+pub fork_holds : (value : Atom) (left : List Entry) (entry : Entry) (right : List Entry)
+    → (in_interval entry.0 value || (list_any (λ e. in_interval e.0 value) left || list_any (λ e. in_interval e.0 value) right)) ≡ list_any (λ e. in_interval e.0 value) (left ++ entry ∷ right)
+fork_holds value left entry right = turned (in_interval entry.0 value) (list_any (λ e. in_interval e.0 value) left) (list_any (λ e. in_interval e.0 value) right) ∙ sym (or_append value left (entry ∷ right))
+  where
+    turned : (a b c : Bool) → (a || (b || c)) ≡ (b || (a || c))
+    turned true true c = refl
+    turned true false c = refl
+    turned false b c = refl
+
+-- where the span does not hold it, none does
+pub span_holds : (span : Interval) (value : Atom) (entries : List Entry) → in_interval span value ≡ false → Spans span entries → false ≡ list_any (λ e. in_interval e.0 value) entries
+span_holds span value [] h all = refl
+span_holds span value (e ∷ entries) h all =
+    elim (in_interval e.0 value) as (λ b. in_interval e.0 value ≡ b → false ≡ (b || list_any (λ e. in_interval e.0 value) entries)) [
+      | true ↦ λ t. absurd (true≢false (sym (all.0 value t) ∙ h))
+      | false ↦ λ t. span_holds span value entries h all.1
+    ] refl
+
+-- the same intervals in another order hold the same
+any_times : (value : Atom) (xs : List Entry) (b : Bool) → list_any (λ e. in_interval e.0 value) xs ≡ b → cond b (1 ≤ total_by (λ e. cond (in_interval e.0 value) 1 0) xs) (total_by (λ e. cond (in_interval e.0 value) 1 0) xs ≡ 0)
+any_times value [] true e = absurd (true≢false (sym e))
+any_times value [] false e = refl
+any_times value (x ∷ xs) b e =
+    elim (in_interval x.0 value) as (λ c. (c || list_any (λ e. in_interval e.0 value) xs) ≡ b → cond b (1 ≤ cond c 1 0 + total_by (λ e. cond (in_interval e.0 value) 1 0) xs) (cond c 1 0 + total_by (λ e. cond (in_interval e.0 value) 1 0) xs ≡ 0)) [
+      | true ↦ λ e. by b e
+      | false ↦ λ e. rest b (any_times value xs b e)
+    ] e
+  where
+    by : (b : Bool) → true ≡ b → cond b (1 ≤ 1 + total_by (λ e. cond (in_interval e.0 value) 1 0) xs) (1 + total_by (λ e. cond (in_interval e.0 value) 1 0) xs ≡ 0)
+    by true e = omega arith
+    by false e = absurd (true≢false e)
+
+    rest : (b : Bool) → cond b (1 ≤ total_by (λ e. cond (in_interval e.0 value) 1 0) xs) (total_by (λ e. cond (in_interval e.0 value) 1 0) xs ≡ 0)
+        → cond b (1 ≤ 0 + total_by (λ e. cond (in_interval e.0 value) 1 0) xs) (0 + total_by (λ e. cond (in_interval e.0 value) 1 0) xs ≡ 0)
+    rest true h = omega arith
+    rest false h = omega arith
+
+pub same_holds : (value : Atom) (xs ys : List Entry) → SameCounts xs ys → list_any (λ e. in_interval e.0 value) xs ≡ list_any (λ e. in_interval e.0 value) ys
+same_holds value xs ys same = by (list_any (λ e. in_interval e.0 value) xs) (list_any (λ e. in_interval e.0 value) ys) refl refl
+  where
+    by : (a b : Bool) → list_any (λ e. in_interval e.0 value) xs ≡ a → list_any (λ e. in_interval e.0 value) ys ≡ b → list_any (λ e. in_interval e.0 value) xs ≡ list_any (λ e. in_interval e.0 value) ys
+    by true true p q = p ∙ sym q
+    by false false p q = p ∙ sym q
+    by true false p q = let s = same (λ e. cond (in_interval e.0 value) 1 0) in let m = any_times value xs true p in let n = any_times value ys false q in absurd (omega (arith, s, m, n))
+    by false true p q = let s = same (λ e. cond (in_interval e.0 value) 1 0) in let m = any_times value xs false p in let n = any_times value ys true q in absurd (omega (arith, s, m, n))
+
+pub any_keys : (value : Atom) (xs : List Entry) → list_any (λ e. in_interval e.0 value) xs ≡ list_any (λ i. in_interval i value) (map (λ e. e.0) xs)
+any_keys value [] = refl
+any_keys value (x ∷ xs) = ap (λ b. in_interval x.0 value || b) (any_keys value xs)

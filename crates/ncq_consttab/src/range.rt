@@ -5,7 +5,7 @@ ghost use Rattle.std.specs.List.Sorted.{IsNonDecreasingBy};
 ghost use Rattle.std.specs.List.{IsDistinct};
 ghost use Rattle.std.specs.Map.{lookup, keys_of};
 ghost use Rattle.ncq_base.specs.Counts.{SameCounts};
-ghost use Rattle.ncq_consttab.specs.Ranges.{is_interval, holders};
+ghost use Rattle.ncq_consttab.specs.Ranges.{is_interval, is_held_by, holders};
 
 use crate::tree::{Tree, lone};
 use indexmap::IndexMap;
@@ -105,5 +105,19 @@ impl RangeTable {
         self.tree.push_takers(value, &mut files)?;
         files.sort_unstable();
         Ok(Files::from_vec(files))
+    }
+
+    /// Whether some interval holds the value. It takes no memory.
+    pub fn holds(&self, value: &Atom) -> bool
+        ensures { result ≡ is_held_by (keys_of self.now) value.now }
+    {
+        self.tree.holds(value)
+    }
+
+    /// The intervals in order. It takes no memory.
+    pub fn intervals(&self) -> &[Interval]
+        ensures { result.now ≡ keys_of self.now }
+    {
+        self.files.keys().as_slice()
     }
 }

@@ -1,7 +1,9 @@
 //! Intervals with their files in a tree that skips what cannot hold a value.
 ghost use Rattle.std.specs.Prelude.{◌≡◌, ◌++◌, ◌∷◌, [], cond};
 ghost use Rattle.std.specs.Prelude.{IfOk, IfSome, IfNone, OnOk};
+ghost use Rattle.std.specs.List.{list_any};
 ghost use Rattle.ncq_base.specs.Counts.{SameCounts};
+ghost use Rattle.ncq_base.specs.Intervals.{in_interval};
 ghost use Rattle.ncq_consttab.specs.Ranges.{holders};
 ghost use Rattle.ncq_consttab.specs.Trees.{fork_entries, node_entries, IsSpanned, IsWithin, Spans};
 ghost use Rattle.ncq_consttab.specs.Trees.{IsTaken, is_entry};
@@ -114,6 +116,19 @@ impl Tree {
         fork.left.push_takers(value, found)?;
         push_if(found, fork.entry.1, in_interval(&fork.entry.0, value))?;
         fork.right.push_takers(value, found)
+    }
+
+    /// Whether some interval holds the value. It takes no memory.
+    pub(crate) fn holds(&self, value: &Atom) -> bool
+        ensures { result ≡ list_any (λ e. in_interval e.0 value.now) self.now }
+    {
+        let Node::Inner(fork) = &self.node else {
+            return false;
+        };
+        if !in_interval(&fork.span, value) {
+            return false;
+        }
+        in_interval(&fork.entry.0, value) || fork.left.holds(value) || fork.right.holds(value)
     }
 
     /// The tree with one entry more, which comes as a fork of its own.

@@ -1,5 +1,5 @@
 -- What is joined row by row has the counts of the join.
-use Rattle.std.proofs.Common.{◌≡◌, ℕ, zero, suc, ◌+◌, ◌<◌, ◌≤◌, Bool, true, false, cond, nat_lt, List, [], ◌∷◌, ◌++◌, map, filter, length, get_or, take, drop, append-nil, length-append, slice_get, Some, None, Option, Result, Ok, Err, IfOk, refl, sym, ◌∙◌, ap, subst, arith}
+use Rattle.std.proofs.Common.{◌≡◌, ℕ, zero, suc, ◌+◌, ◌<◌, ◌≤◌, Bool, true, false, cond, nat_lt, List, [], ◌∷◌, ◌++◌, map, filter, length, get_or, take, drop, take-append-drop, append-nil, length-append, slice_get, Some, None, Option, Result, Ok, Err, IfOk, refl, sym, ◌∙◌, ap, subst, arith}
 use Rattle.std.specs.List.{flat_map, All, AllByRecursion, cons_option}
 use Rattle.std.proofs.lemmas.List.{map-append, length-map, drop_more, take_more, flat_map_more}
 use Rattle.std.proofs.lemmas.List.Folds.{length-flat_map-take}
@@ -13,7 +13,7 @@ use Rattle.ncq_plan.specs.Exprs.{followed_by, join_rows}
 use Rattle.ncq_midfile.specs.Content.{since, up_to, losses, signed_at, rows_at, AreGains, IsContent}
 use Rattle.ncq_midfile.specs.Matching.{HaveSlots, has_key}
 use Rattle.ncq_midfile.specs.declared.signed.SignedRow.{SignedRow}
-use Rattle.ncq_midfile.proofs.Parts.{signed_more}
+use Rattle.ncq_midfile.proofs.Parts.{signed_more, signed_at-append}
 use Rattle.ncq_delta.specs.declared.probe.Side.{Side}
 use Rattle.ncq_delta.specs.declared.probe.Side.TheVariants.{Left, Right}
 use Rattle.ncq_delta.specs.Joins.{with_row, join_change}
@@ -159,12 +159,46 @@ module _ (pairs : List Pair) (list : List Row) (places : List ℕ) (i : ℕ) (ro
       ∙ length-append (joined_on Left pairs list x) (flat_map (joined_on Left pairs list) (rows_at (drop (i + 1) places) rows))
 
 -- the rows of the left at its places, joined with the right, have the counts of the join
-pub whole_is : (pairs : List Pair) (n : ℕ) (rows : List SignedRow) (places items : List ℕ) (left right : List Row) → items ≡ places → IsContent n rows (rows_at places rows) → IsContent n rows left
+pub whole_is : (pairs : List Pair) (n : ℕ) (own rows : List SignedRow) (places items : List ℕ) (left right : List Row) → items ≡ places → IsContent n own (rows_at places rows) → IsContent n own left
     → SameCounts (flat_map (joined_on Left pairs right) (rows_at items rows)) (join_rows pairs left right)
-whole_is pairs n rows places items left right same at content f =
+whole_is pairs n own rows places items left right same at content f =
     ap (λ ps. total_by f (flat_map (joined_on Left pairs right) (rows_at ps rows))) same
-    ∙ counts-flat_map (joined_on Left pairs right) (rows_at places rows) left (same_content n rows (rows_at places rows) left at content) f
+    ∙ counts-flat_map (joined_on Left pairs right) (rows_at places rows) left (same_content n own (rows_at places rows) left at content) f
     ∙ ap (total_by f) (joins_are pairs left right)
+
+-- signed rows at places, mapped to lists one by one
+module _ {B : Type 0} (f : SignedRow → List B) (places : List ℕ) (i : ℕ) (rows : List SignedRow) (r : SignedRow) (h : i < length places) (at : slice_get rows (get_or places i 0) ≡ Some r) where
+  signed_to : signed_at (take (i + 1) places) rows ≡ signed_at (take i places) rows ++ r ∷ []
+  signed_to = signed_more places i (get_or places i 0) rows r h refl at
+
+  signed_whole : signed_at places rows ≡ signed_at (take (i + 1) places) rows ++ signed_at (drop (i + 1) places) rows
+  signed_whole = ap (λ ps. signed_at ps rows) (sym (take-append-drop (i + 1) places)) ∙ signed_at-append (take (i + 1) places) (drop (i + 1) places) rows
+
+  pub counts_at_more : (front out new more : List B) → new ≡ out ++ more → SameCounts more (f r) → SameCounts out (front ++ flat_map f (signed_at (take i places) rows))
+      → SameCounts new (front ++ flat_map f (signed_at (take (i + 1) places) rows))
+  counts_at_more front out new more is one before =
+      subst (λ ys. SameCounts new (front ++ flat_map f ys)) (sym signed_to) (counts_pushed f (signed_at (take i places) rows) r front out new more is one before)
+
+  pub cost_at_more : (start before after : ℕ) → before ≤ start + length (flat_map f (signed_at (take i places) rows)) → after ≤ before + length (f r)
+      → after ≤ start + length (flat_map f (signed_at (take (i + 1) places) rows))
+  cost_at_more start before after front one =
+      let all = ap length (ap (flat_map f) signed_to ∙ sym (flat_map_more f [] (signed_at (take i places) rows) r)) ∙ length-append (flat_map f (signed_at (take i places) rows)) (f r) in
+      omega arith
+
+  pub cost_at_most : (start before after : ℕ) → before ≤ start + length (flat_map f (signed_at (take i places) rows)) → after ≤ before + length (f r)
+      → after ≤ start + length (flat_map f (signed_at places rows))
+  cost_at_most start before after front one =
+      let some = cost_at_more start before after front one in
+      let all = ap (λ ys. length (flat_map f ys)) signed_whole ∙ flat_length (signed_at (take (i + 1) places) rows) (signed_at (drop (i + 1) places) rows) in
+      omega arith
+    where
+      flat_length : (xs ys : List SignedRow) → length (flat_map f (xs ++ ys)) ≡ length (flat_map f xs) + length (flat_map f ys)
+      flat_length [] ys = omega arith
+      flat_length (x ∷ xs) ys =
+          let a = length-append (f x) (flat_map f (xs ++ ys)) in
+          let b = length-append (f x) (flat_map f xs) in
+          let c = flat_length xs ys in
+          omega arith
 
 pub if_ok : {T E : Type 0} (r : Result T E) (P Q : T → Type 0) → IfOk r P → ((x : T) → P x → Q x) → IfOk r Q
 if_ok (Ok x) P Q p f = f x p

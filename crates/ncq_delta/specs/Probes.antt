@@ -5,7 +5,8 @@ use Rattle.ncq_row.specs.declared.pair.Pair.{Pair}
 use Rattle.ncq_plan.specs.Exprs.{join_rows}
 use Rattle.ncq_midfile.specs.declared.signed.SignedRow.{SignedRow}
 use Rattle.ncq_midfile.specs.Content.{IsSoundAt}
-use Rattle.ncq_midfile.specs.Files.{FileState}
+use Rattle.ncq_midfile.specs.Shown.{shown, rows_below}
+use Rattle.ncq_midfile.specs.declared.view.View.{View}
 use Rattle.ncq_midfile.specs.Matching.{HaveSlots}
 use Rattle.ncq_delta.specs.declared.probe.Side.{Side}
 use Rattle.ncq_delta.specs.declared.probe.Side.TheVariants.{Left, Right}
@@ -42,9 +43,9 @@ changed_on side pairs others changed =
 
 -- rows of the side can be looked up in the other: its slots are those of the pairs and each row has
 -- them, and at the number it is sound and its content is known
-pub record IsReady (side : Side) (pairs : List Pair) (slots : List ℕ) (number : ℕ)
-    (other : FileState) : Type 0 where
+pub record IsReady (side : Side) (pairs : List Pair) (slots : List ℕ) (number : ℕ) (other : View)
+    : Type 0 where
   pub slots_are : slots ≡ slots_on (across side) pairs
-  pub within : HaveSlots slots other.rows
-  pub base : other.base ≤ number
-  pub sound : IsSoundAt number other.rows
+  pub within : HaveSlots slots (rows_below other)
+  pub base : (shown other).base ≤ number
+  pub sound : IsSoundAt number (shown other).rows

@@ -1,9 +1,10 @@
 //! What a change makes of a join.
 ghost use Rattle.std.specs.Prelude.{◌≡◌, ◌++◌, ◌+◌, ◌-◌, ◌<◌, ◌≤◌, List, length, map, IfOk, OnOk};
-ghost use Rattle.std.specs.List.{flat_map};
+ghost use Rattle.std.specs.List.{flat_map, All};
 ghost use Rattle.ncq_base.specs.Counts.{SameCounts};
 ghost use Rattle.ncq_row.specs.Embeddings.{Row as a_row};
-ghost use Rattle.ncq_midfile.specs.Content.{since, IsContent, IsSoundAt};
+ghost use Rattle.ncq_midfile.specs.Content.{since, signed_at, IsContent, IsSoundAt};
+ghost use Rattle.ncq_midfile.specs.Shown.{shown, rows_below};
 ghost use Rattle.ncq_midfile.specs.Matching.{HaveSlots};
 ghost use Rattle.ncq_midfile.specs.declared.signed.SignedRow.{SignedRow as a_signed_row};
 ghost use Rattle.ncq_delta.specs.Joins.{with_row, left_slots, right_slots, join_change};
@@ -11,7 +12,7 @@ ghost use Rattle.ncq_delta.specs.Probes.{slots_on, changed_on, IsReady};
 
 use crate::probe::{Probe, Side, joined, slots_on};
 use ncq_base::Steps;
-use ncq_midfile::{MidFile, SignedRow, SignedRows};
+use ncq_midfile::{SignedRow, SignedRows, View};
 use ncq_row::{Pairs, Rows};
 use std::alloc::{AllocError, Global};
 use std::sync::ledger::Ledger;
@@ -23,34 +24,37 @@ use std::sync::ledger::Ledger;
 /// one file. It takes at most one step for each signed row. The only error is that memory ran out.
 pub fn join_delta<L: Ledger>(
     alloc: Global,
-    left: &MidFile,
-    right: &MidFile,
+    left: &View<'_>,
+    right: &View<'_>,
     pairs: &Pairs,
     number: u64,
     steps: &mut Steps<L>,
 ) -> Result<SignedRows, AllocError>
-    requires left_base { left.now.base < number }
-    requires right_base { right.now.base < number }
-    requires sound_before { IsSoundAt (number - 1) right.now.rows }
-    requires sound_now { IsSoundAt number left.now.rows }
-    requires lefts { HaveSlots (left_slots pairs.now) left.now.rows }
-    requires rights { HaveSlots (right_slots pairs.now) right.now.rows }
+    requires left_base { (shown left.now).base < number }
+    requires right_base { (shown right.now).base < number }
+    requires sound_before { IsSoundAt (number - 1) (shown right.now).rows }
+    requires sound_now { IsSoundAt number (shown left.now).rows }
+    requires lefts { HaveSlots (left_slots pairs.now) (rows_below left.now) }
+    requires rights { HaveSlots (right_slots pairs.now) (rows_below right.now) }
 
     // `before` is any list that is the right's content before the change, `now` any that is the
     // left's at it.
     ensures rows { IfOk result (λ rows. (before now : List a_row)
-        → IsContent (number - 1) right.now.rows before → IsContent number left.now.rows now
-        → SameCounts rows (join_change pairs.now (since (number - 1) left.now.rows) before now
-        (since (number - 1) right.now.rows))) }
+        → IsContent (number - 1) (shown right.now).rows before
+        → IsContent number (shown left.now).rows now
+        → SameCounts rows (join_change pairs.now (since (number - 1) (shown left.now).rows)
+        before now (since (number - 1) (shown right.now).rows))) }
     ensures cost { (before now : List a_row)
-        → IsContent (number - 1) right.now.rows before → IsContent number left.now.rows now
+        → IsContent (number - 1) (shown right.now).rows before
+        → IsContent number (shown left.now).rows now
         → steps.new ≤ steps.old + length (join_change pairs.now
-        (since (number - 1) left.now.rows) before now (since (number - 1) right.now.rows)) }
+        (since (number - 1) (shown left.now).rows) before now
+        (since (number - 1) (shown right.now).rows)) }
 {
     let left_own = slots_on(alloc, Side::Left, pairs)?;
     let right_own = slots_on(alloc, Side::Right, pairs)?;
-    let left_changed = left.rows_since(number - 1);
-    let right_changed = right.rows_since(number - 1);
+    let left_changed = left.since(alloc, number - 1)?;
+    let right_changed = right.since(alloc, number - 1)?;
     let before = Probe {
         side: Side::Left,
         pairs,
@@ -66,31 +70,52 @@ pub fn join_delta<L: Ledger>(
         number,
     };
     let mut out = SignedRows::new(alloc);
-    add_changes(alloc, &before, left_changed, &mut out, steps)?;
-    add_changes(alloc, &now, right_changed, &mut out, steps)?;
+    add_changes(
+        alloc,
+        &before,
+        left,
+        left_changed.as_slice(),
+        &mut out,
+        steps,
+    )?;
+    add_changes(
+        alloc,
+        &now,
+        right,
+        right_changed.as_slice(),
+        &mut out,
+        steps,
+    )?;
     Ok(out)
 }
 
-/// Adds what changed rows of one side make of the join.
+/// Adds what the changed rows at these places of one side make of the join.
 fn add_changes<L: Ledger>(
     alloc: Global,
-    probe: &Probe<'_>,
-    changed: &[SignedRow],
+    probe: &Probe<'_, '_>,
+    own: &View<'_>,
+    changed: &[usize],
     out: &mut SignedRows,
     steps: &mut Steps<L>,
 ) -> Result<(), AllocError>
     requires ready { IsReady probe.now.side probe.now.pairs.now probe.now.slots.now
         probe.now.number probe.now.other.now }
-    requires within { HaveSlots (slots_on probe.now.side probe.now.pairs.now) changed.now }
+    requires places { All (λ place. place < length (rows_below own.now)) changed.now }
+    requires within { HaveSlots (slots_on probe.now.side probe.now.pairs.now)
+        (rows_below own.now) }
     ensures rows { OnOk result ((list : List a_row) (front : List a_signed_row)
-        → IsContent probe.now.number probe.now.other.now.rows list → SameCounts out.old front
-        → SameCounts out.new (front
-        ++ flat_map (changed_on probe.now.side probe.now.pairs.now list) changed.now)) }
+        → IsContent probe.now.number (shown probe.now.other.now).rows list
+        → SameCounts out.old front → SameCounts out.new (front
+        ++ flat_map (changed_on probe.now.side probe.now.pairs.now list)
+        (signed_at changed.now (rows_below own.now)))) }
     ensures cost { (list : List a_row)
-        → IsContent probe.now.number probe.now.other.now.rows list → steps.new ≤ steps.old
-        + length (flat_map (changed_on probe.now.side probe.now.pairs.now list) changed.now) }
+        → IsContent probe.now.number (shown probe.now.other.now).rows list
+        → steps.new ≤ steps.old
+        + length (flat_map (changed_on probe.now.side probe.now.pairs.now list)
+        (signed_at changed.now (rows_below own.now))) }
 {
-    for signed in changed {
+    for place in changed {
+        let signed = own.signed(*place);
         let rows = joined(alloc, probe, &signed.row, steps)?;
         add_signed(signed, rows, out)?;
     }

@@ -5,10 +5,11 @@ ghost use Rattle.ncq_base.specs.Counts.{SameCounts};
 ghost use Rattle.ncq_row.specs.Embeddings.{Row as a_row};
 ghost use Rattle.ncq_row.specs.Values.{atom_at};
 ghost use Rattle.ncq_midfile.specs.Content.{IsContent, rows_at};
+ghost use Rattle.ncq_midfile.specs.Shown.{shown, rows_below};
 ghost use Rattle.ncq_delta.specs.Probes.{beside, joined_on, slot_on, slots_on, IsReady};
 
 use ncq_base::Steps;
-use ncq_midfile::{MidFile, Places};
+use ncq_midfile::{Places, View};
 use ncq_row::{Pair, Pairs, Row, RowKey, Rows};
 use std::alloc::{AllocError, Global};
 use std::sync::ledger::Ledger;
@@ -22,12 +23,12 @@ pub(crate) enum Side {
 
 /// How the rows of one side find those of the other.
 #[derive(Drop)]
-pub(crate) struct Probe<'a> {
+pub(crate) struct Probe<'a, 'b> {
     /// The side of the rows that are looked up.
     pub(crate) side: Side,
     pub(crate) pairs: &'a Pairs,
     /// The other side, with its slots of the pairs.
-    pub(crate) other: &'a MidFile,
+    pub(crate) other: &'a View<'b>,
     pub(crate) slots: &'a Places,
     /// The change at which the content of the other side is meant.
     pub(crate) number: u64,
@@ -57,7 +58,7 @@ pub(crate) fn slots_on(alloc: Global, side: Side, pairs: &Pairs) -> Result<Place
 /// The row joined with each row of the other side where the pairs agree.
 pub(crate) fn joined<L: Ledger>(
     alloc: Global,
-    probe: &Probe<'_>,
+    probe: &Probe<'_, '_>,
     row: &Row,
     steps: &mut Steps<L>,
 ) -> Result<Rows, AllocError>
@@ -66,10 +67,10 @@ pub(crate) fn joined<L: Ledger>(
     requires within { All (λ slot. slot < length row.now)
         (slots_on probe.now.side probe.now.pairs.now) }
     ensures rows { IfOk result (λ rows. (list : List a_row)
-        → IsContent probe.now.number probe.now.other.now.rows list
+        → IsContent probe.now.number (shown probe.now.other.now).rows list
         → SameCounts rows (joined_on probe.now.side probe.now.pairs.now list row.now)) }
     ensures cost { (list : List a_row)
-        → IsContent probe.now.number probe.now.other.now.rows list → steps.new
+        → IsContent probe.now.number (shown probe.now.other.now).rows list → steps.new
         ≤ steps.old + length (joined_on probe.now.side probe.now.pairs.now list row.now) }
 {
     let key = key_on(alloc, probe.side, probe.pairs, row)?;
@@ -102,13 +103,13 @@ fn join_places<L: Ledger>(
     alloc: Global,
     side: Side,
     row: &Row,
-    other: &MidFile,
+    other: &View<'_>,
     places: &[usize],
     steps: &mut Steps<L>,
 ) -> Result<Rows, AllocError>
-    requires { All (λ place. place < length other.now.rows) places.now }
+    requires { All (λ place. place < length (rows_below other.now)) places.now }
     ensures rows { IfOk result (λ rows.
-        rows ≡ map (beside side row.now) (rows_at places.now other.now.rows)) }
+        rows ≡ map (beside side row.now) (rows_at places.now (rows_below other.now))) }
     ensures cost { steps.new ≤ steps.old + length places.now }
 {
     let mut rows = Rows::new(alloc);

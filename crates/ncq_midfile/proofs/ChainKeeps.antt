@@ -102,11 +102,11 @@ head_there heads links link c none =
     omega arith
 
 -- where a walk goes on
-pub chain_next : (links : List Link) (number at : ℕ) (met : List ℕ) (d : Link) → AreLinked links → IsWalked number (numbers links) at met → 0 < at
-    → IsStep number (numbers links) at (get_or links (at - 1) d).behind met
-chain_next links number at met d tells w some =
+pub chain_next : (links : List Link) (number from at : ℕ) (met : List ℕ) (d : Link) → AreLinked links → IsWalked number from (numbers links) at met → from < at
+    → IsStep number from (numbers links) at (get_or links (at - 1) d).behind met
+chain_next links number from at met d tells w some =
     let long = numbers-length links in
     let within = w.within in
     let less : at - 1 < length links = omega arith in
-    let same : number ≡ (get_or links (at - 1) d).number = walk_is number (numbers links) at met w some ∙ get_or-map (λ l. l.number) links (at - 1) d 0 less in
-    walk_step number (numbers links) at (get_or links (at - 1) d).behind met w some (tells (at - 1) d less ∙ ap (λ n. last_end n (take (at - 1) (numbers links))) (sym same))
+    let same : number ≡ (get_or links (at - 1) d).number = walk_is number from (numbers links) at met w some ∙ get_or-map (λ l. l.number) links (at - 1) d 0 less in
+    walk_step number from (numbers links) at (get_or links (at - 1) d).behind met w some (tells (at - 1) d less ∙ ap (λ n. last_end n (take (at - 1) (numbers links))) (sym same))

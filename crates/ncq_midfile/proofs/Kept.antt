@@ -7,7 +7,7 @@ use Rattle.ncq_midfile.specs.Made.{gained_at}
 use Rattle.ncq_midfile.specs.declared.signed.SignedRow.{SignedRow}
 use Rattle.ncq_midfile.proofs.Parts.{all_push, all_take}
 
-numbered_push : (low : ℕ) (rows : List SignedRow) (r : SignedRow) → low ≤ r.number → AreNumbered low rows → AllByRecursion (λ x. x.number ≤ r.number) rows → AreNumbered low (rows ++ r ∷ [])
+pub numbered_push : (low : ℕ) (rows : List SignedRow) (r : SignedRow) → low ≤ r.number → AreNumbered low rows → AllByRecursion (λ x. x.number ≤ r.number) rows → AreNumbered low (rows ++ r ∷ [])
 numbered_push low [] r h n a = (h, tt)
 numbered_push low (x ∷ rows) r h n a = (n.0, numbered_push x.number rows r a.0 n.1 a.1)
 
@@ -17,7 +17,7 @@ file_push base rows r f above last = record {
   based = all_push (IsBased base) rows r f.based (inl above);
 }
 
-numbered_take : (low n : ℕ) (rows : List SignedRow) → AreNumbered low rows → AreNumbered low (take n rows)
+pub numbered_take : (low n : ℕ) (rows : List SignedRow) → AreNumbered low rows → AreNumbered low (take n rows)
 numbered_take low zero rows a = tt
 numbered_take low (suc n) [] a = tt
 numbered_take low (suc n) (r ∷ rows) a = (a.0, numbered_take r.number n rows a.1)

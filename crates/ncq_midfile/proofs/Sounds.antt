@@ -12,10 +12,10 @@ use Rattle.ncq_midfile.specs.declared.signed.SignedRow.{SignedRow}
 
 -- what the rows that came in weigh, and what those that went out weigh
 module _ (f : Row → ℕ) (n : ℕ) where
-  abbrev in_one : SignedRow → ℕ
+  abbrev pub in_one : SignedRow → ℕ
   in_one r = cond (nat_le r.number n) (cond r.plus (f r.row) 0) 0
 
-  abbrev out_one : SignedRow → ℕ
+  abbrev pub out_one : SignedRow → ℕ
   out_one r = cond (nat_le r.number n) (cond r.plus 0 (f r.row)) 0
 
   pub gains_total : (rows : List SignedRow) → total_by f (gains (up_to n rows)) ≡ total_by in_one rows
@@ -86,7 +86,7 @@ sound_pair rows come go row up sound n f =
     let e = earlier come go n (f row) up in
     omega arith
 
-up_twice_less : (n m : ℕ) → n ≤ m → (rows : List SignedRow) → up_to n (up_to m rows) ≡ up_to n rows
+pub up_twice_less : (n m : ℕ) → n ≤ m → (rows : List SignedRow) → up_to n (up_to m rows) ≡ up_to n rows
 up_twice_less n m h [] = refl
 up_twice_less n m h (r ∷ rows) =
     elim (nat_le r.number m) as (λ b. nat_le r.number m ≡ b → up_to n (cond b (r ∷ up_to m rows) (up_to m rows)) ≡ cond (nat_le r.number n) (r ∷ up_to n rows) (up_to n rows)) [

@@ -31,7 +31,7 @@ wide_tells (slot ∷ slots) row h =
     let here = leb-true (slot + 1) (length row) b.0 in
     (omega arith, wide_tells slots row b.1)
 
-all_filtered : {A : Type 0} (P : A → Type 0) (test : A → Bool) (xs : List A) → AllByRecursion P xs → AllByRecursion P (filter test xs)
+pub all_filtered : {A : Type 0} (P : A → Type 0) (test : A → Bool) (xs : List A) → AllByRecursion P xs → AllByRecursion P (filter test xs)
 all_filtered P test [] all = tt
 all_filtered P test (x ∷ xs) all = by (test x) (all_filtered P test xs all.1)
   where
@@ -79,7 +79,3 @@ module _ (slots : List ℕ) where
       let b = content (lacks slots) in
       let c = none_lacks slots came some in
       All-from_recursion Has left (lacks_none slots left (omega arith))
-
--- a row that is not empty has the first slot
-pub first_slot : (row : Row) → 0 < length row → All (λ slot. slot < length row) (0 ∷ [])
-first_slot row some = All-from_recursion (λ slot. slot < length row) (0 ∷ []) (some, tt)

@@ -1,8 +1,13 @@
 pub mod Chains
 pub mod Content
 pub mod Files
+pub mod Folds
 pub mod Indexes
 pub mod LossCounts
 pub mod Made
 pub mod Matching
+pub mod Orders
+pub mod Ranged
 pub mod Rows
+pub mod Shown
+pub mod Views

@@ -1,5 +1,5 @@
 //! A list of numbers in which all places of a number are found.
-ghost use Rattle.std.specs.Prelude.{◌≡◌, ◌++◌, ◌∷◌, [], ◌-◌, ◌<◌, length, take, nat_eq};
+ghost use Rattle.std.specs.Prelude.{◌≡◌, ◌++◌, ◌∷◌, [], ◌-◌, ◌<◌, length, take, drop, nat_eq};
 ghost use Rattle.std.specs.Prelude.{IfOk, OnOk, OnErr};
 ghost use Rattle.ncq_midfile.specs.Chains.{last_end, numbers, AreLinked};
 ghost use Rattle.ncq_midfile.specs.Matching.{places_where};
@@ -82,12 +82,18 @@ impl Chains {
         }
     }
 
-    /// The places of the number, rising.
-    pub(crate) fn places_of(&self, alloc: Global, number: u64) -> Result<Places, AllocError>
-        ensures { IfOk result (λ places. places ≡ places_where (nat_eq number) 0 self.now) }
+    /// The places of the number from one on, rising. No place before it is looked at but one.
+    pub(crate) fn places_of(
+        &self,
+        alloc: Global,
+        number: u64,
+        from: usize,
+    ) -> Result<Places, AllocError>
+        ensures { IfOk result (λ places.
+            places ≡ places_where (nat_eq number) from (drop from self.now)) }
     {
         let head = self.heads.get(&number).copied().unwrap_or(0);
-        chain_from(alloc, self.links.as_slice(), number, head)
+        chain_from(alloc, self.links.as_slice(), number, head, from)
     }
 
     /// Takes away the numbers from this place on. It takes no memory.
@@ -100,15 +106,22 @@ impl Chains {
     }
 }
 
-/// The places of a chain, rising.
-fn chain_from(alloc: Global, links: &[Link], number: u64, head: usize) -> Result<Places, AllocError>
+/// The places of a chain from one on, rising.
+fn chain_from(
+    alloc: Global,
+    links: &[Link],
+    number: u64,
+    head: usize,
+    from: usize,
+) -> Result<Places, AllocError>
     requires links { AreLinked links.now }
     requires head { head ≡ last_end number (numbers links.now) }
-    ensures { IfOk result (λ places. places ≡ places_where (nat_eq number) 0 (numbers links.now)) }
+    ensures { IfOk result (λ places.
+        places ≡ places_where (nat_eq number) from (drop from (numbers links.now))) }
 {
     let mut places = Vec::new(alloc);
     let mut at = head;
-    while at > 0 {
+    while at > from {
         places.push(at - 1)?;
         at = links[at - 1].behind;
     }

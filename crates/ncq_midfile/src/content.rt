@@ -1,18 +1,22 @@
 //! The rows that are left at a change.
 ghost use Rattle.std.specs.Prelude.{◌≡◌, ◌+◌, ◌-◌, ◌<◌, ◌≤◌, ◌^◌, ◌++◌, [], ◌∷◌, length, take};
-ghost use Rattle.std.specs.Prelude.{drop, IfOk, OnOk, cond, not, false, ◌&&◌};
+ghost use Rattle.std.specs.Prelude.{drop, IfOk, OnOk, cond, false, ◌&&◌};
 ghost use Rattle.std.specs.List.{range_with_len, All};
 ghost use Rattle.ncq_midfile.specs.Content.{up_to, since, IsBalanced, signed_at, IsPart};
 ghost use Rattle.ncq_midfile.specs.Content.{IsLeft, AreGains};
 ghost use Rattle.ncq_midfile.specs.Files.{AreNumbered};
-ghost use Rattle.ncq_midfile.specs.LossCounts.{is_row, loss_count, LossesOf, IsStrike};
+ghost use Rattle.ncq_midfile.specs.LossCounts.{is_row, loss_count, has_sign, CountsOf, IsStrike};
 
 use crate::signed::{Places, SignedRow};
 use indexmap::IndexMap;
 use ncq_row::Row;
 use std::alloc::{AllocError, Global};
 
-/// How many of the rows have numbers up to `n`. Only the rows behind them are looked at.
+/// How many of the last rows are looked at one by one.
+const NEAR: usize = 16;
+
+/// How many of the rows have numbers up to `n`: the last ones are looked at one by one, and where
+/// there are many behind them the place is found by halves.
 pub(crate) fn count_up_to(rows: &[SignedRow], n: u64) -> usize
     requires { AreNumbered 0 rows.now }
     ensures within { result ≤ length rows.now }
@@ -20,14 +24,13 @@ pub(crate) fn count_up_to(rows: &[SignedRow], n: u64) -> usize
     ensures back { since n rows.now ≡ drop result rows.now }
 {
     let mut kept = rows.len();
-    while kept > 0 {
-        let last = &rows[kept - 1];
-        if last.number <= n {
+    for _ in 0..NEAR {
+        if kept == 0 || rows[kept - 1].number <= n {
             return kept;
         }
         kept -= 1;
     }
-    0
+    rows[..kept].partition_point(|signed| signed.number <= n)
 }
 
 /// The first places.
@@ -38,6 +41,18 @@ pub(crate) fn first_places(alloc: Global, count: usize) -> Result<Places, AllocE
     let mut places = Places::new(alloc);
     for place in 0..count {
         places.push(place)?;
+    }
+    Ok(places)
+}
+
+/// So many places from one on.
+pub(crate) fn places_from(alloc: Global, from: usize, count: usize) -> Result<Places, AllocError>
+    requires { from + count < 2 ^ 64 }
+    ensures { IfOk result (λ places. places ≡ range_with_len from count) }
+{
+    let mut places = Places::new(alloc);
+    for at in 0..count {
+        places.push(from + at)?;
     }
     Ok(places)
 }
@@ -56,7 +71,7 @@ pub(crate) fn left_over(
     ensures within { IfOk result (λ left. All (λ place. place < length rows.now) left) }
     ensures counts { IfOk result (λ left. IsLeft left candidates.now rows.now) }
 {
-    let mut lost = losses_of(alloc, rows, candidates)?;
+    let mut lost = counts_of(alloc, rows, candidates, false)?;
     let mut left = Places::new(alloc);
     for place in candidates {
         let kept = stays(&mut lost, &rows[*place]);
@@ -75,33 +90,39 @@ pub(crate) fn push_where(places: &mut Places, place: usize, wanted: bool) -> Res
     Ok(())
 }
 
-/// How often each row went out.
-fn losses_of<'a>(
+/// How often each row came in, or how often it went out.
+pub(crate) fn counts_of<'a>(
     alloc: Global,
     rows: &'a [SignedRow],
     candidates: &[usize],
+    plus: bool,
 ) -> Result<IndexMap<&'a Row, u64>, AllocError>
     requires { All (λ place. place < length rows.now) candidates.now }
-    ensures { IfOk result (λ lost. LossesOf (signed_at candidates.now rows.now) lost.entries) }
+    ensures { IfOk result (λ counts. CountsOf plus (signed_at candidates.now rows.now)
+        counts.entries) }
 {
-    let mut lost = IndexMap::new(alloc);
+    let mut counts = IndexMap::new(alloc);
     for place in candidates {
-        note_loss(&mut lost, &rows[*place])?;
+        note_sign(&mut counts, &rows[*place], plus)?;
     }
-    Ok(lost)
+    Ok(counts)
 }
 
-/// One more loss of the row, if it went out.
-fn note_loss<'a>(lost: &mut IndexMap<&'a Row, u64>, signed: &'a SignedRow) -> Result<(), AllocError>
-    requires { loss_count signed.now.row lost.old.entries < 2 ^ 64 - 1 }
-    ensures { OnOk result ((q : _) → loss_count q lost.new.entries
-        ≡ loss_count q lost.old.entries
-        + cond (not signed.now.plus && is_row q signed.now.row) 1 0) }
+/// Counts the row once more, if it came in, or if it went out.
+fn note_sign<'a>(
+    counts: &mut IndexMap<&'a Row, u64>,
+    signed: &'a SignedRow,
+    plus: bool,
+) -> Result<(), AllocError>
+    requires { loss_count signed.now.row counts.old.entries < 2 ^ 64 - 1 }
+    ensures { OnOk result ((q : _) → loss_count q counts.new.entries
+        ≡ loss_count q counts.old.entries
+        + cond (has_sign plus signed.now && is_row q signed.now.row) 1 0) }
 {
-    if signed.plus {
+    if signed.plus != plus {
         return Ok(());
     }
-    add_loss(lost, &signed.row)
+    add_loss(counts, &signed.row)
 }
 
 /// Whether the row came in and stays; a row that came in and was lost takes one of its losses away.
@@ -127,7 +148,7 @@ fn add_loss<'a>(lost: &mut IndexMap<&'a Row, u64>, row: &'a Row) -> Result<(), A
 }
 
 /// Takes one loss of the row away, if there is one.
-fn take_loss<'a>(lost: &mut IndexMap<&'a Row, u64>, row: &'a Row) -> bool
+pub(crate) fn take_loss<'a>(lost: &mut IndexMap<&'a Row, u64>, row: &'a Row) -> bool
     ensures none { result ≡ false → loss_count row.now lost.old.entries ≡ 0 }
     ensures counts { (q : _) → loss_count q lost.new.entries + cond (result && is_row q row.now) 1 0
         ≡ loss_count q lost.old.entries }

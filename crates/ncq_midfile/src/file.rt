@@ -4,19 +4,21 @@ ghost use Rattle.std.specs.Prelude.{slice_get, Some, IfOk, OnOk, OnErr};
 ghost use Rattle.std.specs.List.{AllByRecursion, All};
 ghost use Rattle.ncq_row.specs.Embeddings.{Row as a_row};
 ghost use Rattle.ncq_midfile.specs.Content.{up_to, since, IsContent, IsSoundAt, rows_of, rows_at};
-ghost use Rattle.ncq_midfile.specs.Content.{AreRising, AreGains};
+ghost use Rattle.ncq_midfile.specs.Content.{AreRising, AreGains, signed_at};
 ghost use Rattle.ncq_midfile.specs.Files.{AreNumbered, IsFile};
 ghost use Rattle.ncq_midfile.specs.Made.{gained_at};
 ghost use Rattle.ncq_midfile.specs.Matching.{HaveSlots, has_key};
+ghost use Rattle.ncq_midfile.specs.Views.{IsContentOf, is_within};
 ghost use Rattle.ncq_base.specs.Counts.{SameCounts};
 
 use crate::compact::gather;
-use crate::content::{count_up_to, first_places, left_over};
-use crate::index::{Index, cut_all, keep_index};
+use crate::content::{count_up_to, first_places, left_over, places_from};
+use crate::index::{Index, cut_all, keep_index, lose_index};
 use crate::key::{KeyAtom, atoms_of};
 use crate::matching::matching_in;
 use crate::signed::{Places, SignedRow};
-use ncq_base::Atom;
+use crate::within::interval_in;
+use ncq_base::{Atom, Interval};
 use ncq_row::{Row, RowKey, Rows};
 use std::alloc::{AllocError, Global};
 use std::marker::Model;
@@ -84,6 +86,35 @@ impl MidFile {
     {
         let rows = self.rows.as_slice();
         &rows[count_up_to(rows, n)..]
+    }
+
+    /// The places of the signed rows with numbers above `n`.
+    pub(crate) fn since(&self, alloc: Global, n: u64) -> Result<Places, AllocError>
+        ensures rising { IfOk result (λ places. AreRising 0 places) }
+        ensures within { IfOk result (λ places.
+            All (λ place. place < length self.now.rows) places) }
+        ensures rows { IfOk result (λ places.
+            signed_at places self.now.rows ≡ since n self.now.rows) }
+    {
+        let from = count_up_to(self.rows.as_slice(), n);
+        places_from(alloc, from, self.rows.len() - from)
+    }
+
+    /// The places of all signed rows.
+    pub(crate) fn places(&self, alloc: Global) -> Result<Places, AllocError>
+        ensures rising { IfOk result (λ places. AreRising 0 places) }
+        ensures within { IfOk result (λ places.
+            All (λ place. place < length self.now.rows) places) }
+        ensures rows { IfOk result (λ places. signed_at places self.now.rows ≡ self.now.rows) }
+    {
+        first_places(alloc, self.rows().len())
+    }
+
+    /// The signed rows in order.
+    pub(crate) fn rows(&self) -> &[SignedRow]
+        ensures { result.now ≡ self.now.rows }
+    {
+        self.rows.as_slice()
     }
 
     /// The row at a place of the file.
@@ -172,6 +203,27 @@ impl MidFile {
         )
     }
 
+    /// The places of the rows that are left at `n` and have a number of the interval in the slot.
+    pub fn matching_interval(
+        &self,
+        alloc: Global,
+        slot: usize,
+        interval: &Interval,
+        n: u64,
+    ) -> Result<Places, AllocError>
+        requires base { self.now.base ≤ n }
+        requires sound { IsSoundAt n self.now.rows }
+        requires slots { HaveSlots (slot ∷ []) self.now.rows }
+        ensures rising { IfOk result (λ places. AreRising 0 places) }
+        ensures gains { IfOk result (λ places. AreGains self.now.rows places) }
+        ensures within { IfOk result (λ places.
+            All (λ place. place < length self.now.rows) places) }
+        ensures content { IfOk result (λ places. IsContentOf (is_within slot interval.now) n
+            self.now.rows (rows_at places self.now.rows)) }
+    {
+        interval_in(alloc, self.rows.as_slice(), slot, interval, n)
+    }
+
     /// Makes sure that rows are found by the atoms at these slots. It changes no answer and costs
     /// the rows that came since the last call. After an error, too, the file is as it was.
     pub fn ensure_index(&mut self, alloc: Global, slots: &[usize]) -> Result<(), AllocError>
@@ -179,6 +231,14 @@ impl MidFile {
         ensures { self.new ≡ self.old }
     {
         keep_index(alloc, &mut self.indexes, self.rows.as_slice(), slots)
+    }
+
+    /// Gives up what finds rows by the atoms at these slots. It changes no answer and takes no
+    /// memory.
+    pub fn drop_index(&mut self, slots: &[usize])
+        ensures { self.new ≡ self.old }
+    {
+        lose_index(&mut self.indexes, slots);
     }
 
     /// Makes `n` the base: the file has then the rows that are left at `n`, each as one that is

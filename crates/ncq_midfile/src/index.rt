@@ -3,12 +3,13 @@
 //! An index has the hashes of the atoms of the first rows, chained by equal hashes. The hash is
 //! std's with a fixed start, and no seed: whoever chooses atoms can make hashes meet. Atoms are
 //! always compared as well, so that this costs time and changes no answer.
-ghost use Rattle.std.specs.Prelude.{◌≡◌, ◌++◌, ◌<◌, ◌≤◌, length, take, map, slice_index_or};
-ghost use Rattle.std.specs.Prelude.{IfOk, IfSome, OnOk};
+ghost use Rattle.std.specs.Prelude.{◌≡◌, ◌++◌, ◌<◌, ◌≤◌, [], length, take, drop, map, slice_index_or};
+ghost use Rattle.std.specs.Prelude.{IfOk, IfSome, OnOk, List};
 ghost use Rattle.std.specs.List.{All};
 ghost use Rattle.ncq_midfile.specs.Indexes.{atoms_at, key_hash, Covers, CoverAll, cut_index};
 ghost use Rattle.ncq_midfile.specs.Matching.{HaveSlots, is_wanted, places_where, chosen};
 ghost use Rattle.ncq_midfile.specs.declared.index.Index.{Index as an_index};
+ghost use Rattle.ncq_midfile.specs.declared.signed.SignedRow.{SignedRow as a_signed_row};
 
 use crate::chain::Chains;
 use crate::content::push_where;
@@ -24,6 +25,33 @@ use std::hash::{FoldHasher, Hash, Hasher};
 pub(crate) struct Index {
     slots: Places,
     hashes: Chains,
+}
+
+impl Index {
+    /// An index on the slots that has no row yet.
+    pub(crate) fn new(alloc: Global, slots: &[usize]) -> Result<Index, AllocError>
+        ensures slots { IfOk result (λ index. index.slots ≡ slots.now) }
+        ensures hashes { IfOk result (λ index. index.hashes ≡ []) }
+    {
+        Ok(Index {
+            slots: Places::from_vec(Vec::from_slice(alloc, slots)?),
+            hashes: Chains::new(alloc),
+        })
+    }
+
+    /// How many of the rows it has.
+    pub(crate) fn len(&self) -> usize
+        ensures { result ≡ length self.now.hashes }
+    {
+        self.hashes.len()
+    }
+
+    /// Leaves the first rows. It takes no memory.
+    pub(crate) fn cut(&mut self, kept: usize)
+        ensures { self.new ≡ cut_index kept self.old }
+    {
+        self.hashes.cut(kept);
+    }
 }
 
 /// Makes the index on the slots, if there is none, and takes all rows into it. After an error each
@@ -42,13 +70,20 @@ pub(crate) fn keep_index(
         let index = &mut indexes[at];
         return catch_up(index, rows);
     }
-    let mut index = Index {
-        slots: Places::from_vec(Vec::from_slice(alloc, slots)?),
-        hashes: Chains::new(alloc),
-    };
+    let mut index = Index::new(alloc, slots)?;
     catch_up(&mut index, rows)?;
     indexes.push(index)?;
     Ok(())
+}
+
+/// Gives up the index on the slots, if there is one. It takes no memory.
+pub(crate) fn lose_index(indexes: &mut Vec<Index>, slots: &[usize])
+    ensures { (rows : List a_signed_row)
+        → CoverAll indexes.old.items rows → CoverAll indexes.new.items rows }
+{
+    if let Some(at) = find_index(indexes.as_slice(), slots) {
+        indexes.swap_remove(at);
+    }
 }
 
 /// Leaves in each index the first rows. It takes no memory.
@@ -56,7 +91,7 @@ pub(crate) fn cut_all(indexes: &mut [Index], kept: usize)
     ensures { indexes.new ≡ map (cut_index kept) indexes.old }
 {
     for index in indexes.iter_mut() {
-        index.hashes.cut(kept);
+        index.cut(kept);
     }
 }
 
@@ -81,12 +116,12 @@ pub(crate) fn push_from_index(
         return Ok(0);
     };
     let index = &indexes[at];
-    push_indexed(alloc, places, rows, index, key, n)?;
+    push_indexed(alloc, places, rows, index, key, 0, n)?;
     Ok(index.hashes.len())
 }
 
 /// The place of the index on just these slots.
-fn find_index(indexes: &[Index], slots: &[usize]) -> Option<usize>
+pub(crate) fn find_index(indexes: &[Index], slots: &[usize]) -> Option<usize>
     ensures within { IfSome result (λ at. at < length indexes.now) }
     ensures slots { IfSome result (λ at. (d : an_index)
         → (slice_index_or indexes.now at d).slots ≡ slots.now) }
@@ -100,7 +135,7 @@ fn find_index(indexes: &[Index], slots: &[usize]) -> Option<usize>
 }
 
 /// Takes the rows into the index that are not in it yet.
-fn catch_up(index: &mut Index, rows: &[SignedRow]) -> Result<(), AllocError>
+pub(crate) fn catch_up(index: &mut Index, rows: &[SignedRow]) -> Result<(), AllocError>
     requires slots { HaveSlots index.old.slots rows.now }
     requires covers { Covers index.old rows.now }
     ensures slots { index.new.slots ≡ index.old.slots }
@@ -113,22 +148,23 @@ fn catch_up(index: &mut Index, rows: &[SignedRow]) -> Result<(), AllocError>
     Ok(())
 }
 
-/// Adds the places of the indexed rows with these atoms and numbers up to `n`.
-fn push_indexed(
+/// Adds the places, from one on, of the indexed rows with these atoms and numbers up to `n`.
+pub(crate) fn push_indexed(
     alloc: Global,
     places: &mut Places,
     rows: &[SignedRow],
     index: &Index,
     key: &[KeyAtom<'_>],
+    from: usize,
     n: u64,
 ) -> Result<(), AllocError>
     requires covers { Covers index.now rows.now }
     requires slots { HaveSlots index.now.slots rows.now }
     ensures { OnOk result (places.new ≡ places.old
-        ++ places_where (is_wanted index.now.slots key.now n) 0
-        (take (length index.now.hashes) rows.now)) }
+        ++ places_where (is_wanted index.now.slots key.now n) from
+        (drop from (take (length index.now.hashes) rows.now))) }
 {
-    let chained = index.hashes.places_of(alloc, hash_of(key))?;
+    let chained = index.hashes.places_of(alloc, hash_of(key), from)?;
     push_chosen(
         places,
         rows,

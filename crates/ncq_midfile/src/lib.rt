@@ -5,16 +5,26 @@
 //! bytes, and nothing on the heap.
 #![tactic(auto)]
 
+mod bounds;
 mod chain;
 mod compact;
 mod content;
+mod counts;
 mod file;
+mod fold;
 mod index;
+mod keep;
 mod key;
 mod laws;
 mod matching;
+mod order;
+mod range;
 mod signed;
+mod view;
+mod within;
 
 pub use file::MidFile;
-pub use laws::contents_are_counted;
+pub use laws::{contents_are_counted, folds_and_cuts_keep_contents, views_keep_their_contents};
+pub use range::RangeFile;
 pub use signed::{Places, SignedRow, SignedRows};
+pub use view::View;

@@ -75,14 +75,16 @@ row_wide width [] place x wide at = absurd cc
 row_wide width (r ∷ rows) zero x wide at = let same : r.row ≡ x = cc in subst (λ (y : Row). length y ≡ width) same wide.0
 row_wide width (r ∷ rows) (suc place) x wide at = row_wide width rows place x wide.1 at
 
--- and so are those behind a number
-pub since_wide : (width mark : ℕ) (rows : List SignedRow) → AllByRecursion (λ r. length r.row ≡ width) rows → AllByRecursion (λ r. length r.row ≡ width) (since mark rows)
-since_wide width mark [] wide = tt
-since_wide width mark (r ∷ rows) wide = kept (nat_lt mark r.number) (since_wide width mark rows wide.1)
-  where
-    kept : (b : Bool) → AllByRecursion (λ r. length r.row ≡ width) (since mark rows) → AllByRecursion (λ r. length r.row ≡ width) (cond b (r ∷ since mark rows) (since mark rows))
-    kept true rest = (wide.0, rest)
-    kept false rest = rest
+pub signed_wide : (width : ℕ) (rows : List SignedRow) (place : ℕ) (r : SignedRow) → AllByRecursion (λ r. length r.row ≡ width) rows → slice_get rows place ≡ Some r → length r.row ≡ width
+signed_wide width [] place r wide at = absurd cc
+signed_wide width (x ∷ rows) zero r wide at = let same : x ≡ r = cc in subst (λ (y : SignedRow). length y.row ≡ width) same wide.0
+signed_wide width (x ∷ rows) (suc place) r wide at = signed_wide width rows place r wide.1 at
+
+-- the signed rows at places from one on
+pub signed_first : (places : List ℕ) (i : ℕ) (rows : List SignedRow) (r : SignedRow) → i < length places → slice_get rows (get_or places i 0) ≡ Some r
+    → signed_at (drop i places) rows ≡ r ∷ signed_at (drop (i + 1) places) rows
+signed_first places i rows r h at =
+    ap (λ ps. signed_at ps rows) (drop_more places i 0 h) ∙ ap (λ o. cons_option o (signed_at (drop (i + 1) places) rows)) at
 
 -- what is counted of rows at places, as they come: that at one place more, and at the end all
 module _ (test : Row → Bool) (bytes : Row → List ℕ) (places : List ℕ) (i : ℕ) (rows : List SignedRow) (counts all : ByBytes ℤ)

@@ -3,12 +3,13 @@ ghost use Rattle.std.specs.Prelude.{◌≡◌, ◌≤◌, length, IfOk, OnOk, If
 ghost use Rattle.std.specs.List.{AllByRecursion};
 ghost use Rattle.ncq_plan.specs.Residuals.{passes};
 ghost use Rattle.ncq_plan.specs.WellFormed.{arms_width, IsWellFormed};
-ghost use Rattle.ncq_midfile.specs.Content.{IsSoundAt};
+ghost use Rattle.ncq_midfile.specs.Content.{since, IsSoundAt};
+ghost use Rattle.ncq_midfile.specs.Shown.{shown, rows_below};
 ghost use Rattle.ncq_callback.specs.Gathered.{answer_of, with_row};
 ghost use Rattle.ncq_news.specs.News.{entries_of, since_mark};
 
 use ncq_callback::{Entries, Gather};
-use ncq_midfile::{MidFile, SignedRow};
+use ncq_midfile::View;
 use ncq_plan::NormalQuery;
 use ncq_row::Row;
 use std::alloc::{AllocError, Global};
@@ -20,34 +21,45 @@ use std::alloc::{AllocError, Global};
 pub fn news(
     alloc: Global,
     query: &NormalQuery,
-    file: &MidFile,
+    file: &View<'_>,
     mark: Option<u64>,
     now: u64,
 ) -> Result<Entries, AllocError>
     requires formed { IsWellFormed query.now }
-    requires wide { AllByRecursion (λ r. length r.row ≡ arms_width query.now.arms) file.now.rows }
-    requires last { AllByRecursion (λ r. r.number ≤ now) file.now.rows }
-    requires base { file.now.base ≤ now }
-    requires sound { IsSoundAt now file.now.rows }
-    requires mark { IfSome mark (λ n. file.now.base ≤ n) }
+    requires wide { AllByRecursion (λ r. length r.row ≡ arms_width query.now.arms)
+        (rows_below file.now) }
+    requires last { AllByRecursion (λ r. r.number ≤ now) (shown file.now).rows }
+    requires base { (shown file.now).base ≤ now }
+    requires sound { IsSoundAt now (shown file.now).rows }
+    requires mark { IfSome mark (λ n. (shown file.now).base ≤ n) }
     ensures { IfOk result (λ entries.
-        entries ≡ entries_of query.now (since_mark mark file.now.rows)) }
+        entries ≡ entries_of query.now (since_mark mark (shown file.now).rows)) }
 {
     match mark {
-        Some(number) => entries_of(alloc, query, file.rows_since(number)),
+        Some(number) => entries_since(alloc, query, file, number),
         None => entries_at(alloc, query, file, now),
     }
 }
 
-/// What the answer of the query gains and loses by signed rows.
-fn entries_of(alloc: Global, query: &NormalQuery, rows: &[SignedRow]) -> Result<Entries, AllocError>
+/// What the answer of the query gains and loses by the rows above a mark.
+fn entries_since(
+    alloc: Global,
+    query: &NormalQuery,
+    file: &View<'_>,
+    mark: u64,
+) -> Result<Entries, AllocError>
     requires formed { IsWellFormed query.now }
-    requires wide { AllByRecursion (λ r. length r.row ≡ arms_width query.now.arms) rows.now }
-    ensures { IfOk result (λ entries. entries ≡ entries_of query.now rows.now) }
+    requires wide { AllByRecursion (λ r. length r.row ≡ arms_width query.now.arms)
+        (rows_below file.now) }
+    requires base { (shown file.now).base ≤ mark }
+    ensures { IfOk result (λ entries.
+        entries ≡ entries_of query.now (since mark (shown file.now).rows)) }
 {
+    let places = file.since(alloc, mark)?;
     let mut gather = Gather::new(alloc);
-    for row in rows {
-        take(alloc, query, &row.row, row.plus, &mut gather)?;
+    for place in places.as_slice() {
+        let signed = file.signed(*place);
+        take(alloc, query, &signed.row, signed.plus, &mut gather)?;
     }
     gather.finish(alloc)
 }
@@ -57,15 +69,16 @@ fn entries_of(alloc: Global, query: &NormalQuery, rows: &[SignedRow]) -> Result<
 fn entries_at(
     alloc: Global,
     query: &NormalQuery,
-    file: &MidFile,
+    file: &View<'_>,
     now: u64,
 ) -> Result<Entries, AllocError>
     requires formed { IsWellFormed query.now }
-    requires wide { AllByRecursion (λ r. length r.row ≡ arms_width query.now.arms) file.now.rows }
-    requires last { AllByRecursion (λ r. r.number ≤ now) file.now.rows }
-    requires base { file.now.base ≤ now }
-    requires sound { IsSoundAt now file.now.rows }
-    ensures { IfOk result (λ entries. entries ≡ entries_of query.now file.now.rows) }
+    requires wide { AllByRecursion (λ r. length r.row ≡ arms_width query.now.arms)
+        (rows_below file.now) }
+    requires last { AllByRecursion (λ r. r.number ≤ now) (shown file.now).rows }
+    requires base { (shown file.now).base ≤ now }
+    requires sound { IsSoundAt now (shown file.now).rows }
+    ensures { IfOk result (λ entries. entries ≡ entries_of query.now (shown file.now).rows) }
 {
     let places = file.content_at(alloc, now)?;
     let mut gather = Gather::new(alloc);

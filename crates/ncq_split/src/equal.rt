@@ -1,34 +1,47 @@
 //! The split of an equality group.
-ghost use Rattle.std.specs.Prelude.{◌≡◌, ◌+◌, ◌<◌, ◌≤◌, ◌++◌, length, IfOk, OnOk};
+ghost use Rattle.std.specs.Prelude.{◌≡◌, ◌+◌, ◌-◌, ◌<◌, ◌≤◌, ◌++◌, length, IfOk, OnOk};
 ghost use Rattle.std.specs.List.{All};
+ghost use Rattle.ncq_midfile.specs.Content.{since};
+ghost use Rattle.ncq_midfile.specs.Shown.{shown, rows_below};
 ghost use Rattle.ncq_split.specs.Splits.{files_equal, row_parcels, parcels_of};
 
 use crate::parcel::{Parcels, parcel_for};
 use ncq_base::Steps;
 use ncq_consttab::EqTable;
-use ncq_midfile::SignedRow;
+use ncq_midfile::{SignedRow, View};
 use std::alloc::{AllocError, Global};
 use std::sync::ledger::Ledger;
 
-/// Each row goes, with its number and its sign, to the file of the constant that its atom in the
-/// slot is, if there is one: numbers by value, texts by bytes. It takes at most one step for each
-/// parcel. The only error is that memory ran out.
+/// Each of the input's rows of the change goes, with its number and its sign, to the file of the
+/// constant that its atom in the slot is, if there is one: numbers by value, texts by bytes. Its
+/// rows of the change are those with no lower number. It takes at most one step for each parcel.
+/// The only error is that memory ran out.
 pub fn split_equal<L: Ledger>(
     alloc: Global,
     table: &EqTable,
     slot: usize,
-    rows: &[SignedRow],
+    input: &View<'_>,
+    number: u64,
     steps: &mut Steps<L>,
 ) -> Result<Parcels, AllocError>
-    requires { All (λ signed. slot < length signed.row) rows.now }
-    ensures parcels { IfOk result (λ parcels.
-        parcels ≡ parcels_of (files_equal table.now) slot rows.now) }
-    ensures cost { steps.new
-        ≤ steps.old + length (parcels_of (files_equal table.now) slot rows.now) }
+    requires base { (shown input.now).base < number }
+    requires slots { All (λ signed. slot < length signed.row) (rows_below input.now) }
+    ensures parcels { IfOk result (λ parcels. parcels ≡ parcels_of (files_equal table.now) slot
+        (since (number - 1) (shown input.now).rows)) }
+    ensures cost { steps.new ≤ steps.old + length (parcels_of (files_equal table.now) slot
+        (since (number - 1) (shown input.now).rows)) }
 {
+    let places = input.since(alloc, number - 1)?;
     let mut parcels = Parcels::new(alloc);
-    for signed in rows {
-        add_parcel(alloc, table, slot, signed, &mut parcels, steps)?;
+    for place in places.as_slice() {
+        add_parcel(
+            alloc,
+            table,
+            slot,
+            input.signed(*place),
+            &mut parcels,
+            steps,
+        )?;
     }
     Ok(parcels)
 }

@@ -6,10 +6,12 @@
 
 mod equal;
 mod laws;
+mod missing;
 mod parcel;
 mod range;
 
 pub use equal::split_equal;
 pub use laws::files_get_what_they_select;
+pub use missing::missing_rows;
 pub use parcel::{Parcel, Parcels};
 pub use range::split_range;

@@ -1,71 +1,66 @@
 //! The split of a range group.
-ghost use Rattle.std.specs.Prelude.{◌≡◌, ◌+◌, ◌<◌, ◌≤◌, ◌++◌, length, map, IfOk, OnOk};
+ghost use Rattle.std.specs.Prelude.{◌≡◌, ◌+◌, ◌-◌, ◌<◌, ◌≤◌, ◌++◌, [], ◌∷◌, cond, length};
+ghost use Rattle.std.specs.Prelude.{IfOk, OnOk};
 ghost use Rattle.std.specs.List.{All};
-ghost use Rattle.ncq_split.specs.Splits.{files_holding, for_file, row_parcels, parcels_of};
+ghost use Rattle.std.specs.Map.{keys_of};
+ghost use Rattle.ncq_midfile.specs.Content.{since};
+ghost use Rattle.ncq_midfile.specs.Shown.{shown, rows_below};
+ghost use Rattle.ncq_midfile.specs.Views.{is_held, of_rows};
 
-use crate::parcel::{Parcels, parcel_for};
-use ncq_base::{FileId, Steps};
+use ncq_base::Steps;
 use ncq_consttab::RangeTable;
-use ncq_midfile::SignedRow;
+use ncq_midfile::{SignedRow, SignedRows, View};
 use std::alloc::{AllocError, Global};
 use std::sync::ledger::Ledger;
 
-/// Each row goes, with its number and its sign, to the file of each interval that holds its atom in
-/// the slot, by rising number of the files. An interval holds numbers alone. It takes at most one
-/// step for each parcel. The only error is that memory ran out.
+/// Those of the input's rows of the change whose atom in the slot is a number that at least one
+/// interval holds, each once, with its number and its sign, in the rows' order. Its rows of the
+/// change are those with no lower number. It takes at most one step for each row. The only error is
+/// that memory ran out.
 pub fn split_range<L: Ledger>(
     alloc: Global,
     table: &RangeTable,
     slot: usize,
-    rows: &[SignedRow],
+    input: &View<'_>,
+    number: u64,
     steps: &mut Steps<L>,
-) -> Result<Parcels, AllocError>
-    requires { All (λ signed. slot < length signed.row) rows.now }
-    ensures parcels { IfOk result (λ parcels.
-        parcels ≡ parcels_of (files_holding table.now) slot rows.now) }
-    ensures cost { steps.new
-        ≤ steps.old + length (parcels_of (files_holding table.now) slot rows.now) }
+) -> Result<SignedRows, AllocError>
+    requires base { (shown input.now).base < number }
+    requires slots { All (λ signed. slot < length signed.row) (rows_below input.now) }
+    ensures rows { IfOk result (λ rows. rows ≡ of_rows (is_held slot (keys_of table.now))
+        (since (number - 1) (shown input.now).rows)) }
+    ensures cost { steps.new ≤ steps.old + length (of_rows (is_held slot (keys_of table.now))
+        (since (number - 1) (shown input.now).rows)) }
 {
-    let mut parcels = Parcels::new(alloc);
-    for signed in rows {
-        add_parcels(alloc, table, slot, signed, &mut parcels, steps)?;
+    let places = input.since(alloc, number - 1)?;
+    let mut rows = SignedRows::new(alloc);
+    for place in places.as_slice() {
+        add_held(alloc, table, slot, input.signed(*place), &mut rows, steps)?;
     }
-    Ok(parcels)
+    Ok(rows)
 }
 
-/// Adds the parcels of the row.
-fn add_parcels<L: Ledger>(
+/// Adds the row, if some interval holds it.
+fn add_held<L: Ledger>(
     alloc: Global,
     table: &RangeTable,
     slot: usize,
     signed: &SignedRow,
-    parcels: &mut Parcels,
+    rows: &mut SignedRows,
     steps: &mut Steps<L>,
 ) -> Result<(), AllocError>
     requires { slot < length signed.now.row }
-    ensures parcels { OnOk result (parcels.new
-        ≡ parcels.old ++ row_parcels (files_holding table.now) slot signed.now) }
-    ensures cost { steps.new
-        ≤ steps.old + length (row_parcels (files_holding table.now) slot signed.now) }
+    ensures rows { OnOk result (rows.new ≡ rows.old
+        ++ of_rows (is_held slot (keys_of table.now)) (signed.now ∷ [])) }
+    ensures cost { steps.new ≤ steps.old
+        + length (of_rows (is_held slot (keys_of table.now)) (signed.now ∷ [])) }
 {
-    let files = table.takers(alloc, signed.row.atom(slot))?;
-    add_for_files(alloc, files.as_slice(), signed, parcels, steps)
-}
-
-/// Adds a parcel of the row for each of the files.
-fn add_for_files<L: Ledger>(
-    alloc: Global,
-    files: &[FileId],
-    signed: &SignedRow,
-    parcels: &mut Parcels,
-    steps: &mut Steps<L>,
-) -> Result<(), AllocError>
-    ensures parcels { OnOk result (parcels.new
-        ≡ parcels.old ++ map (for_file signed.now) files.now) }
-    ensures cost { steps.new ≤ steps.old + length files.now }
-{
-    for file in files {
-        parcels.push(parcel_for(alloc, signed, *file, steps)?)?;
+    if !table.holds(signed.row.atom(slot)) {
+        return Ok(());
     }
-    Ok(())
+    rows.push(SignedRow {
+        number: signed.number,
+        plus: signed.plus,
+        row: signed.row.copy(alloc, steps)?,
+    })
 }

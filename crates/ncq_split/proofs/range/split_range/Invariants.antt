@@ -1,9 +1,12 @@
 use Rattle.std.proofs.Common.{◌≡◌, ◌+◌, ◌≤◌, length, take}
-use Rattle.ncq_split.specs.Splits.{files_holding, parcels_of}
+use Rattle.std.specs.Map.{keys_of}
+use Rattle.ncq_midfile.specs.Content.{signed_at}
+use Rattle.ncq_midfile.specs.Shown.{rows_below}
+use Rattle.ncq_midfile.specs.Views.{is_held, of_rows}
 use Rattle.ncq_split.proofs.range.split_range.Given as goal
 
-abbrev pub invariant-loop-signed : goal.invariant-loop-signed
-invariant-loop-signed g l = record {
-  parcels : l.parcels ≡ parcels_of (files_holding l.table) l.slot (take l.signed-index l.rows);
-  cost : l.steps ≤ l.initial.steps + length (parcels_of (files_holding l.table) l.slot (take l.signed-index l.rows));
+abbrev pub invariant-loop-place : goal.invariant-loop-place
+invariant-loop-place g l = record {
+  rows : l.rows ≡ of_rows (is_held l.slot (keys_of l.table)) (signed_at (take l.place-index l.place-items) (rows_below l.input));
+  cost : l.steps ≤ l.initial.steps + length (of_rows (is_held l.slot (keys_of l.table)) (signed_at (take l.place-index l.place-items) (rows_below l.input)));
 }

@@ -1,0 +1,46 @@
+use Rattle.std.proofs.Common.{◌≡◌, ℕ, ◌<◌, List, length, map, ap, ◌∙◌, sym, subst, arith}
+use Rattle.std.specs.List.{All, range_with_len}
+use Rattle.std.proofs.lemmas.List.Elements.{All-from_recursion}
+use Rattle.ncq_midfile.specs.Content.{AreRising, IsPart, signed_at}
+use Rattle.ncq_midfile.specs.Folds.{IsFolded}
+use Rattle.ncq_midfile.specs.Indexes.{cut_index}
+use Rattle.ncq_midfile.specs.Orders.{cut_order}
+use Rattle.ncq_midfile.specs.Views.{RangeState}
+use Rattle.ncq_midfile.specs.declared.signed.SignedRow.{SignedRow}
+use Rattle.ncq_midfile.proofs.Parts.{range_below, range_rises, part_all, part_rising}
+use Rattle.ncq_midfile.proofs.Rangeds.{ranged_at, cut_whole, ranged_as}
+use Rattle.ncq_midfile.proofs.range.RangeFile.fold.Goals as goal
+
+pub keep_at-requires-clause-rising : goal.keep_at-requires-clause-rising
+keep_at-requires-clause-rising c =
+    subst (AreRising 0) (sym c.as_slice-2.ensures)
+    (part_rising 0 c.in_ok-places.places _ c.in_ok-places.ensures.part (range_rises 0 _))
+
+pub keep_at-requires-clause-within : goal.keep_at-requires-clause-within
+keep_at-requires-clause-within c =
+    let rows = c.self.inside.rows.items in
+    let below = λ (place : ℕ). place < length rows in
+    let part = subst (λ (rs : List SignedRow). IsPart c.in_ok-places.places (range_with_len 0 (length rs))) c.as_slice.ensures.value c.in_ok-places.ensures.part in
+    subst (All below) (sym c.as_slice-2.ensures) (All-from_recursion below _ (part_all below c.in_ok-places.places _ part (range_below 0 (length rows) (length rows) (omega arith))))
+
+pub invariant_of-self : goal.invariant_of-self
+invariant_of-self c =
+    let slot = c.self.inside.slot in
+    let rows = c.self.inside.rows.items in
+    let part = subst (λ (rs : List SignedRow). IsPart c.in_ok-places.places (range_with_len 0 (length rs))) c.as_slice.ensures.value c.in_ok-places.ensures.part in
+    let indexes = c.self.inside.indexes.items in
+    let orders = c.self.inside.orders.items in
+    let len = c.self.inside.indexes.ok.0 in
+    let len_orders = c.self.inside.orders.ok.0 in
+    let whole = cut_whole (cut_index 0) indexes c.cut_all.new.indexes c.self.inside.indexes.len (c.cut_all.ensures ∙ ap (map (cut_index 0)) c.deref_mut.ensures.value) (omega arith) in
+    let whole_orders = cut_whole (cut_order 0) orders c.cut_orders.new.orders c.self.inside.orders.len (c.cut_orders.ensures ∙ ap (map (cut_order 0)) c.deref_mut-2.ensures.value) (omega arith) in
+    ranged_as slot _ _ _ _ _ _ (sym (c.keep_at.ensures ∙ ap (λ ps. signed_at ps rows) c.as_slice-2.ensures)) (sym whole) (sym whole_orders)
+    (ranged_at slot rows indexes orders c.self.invariant c.in_ok-places.places part)
+
+pub returns-clause-ok : goal.returns-clause-ok
+returns-clause-ok c =
+    let rows = c.self.inside.rows.items in
+    let old : rows ≡ c.args.self.now.rows = ap (λ (f : RangeState). f.rows) c.self.view_is in
+    subst (λ (rs : List SignedRow). IsFolded c.args.m rs c.keep_at.new.rows.items) old
+    (subst (λ (rs : List SignedRow). IsFolded c.args.m rows rs) (sym (c.keep_at.ensures ∙ ap (λ ps. signed_at ps rows) c.as_slice-2.ensures))
+    (subst (λ (rs : List SignedRow). IsFolded c.args.m rs (signed_at c.in_ok-places.places rs)) c.as_slice.ensures.value c.in_ok-places.ensures.folded))

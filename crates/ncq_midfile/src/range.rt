@@ -1,0 +1,174 @@
+//! The file of a range group.
+ghost use Rattle.std.specs.Prelude.{◌≡◌, ◌≤◌, ◌++◌, [], ◌∷◌, OnOk, OnErr};
+ghost use Rattle.std.specs.List.{AllByRecursion};
+ghost use Rattle.std.specs.Map.{keys_of};
+ghost use Rattle.ncq_midfile.specs.Content.{up_to};
+ghost use Rattle.ncq_midfile.specs.Files.{AreNumbered};
+ghost use Rattle.ncq_midfile.specs.Folds.{IsFolded};
+ghost use Rattle.ncq_midfile.specs.Indexes.{CoverAll};
+ghost use Rattle.ncq_midfile.specs.Matching.{HaveSlots};
+ghost use Rattle.ncq_midfile.specs.Orders.{AreOrders};
+ghost use Rattle.ncq_midfile.specs.Ranged.{HaveNumbers};
+ghost use Rattle.ncq_midfile.specs.Views.{HasNumber, of_rows, is_held, is_kept};
+
+use crate::content::count_up_to;
+use crate::fold::{folded, keep_at};
+use crate::index::{Index, cut_all, keep_index, lose_index};
+use crate::keep::{count_held, count_kept, keep_held, keep_without};
+use crate::order::{Order, cut_orders, keep_order};
+use crate::signed::SignedRow;
+use ncq_base::Interval;
+use ncq_consttab::RangeTable;
+use std::alloc::{AllocError, Global};
+use std::marker::Model;
+
+/// The signed rows that some interval of a range group holds, each once. Each row has a number in
+/// the group's slot.
+#[derive(Drop)]
+pub struct RangeFile {
+    slot: usize,
+    rows: Vec<SignedRow>,
+    indexes: Vec<Index>,
+    orders: Vec<Order>,
+    alloc: Global,
+}
+
+impl Model for RangeFile {
+    ghost use Rattle.ncq_midfile.specs.Views.{RangeState, range_code};
+    ghost use Rattle.ncq_midfile.specs.Ranged.{IsRanged};
+
+    ghost Value = { RangeState };
+
+    ghost coded = { range_code };
+
+    ghost view = { λ f. record { slot = f.slot; rows = f.rows.items } };
+
+    ghost invariant = { λ f. IsRanged f.slot f.rows.items f.indexes.items f.orders.items };
+}
+
+impl RangeFile {
+    /// A file without rows.
+    pub fn new(alloc: Global, slot: usize) -> RangeFile
+        ensures { result ≡ record { slot = slot; rows = [] } }
+    {
+        RangeFile {
+            slot,
+            rows: Vec::new(alloc),
+            indexes: Vec::new(alloc),
+            orders: Vec::new(alloc),
+            alloc,
+        }
+    }
+
+    /// The slot in which each row has a number. Numbers of changes never fall.
+    pub fn slot(&self) -> usize
+        ensures slot { result ≡ self.now.slot }
+        ensures numbered { AreNumbered 0 self.now.rows }
+        ensures numbers { HaveNumbers self.now.slot self.now.rows }
+    {
+        self.slot
+    }
+
+    /// One more signed row, with a number in the slot, of a change not below the last one.
+    pub fn add(&mut self, row: SignedRow) -> Result<(), AllocError>
+        requires number { HasNumber self.old.slot row.row }
+        requires last { AllByRecursion (λ r. r.number ≤ row.number) self.old.rows }
+        ensures slot { self.new.slot ≡ self.old.slot }
+        ensures ok { OnOk result (self.new.rows ≡ self.old.rows ++ row ∷ []) }
+        ensures err { OnErr result (self.new ≡ self.old) }
+    {
+        let rows = self.rows.as_slice();
+        keep_order(self.alloc, &mut self.orders, rows, self.slot)?;
+        self.rows.push(row)?;
+        Ok(())
+    }
+
+    /// Takes away the rows that none of the intervals holds. It takes no memory.
+    pub fn keep(&mut self, intervals: &[Interval])
+        ensures slot { self.new.slot ≡ self.old.slot }
+        ensures rows { self.new.rows ≡ of_rows (is_held self.old.slot intervals.now) self.old.rows }
+    {
+        let front = count_held(self.rows.as_slice(), self.slot, intervals);
+        cut_all(&mut self.indexes, front);
+        cut_orders(&mut self.orders, front);
+        keep_held(&mut self.rows, self.slot, intervals);
+    }
+
+    /// Takes away the rows that the interval has and none of the table's holds. Only rows of the
+    /// interval are looked up. It takes no memory.
+    pub fn keep_without(&mut self, gone: &Interval, table: &RangeTable)
+        ensures slot { self.new.slot ≡ self.old.slot }
+        ensures rows { self.new.rows
+            ≡ of_rows (is_kept self.old.slot gone.now (keys_of table.now)) self.old.rows }
+    {
+        let front = count_kept(self.rows.as_slice(), self.slot, gone, table);
+        if front == self.rows.len() {
+            return;
+        }
+        cut_all(&mut self.indexes, front);
+        cut_orders(&mut self.orders, front);
+        keep_without(&mut self.rows, self.slot, gone, table);
+    }
+
+    /// Takes away the signed rows with numbers above `n`. It takes no memory.
+    pub fn cut(&mut self, n: u64)
+        ensures slot { self.new.slot ≡ self.old.slot }
+        ensures rows { self.new.rows ≡ up_to n self.old.rows }
+    {
+        let kept = count_up_to(self.rows.as_slice(), n);
+        cut_all(&mut self.indexes, kept);
+        cut_orders(&mut self.orders, kept);
+        self.rows.truncate(kept);
+    }
+
+    /// Strikes out pairs of equal rows with numbers up to `m`, one that came in and one that went
+    /// out, until no such pair is left. No row is made. After an error the file is as it was.
+    pub fn fold(&mut self, alloc: Global, m: u64) -> Result<(), AllocError>
+        ensures slot { self.new.slot ≡ self.old.slot }
+        ensures ok { OnOk result (IsFolded m self.old.rows self.new.rows) }
+        ensures err { OnErr result (self.new ≡ self.old) }
+    {
+        let places = folded(alloc, self.rows.as_slice(), m)?;
+        cut_all(&mut self.indexes, 0);
+        cut_orders(&mut self.orders, 0);
+        keep_at(&mut self.rows, places.as_slice());
+        Ok(())
+    }
+
+    /// Makes sure that rows are found by the atoms at these slots. It changes no answer and costs
+    /// the rows that came since the last call. After an error, too, the file is as it was.
+    pub fn ensure_index(&mut self, alloc: Global, slots: &[usize]) -> Result<(), AllocError>
+        requires { HaveSlots slots.now self.old.rows }
+        ensures { self.new ≡ self.old }
+    {
+        keep_index(alloc, &mut self.indexes, self.rows.as_slice(), slots)
+    }
+
+    /// Gives up what finds rows by the atoms at these slots. It changes no answer and takes no
+    /// memory.
+    pub fn drop_index(&mut self, slots: &[usize])
+        ensures { self.new ≡ self.old }
+    {
+        lose_index(&mut self.indexes, slots);
+    }
+
+    pub(crate) fn rows(&self) -> &[SignedRow]
+        ensures rows { result.now ≡ self.now.rows }
+        ensures numbered { AreNumbered 0 result.now }
+        ensures numbers { HaveNumbers self.now.slot result.now }
+    {
+        self.rows.as_slice()
+    }
+
+    pub(crate) fn orders(&self) -> &[Order]
+        ensures { AreOrders result.now self.now.rows }
+    {
+        self.orders.as_slice()
+    }
+
+    pub(crate) fn indexes(&self) -> &[Index]
+        ensures { CoverAll result.now self.now.rows }
+    {
+        self.indexes.as_slice()
+    }
+}
