@@ -98,11 +98,10 @@ module _ (labels : List Label) (store : StoreState) (files : Files) (m : Kept) (
 
 -- what a call on a subscription's file asks and gives
 module _ (labels : List Label) (store : StoreState) (table : TableState) (m : Kept) (can : CanTell labels store table m) (facts : Facts table) (content : FileState) (is : content ≡ can.file.content) where
-  pub wide_rows : AllByRecursion (λ r. length r.row ≡ arms_width m.query.arms) content.rows
-  wide_rows =
+  pub wide_rows : (rows : List SignedRow) → AllByRecursion (λ (r : SignedRow). length r.row ≡ expr_width can.file.expr) rows → AllByRecursion (λ r. length r.row ≡ arms_width m.query.arms) rows
+  wide_rows rows =
       let w : expr_width can.file.expr ≡ arms_width m.query.arms = ap expr_width can.own ∙ plan_is_wide m.query can.formed in
-      subst (λ n. AllByRecursion (λ (r : SignedRow). length r.row ≡ n) content.rows) w
-      (subst (λ (c : FileState). AllByRecursion (λ (r : SignedRow). length r.row ≡ expr_width can.file.expr) c.rows) (sym is) (facts.wide m.file.0 can.file can.at))
+      subst (λ n. AllByRecursion (λ (r : SignedRow). length r.row ≡ n) rows) w
 
   pub last_rows : AllByRecursion (λ r. r.number ≤ table.number) content.rows
   last_rows = subst (λ (c : FileState). AllByRecursion (λ (r : SignedRow). r.number ≤ table.number) c.rows) (sym is) (facts.up_to m.file.0 can.file can.at).last

@@ -45,7 +45,7 @@ pub(crate) fn news_for<'a>(
     }
     groups.facts();
     let file = groups.file(subscription.file);
-    let entries = news(alloc, &subscription.query, file, mark, groups.number())?;
+    let entries = news(alloc, &subscription.query, &file, mark, groups.number())?;
     Ok(Latest {
         subscription,
         mark,

@@ -5,21 +5,19 @@ use Rattle.std.specs.Option.{option_map}
 use Rattle.std.specs.FinMap.{get}
 use Rattle.std.proofs.lemmas.Bool.{cases_eq, cases_lt}
 use Rattle.ncq_plan.specs.Totals.{SignedRow as PlainRow, SameChanges, plus_total, minus_total}
-use Rattle.ncq_midfile.specs.Content.{since}
 use Rattle.ncq_midfile.specs.declared.signed.SignedRow.{SignedRow}
 use Rattle.ncq_delta.specs.Leads.{unnumbered}
 use Rattle.ncq_shelf.specs.KeptFiles.{KeptFile, Files}
 use Rattle.ncq_shelf.specs.Stands.{IsThere}
 use Rattle.ncq_shelf.specs.Contents.{sum_over, with_more}
-use Rattle.ncq_shelf.specs.Readers.{SelectsFrom, AreBoundBy}
+use Rattle.ncq_shelf.specs.Readers.{SelectsFrom}
 use Rattle.ncq_feed.specs.Feeds.{delta_by, feed_work}
 use Rattle.ncq_feed.specs.Passing.{IsPassedTo}
 use Rattle.ncq_feed.specs.Runs.{Run, IsUnderWay, ArePassed, AreRight, wiring_of, is_among, news_of, news_in, due_of, due, count_in, all_due, all_in}
 use Rattle.ncq_feed.specs.JoinFeeds.{IsJoined}
-use Rattle.ncq_feed.specs.Turns.{IsPassedDown, AreBounded}
+use Rattle.ncq_feed.specs.Turns.{IsPassedDown}
 use Rattle.ncq_feed.proofs.WiringLaws.{kind, selects_down, joins_down, scan_no_join, join_no_selection, selects_or_not, selection_there}
 use Rattle.ncq_feed.proofs.FedLaws.{fed, of_selection, of_join}
-use Rattle.ncq_feed.proofs.GrowthLaws.{there_up, selects_back}
 use Rattle.ncq_feed.proofs.SumLaws.{sum_same, sum_more, sum_raised, sum_missing, sum_by_file, there_only}
 
 one_each : (b : Bool) (p m : ℕ) → cond b 1 0 + p + (cond b 0 1 + m) ≡ 1 + (p + m)
@@ -114,7 +112,7 @@ module _ (run : Run) (at : ℕ) (keys : List ℕ) (files0 files1 : Files) (under
   input_right number file here less = fed run under.start (λ n. news_in run.store.changes files0 n) under.stamped (λ n. is_among n (at ∷ keys)) at passed.passed number file here less
 
   -- the file whose turn it is has, after the join, what it is to have
-  own_right : AreRight run at (news_in run.store.changes files1 at)
+  pub own_right : AreRight run at (news_in run.store.changes files1 at)
   own_right = elim (kind run.files under.start.ready.grounded at (is_there.file, is_there.at)) [
     | inl scan ↦ subst (AreRight run at) (sym (join.own (λ left right j. scan_no_join run.files at scan.source scan.shape j.first j.second j.pairs scan.stands j.stands))) (passed.passed.scans at scan)
     | inr reads ↦ elim reads [
@@ -142,7 +140,7 @@ module _ (run : Run) (at : ℕ) (keys : List ℕ) (files0 files1 : Files) (under
     | inr differs ↦ subst (λ (xs : List SignedRow). length xs ≤ due run number) (sym (join.others number differs)) (few0 number)
   ]
 
-  grows1 : (number : ℕ) → n0 number ≤ n1 number
+  pub grows1 : (number : ℕ) → n0 number ≤ n1 number
   grows1 number = elim (cases_eq number at) [
     | inl same ↦ subst (λ n. n0 n ≤ n1 n) (sym same) (let e = own_count in let f = few0 at in omega arith)
     | inr differs ↦ subst (λ (xs : List SignedRow). n0 number ≤ length xs) (sym (join.others number differs)) (omega arith)
@@ -171,7 +169,7 @@ module _ (run : Run) (at : ℕ) (keys : List ℕ) (files0 files1 : Files) (under
       abbrev n2 : ℕ → ℕ
       n2 = count_in run files2
 
-      grows2 : (number : ℕ) → n1 number ≤ n2 number
+      pub grows2 : (number : ℕ) → n1 number ≤ n2 number
       grows2 number = elim (selects_or_not run.files under.start.ready.grounded number at) [
         | inl s ↦ let e = ap length (down.taken number s.0 s.1) ∙ length-append (news_in run.store.changes files1 number) (filter s.0 (news_in run.store.changes files1 at)) in omega arith
         | inr not_over ↦ let e = ap length (down.others number not_over) in omega arith
@@ -182,16 +180,6 @@ module _ (run : Run) (at : ℕ) (keys : List ℕ) (files0 files1 : Files) (under
 
       pub down_spent : (s2 : ℕ) → s2 ≤ s1 + sum_over run.files (λ number. n2 number - n1 number) → s2 + all_in run files0 ≤ s0 + all_in run files2
       down_spent s2 step = let a = join_spent in let b = sum_missing run.files n1 n2 grows2 in omega arith
-
--- what is passed on to selections costs no more than their bounds
-pub parcels_cost : (run : Run) (files : Files) (under : IsUnderWay run files) (at : ℕ) (is_there : IsThere run.files at) (bound : ℕ → ℕ) → AreBounded run at files bound → (s0 s1 : ℕ)
-    → ((file : KeptFile) (bound : ℕ → ℕ) → get files at ≡ Some file → AreBoundBy files at (since run.store.changes file.content.rows) bound → s1 ≤ s0 + sum_over files bound)
-    → s1 ≤ s0 + sum_over run.files bound
-parcels_cost run files under at is_there bound bounded s0 s1 cost =
-    let t = there_up run files under at is_there in
-    let shown : news_in run.store.changes files at ≡ since run.store.changes t.file.content.rows = ap (news_of run.store.changes) t.at in
-    subst (λ n. s1 ≤ s0 + n) (sums_are run files under bound)
-    (cost t.file bound t.at (λ number test selects. subst (λ rows. length (filter test rows) ≤ bound number) shown (bounded number test (selects_back run files under number at test selects))))
 
 -- a turn that ends before the file got its rows
 pub turn_refused : (run : Run) (at : ℕ) (keys : List ℕ) (files : Files) (under : IsUnderWay run files) → ArePassed run at (at ∷ keys) files → IsThere run.files at → (s0 s1 : ℕ) → s1 + count_in run files at ≤ s0 + due run at

@@ -16,8 +16,9 @@ use Rattle.ncq_shelf.specs.KeptFiles.{KeptFile, Files}
 use Rattle.ncq_shelf.specs.Stands.{Stands, IsGrounded, IsThere}
 use Rattle.ncq_shelf.specs.Parts.{IsInput}
 use Rattle.ncq_shelf.specs.Contents.{AreFormed, IsWide, with_more, cut_to}
-use Rattle.ncq_shelf.specs.Readers.{SelectsFrom, JoinsFrom, IsJoinOver, IsScanOf}
+use Rattle.ncq_shelf.specs.Readers.{SelectsEqual, SelectsFrom, JoinsFrom, IsJoinOver, IsScanOf}
 use Rattle.ncq_shelf.specs.Readers.SelectsFrom.{equal as equal_from, range as range_from}
+use Rattle.ncq_shelf.specs.Readers.SelectsEqual.{equal as by_constant}
 use Rattle.ncq_shelf.proofs.CallerLemmas.{put_same, put_other, there, one_value}
 use Rattle.ncq_feed.specs.Runs.{Run, IsStarted, IsUnderWay, IsFor, IsGiven, news_of, news_in}
 use Rattle.ncq_feed.proofs.ContentLaws.{all_since, none_since, up_more, up_before}
@@ -84,6 +85,12 @@ module _ (run : Run) (files : Files) (under : IsUnderWay run files) where
   selects_back number input _ (equal_from inner slot constant s t) = equal_from inner slot constant (stands_down _ number s) (stands_down inner input t)
   selects_back number input _ (range_from inner slot interval s t) = range_from inner slot interval (stands_down _ number s) (stands_down inner input t)
 
+  pub equals_up : (number input : ℕ) (test : SignedRow → Bool) → SelectsEqual run.files number input test → SelectsEqual files number input test
+  equals_up number input _ (by_constant inner slot constant s t) = by_constant inner slot constant (stands_up _ number s) (stands_up inner input t)
+
+  pub equals_back : (number input : ℕ) (test : SignedRow → Bool) → SelectsEqual files number input test → SelectsEqual run.files number input test
+  equals_back number input _ (by_constant inner slot constant s t) = by_constant inner slot constant (stands_down _ number s) (stands_down inner input t)
+
   pub joins_up : (number left right : ℕ) → JoinsFrom run.files number left right → JoinsFrom files number left right
   joins_up number left right j = record { first = j.first; second = j.second; pairs = j.pairs; stands = stands_up _ number j.stands; on_left = stands_up j.first left j.on_left; on_right = stands_up j.second right j.on_right }
 
@@ -104,7 +111,7 @@ module _ (run : Run) (files : Files) (under : IsUnderWay run files) where
 
   -- one row more behind a file
   module _ (number : ℕ) (file : KeptFile) (at : get files number ≡ Some file) (row : SignedRow) (stamped : row.number ≡ now + 1) (wide : length row.row ≡ expr_width file.expr) where
-    abbrev pushed : Files
+    abbrev pub pushed : Files
     pushed = insert files number (with_more file (row ∷ []))
 
     own_news : news_in now pushed number ≡ news number ++ row ∷ []

@@ -24,7 +24,7 @@ use Rattle.ncq_delta.specs.Leads.{unnumbered}
 use Rattle.ncq_delta.proofs.LeadLaws.{same_delta}
 use Rattle.ncq_shelf.specs.KeptFiles.{KeptFile, Files}
 use Rattle.ncq_shelf.specs.Stands.{Stands, IsThere}
-use Rattle.ncq_shelf.specs.Contents.{with_more}
+use Rattle.ncq_shelf.specs.Contents.{with_more, AreWide as AllAreWide}
 use Rattle.ncq_shelf.specs.Parts.{IsInput}
 use Rattle.ncq_shelf.specs.Inputs.{AreInputs}
 use Rattle.ncq_shelf.specs.declared.inputs.Inputs.{Inputs}
@@ -167,11 +167,30 @@ module _ (run : Run) (files : Files) (under : IsUnderWay run files) (at left rig
   wide_as expr number s file here =
       subst (λ e. AllByRecursion (λ r. length r.row ≡ expr_width e) file.content.rows) (ap (λ (f : KeptFile). f.expr) (one_value here (up run files under number s.file s.at)) ∙ s.of) (under.wide number file here)
 
-  pub lefts_have : (file : KeptFile) → get files left ≡ Some file → HaveSlots (left_slots j.pairs) file.content.rows
-  lefts_have file here = have_slots (expr_width j.first) (left_slots j.pairs) file.content.rows (left_fit (expr_width j.first) (expr_width j.second) j.pairs join_fit) (wide_as j.first left j.on_left file here)
+  width_as : (expr : Expr) (number : ℕ) (s : Stands run.files expr number) (file : KeptFile) → get files number ≡ Some file → expr_width expr ≡ expr_width file.expr
+  width_as expr number s file here = ap expr_width (sym s.of) ∙ ap (λ (f : KeptFile). expr_width f.expr) (sym (one_value here (up run files under number s.file s.at)))
 
-  pub rights_have : (file : KeptFile) → get files right ≡ Some file → HaveSlots (right_slots j.pairs) file.content.rows
-  rights_have file here = have_slots (expr_width j.second) (right_slots j.pairs) file.content.rows (right_fit (expr_width j.first) (expr_width j.second) j.pairs join_fit) (wide_as j.second right j.on_right file here)
+  -- the slots of the pairs are those of the sides
+  pub lefts_fit : (file : KeptFile) → get files left ≡ Some file → AllByRecursion (λ slot. slot < expr_width file.expr) (left_slots j.pairs)
+  lefts_fit file here = subst (λ n. AllByRecursion (λ slot. slot < n) (left_slots j.pairs)) (width_as j.first left j.on_left file here) (left_fit (expr_width j.first) (expr_width j.second) j.pairs join_fit)
+
+  pub rights_fit : (file : KeptFile) → get files right ≡ Some file → AllByRecursion (λ slot. slot < expr_width file.expr) (right_slots j.pairs)
+  rights_fit file here = subst (λ n. AllByRecursion (λ slot. slot < n) (right_slots j.pairs)) (width_as j.second right j.on_right file here) (right_fit (expr_width j.first) (expr_width j.second) j.pairs join_fit)
+
+  -- rows of a file's width are wide where all files are
+  abbrev pub WideBelow : ℕ → List SignedRow → Type 0
+  WideBelow number rows = (file : KeptFile) → get files number ≡ Some file → AllAreWide files → AllByRecursion (λ r. length r.row ≡ expr_width file.expr) rows
+
+  -- the rows below have the slots of the pairs
+  pub asks_lefts : (rows : List SignedRow) → WideBelow left rows → (pairs : List Pair) → pairs ≡ j.pairs → HaveSlots (left_slots pairs) rows
+  asks_lefts rows wide pairs is =
+      let t = left_there in
+      subst (λ ps. HaveSlots (left_slots ps) rows) (sym is) (have_slots (expr_width t.file.expr) (left_slots j.pairs) rows (lefts_fit t.file t.at) (wide t.file t.at under.wide))
+
+  pub asks_rights : (rows : List SignedRow) → WideBelow right rows → (pairs : List Pair) → pairs ≡ j.pairs → HaveSlots (right_slots pairs) rows
+  asks_rights rows wide pairs is =
+      let t = right_there in
+      subst (λ ps. HaveSlots (right_slots ps) rows) (sym is) (have_slots (expr_width t.file.expr) (right_slots j.pairs) rows (rights_fit t.file t.at) (wide t.file t.at under.wide))
 
   -- the sides as they are shown
   module _ (known : AreSidesKnown run at left right j files) (left_content right_content : FileState)
@@ -187,12 +206,6 @@ module _ (run : Run) (files : Files) (under : IsUnderWay run files) (at left rig
 
     pub right_based : right_content.base ≤ now
     right_based = subst (λ (c : FileState). c.base ≤ now) (sym right_is) (under.start.ready.up_to right j.on_right.file j.on_right.at).base
-
-    pub left_slots_there : HaveSlots (left_slots j.pairs) left_content.rows
-    left_slots_there = subst (λ (c : FileState). HaveSlots (left_slots j.pairs) c.rows) (sym left_is) (lefts_have (with_more j.on_left.file (news_in now files left)) (up run files under left j.on_left.file j.on_left.at))
-
-    pub right_slots_there : HaveSlots (right_slots j.pairs) right_content.rows
-    right_slots_there = subst (λ (c : FileState). HaveSlots (right_slots j.pairs) c.rows) (sym right_is) (rights_have (with_more j.on_right.file (news_in now files right)) (up run files under right j.on_right.file j.on_right.at))
 
     after_shown : (after : List Row) → IsContent (now + 1) (j.on_left.file.content.rows ++ news_in now files left) after → IsContent (now + 1) left_content.rows after
     after_shown after content = subst (λ (c : FileState). IsContent (now + 1) c.rows after) (sym left_is) content
@@ -229,12 +242,6 @@ module _ (run : Run) (files : Files) (under : IsUnderWay run files) (at left rig
 
       pub asks_sound_now : IsSoundAt (n + 1) left_content.rows
       asks_sound_now = subst (λ m. IsSoundAt (m + 1) left_content.rows) (sym n_is) left_sound
-
-      pub asks_lefts : HaveSlots (left_slots pairs) left_content.rows
-      asks_lefts = subst (λ ps. HaveSlots (left_slots ps) left_content.rows) (sym pairs_are) left_slots_there
-
-      pub asks_rights : HaveSlots (right_slots pairs) right_content.rows
-      asks_rights = subst (λ ps. HaveSlots (right_slots ps) right_content.rows) (sym pairs_are) right_slots_there
 
       abbrev pub Counts : List SignedRow → ℕ → ℕ → List Pair → Type 0
       Counts rows before_number number ps = (before after : List Row) → IsContent before_number right_content.rows before → IsContent number left_content.rows after

@@ -9,6 +9,8 @@ pub mod MissLaws
 pub mod TurnLaws
 pub mod NameLaws
 pub mod PendingLaws
+pub mod RangeLaws
+pub mod ShareLaws
 pub mod ParcelLaws
 pub mod JoinLaws
 pub mod ScanLaws
@@ -16,4 +18,7 @@ pub mod PortionLaws
 pub mod FeedLaws
 pub mod SumLaws
 pub mod CountLaws
+pub mod PaidLaws
+pub mod HeldCounts
+pub mod OwnLaws
 pub mod CallerLemmas

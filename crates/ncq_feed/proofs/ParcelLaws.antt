@@ -1,25 +1,32 @@
 -- Parcels for the selections over a file, and the joins over it.
-use Rattle.std.proofs.Common.{◌≡◌, ◌≢◌, ℕ, ◌+◌, Bool, true, false, cond, ◌||◌, nat_eq, List, [], ◌∷◌, ◌++◌, map, length, Some, inl, inr, refl, sym, ap, ◌∙◌, subst, append_assoc, true≢false}
+use Rattle.std.proofs.Common.{◌≡◌, ◌≢◌, ℕ, ◌+◌, Bool, true, false, cond, ◌||◌, nat_eq, List, [], ◌∷◌, ◌++◌, map, length, Some, ◌⊎◌, inl, inr, refl, sym, ap, ◌∙◌, subst, append_assoc, true≢false}
 use Rattle.std.specs.List.{AllByRecursion, filter}
 use Rattle.std.specs.FinMap.{get}
 use Rattle.std.proofs.lemmas.Bool.{cases_eq, eq-eqb, ne_eqb, or_cases}
 use Rattle.std.proofs.lemmas.List.{append-nil}
 use Rattle.ncq_plan.specs.Exprs.{expr_width}
 use Rattle.ncq_plan.proofs.CallerLemmas.{width_equal, width_range}
+use Rattle.ncq_plan.specs.Meets.{is_within}
+use Rattle.ncq_midfile.specs.Views.{of_rows}
 use Rattle.ncq_midfile.specs.declared.signed.SignedRow.{SignedRow}
 use Rattle.ncq_midfile.specs.Content.{since}
 use Rattle.ncq_split.specs.declared.parcel.Parcel.{Parcel}
-use Rattle.ncq_readers.specs.Passed.{rows_to}
+use Rattle.ncq_readers.specs.Passed.{rows_to, held_at}
+use Rattle.ncq_readers.specs.declared.ranges.HeldRows.{HeldRows}
 use Rattle.ncq_shelf.specs.KeptFiles.{KeptFile, Files}
 use Rattle.ncq_shelf.specs.Stands.{IsThere}
 use Rattle.ncq_shelf.specs.Contents.{with_more}
-use Rattle.ncq_shelf.specs.Readers.{SelectsFrom, MakesNothing, ArePassedOn, AreJoinsMet}
+use Rattle.ncq_shelf.specs.Ranges.{AreHeldOf, IsHeldBy, IsNoRange, SelectsRange}
+use Rattle.ncq_shelf.specs.Readers.{SelectsFrom, SelectsEqual, MakesNothing, ArePassedOn, AreJoinsMet}
+use Rattle.ncq_shelf.specs.Readers.SelectsEqual.{equal as by_constant}
 use Rattle.ncq_shelf.specs.Readers.SelectsFrom.{equal as equal_from, range as range_from}
 use Rattle.ncq_shelf.proofs.CallerLemmas.{one_value}
 use Rattle.ncq_feed.specs.Runs.{Run, IsUnderWay, IsFor, IsGiven, is_among, news_of, news_in}
+use Rattle.ncq_feed.specs.Shares.{AreShared, IsHeldFor}
 use Rattle.ncq_feed.specs.Turns.{IsParcelFor, AreDelivered, IsPassedDown, AreTold, files_of}
 use Rattle.ncq_feed.proofs.WiringLaws.{selects_or_not, selection_there}
-use Rattle.ncq_feed.proofs.GrowthLaws.{selects_up, selects_back, over_up, over_back, up}
+use Rattle.ncq_feed.proofs.GrowthLaws.{equals_up, equals_back, over_up, over_back, up}
+use Rattle.ncq_feed.proofs.RangeLaws.{by_equal, by_interval, no_equal, equal_own, equal_or_range, of_taken, all_taken, each_group, held_of_back}
 
 -- rows to a file, parcel by parcel
 
@@ -121,55 +128,102 @@ module _ (run : Run) (files : Files) (under : IsUnderWay run files) (at : ℕ) w
     abbrev given : ArePassedOn files at (since now own_file.content.rows) parcels
     given = passed own_file own_at
 
-    pub taken_rows : (number : ℕ) (test : SignedRow → Bool) → SelectsFrom run.files number at test → rows_to number parcels ≡ filter test (news_in now files at)
-    taken_rows number test selects = given.taken number test (selects_up run files under number at test selects) ∙ ap (filter test) rows_are
+    pub taken_rows : (number : ℕ) (test : SignedRow → Bool) → SelectsEqual run.files number at test → rows_to number parcels ≡ filter test (news_in now files at)
+    taken_rows number test selects = given.taken number test (equals_up run files under number at test selects) ∙ ap (filter test) rows_are
 
-    other_rows : (number : ℕ) → ((test : SignedRow → Bool) → SelectsFrom run.files number at test → ⊥) → rows_to number parcels ≡ []
-    other_rows number not_over = given.others number (λ test selects. not_over test (selects_back run files under number at test selects))
+    pub other_rows : (number : ℕ) → ((test : SignedRow → Bool) → SelectsEqual run.files number at test → ⊥) → rows_to number parcels ≡ []
+    other_rows number not_over = given.others number (λ test selects. not_over test (equals_back run files under number at test selects))
+
+    pub equal_or_not : (number : ℕ) → ((test : SignedRow → Bool) × SelectsEqual run.files number at test) ⊎ ((test : SignedRow → Bool) → SelectsEqual run.files number at test → ⊥)
+    equal_or_not number = elim (selects_or_not run.files under.start.ready.grounded number at) [
+      | inl s ↦ elim (equal_or_range run.files number at s.0 s.1) [
+        | inl e ↦ inl (s.0, e)
+        | inr r ↦ inr (λ test e. no_equal run.files number at at test e r)
+      ]
+      | inr not_over ↦ inr (λ test e. not_over test (by_equal run.files number at test e))
+    ]
 
     abbrev Q : ℕ → SignedRow → Type 0
-    Q number row = IsThere run.files number × IsFor run number row
+    Q number row = IsThere run.files number × IsNoRange run.files number × IsFor run number row
 
-    q_selected : (number : ℕ) (test : SignedRow → Bool) → SelectsFrom run.files number at test → AllByRecursion (Q number) (filter test (news_in now files at))
+    q_selected : (number : ℕ) (test : SignedRow → Bool) → SelectsEqual run.files number at test → AllByRecursion (Q number) (filter test (news_in now files at))
     q_selected number test selects =
-        let f = selection_there run.files under.start.ready.grounded number at test selects in
+        let f = selection_there run.files under.start.ready.grounded number at test (by_equal run.files number at test selects) in
         all_filter (Q number) test (news_in now files at)
         (all_map (λ r. (r.number ≡ now + 1) × (length r.row ≡ expr_width own_file.expr)) (Q number)
         (λ r h. (
           record { file = f.0; at = f.1 },
+          equal_own run.files number at test selects,
           record {
             stamped = h.0;
-            wide = λ file here. h.1 ∙ same_width number test selects file is_there.file here is_there.at;
+            wide = λ file here. h.1 ∙ same_width number test (by_equal run.files number at test selects) file is_there.file here is_there.at;
           },
         )) (news_in now files at)
         (all_both (λ (r : SignedRow). r.number ≡ now + 1) (λ (r : SignedRow). length r.row ≡ expr_width own_file.expr) (news_in now files at) (under.stamped at) (news_wide own_file own_at)))
 
     q_all : (number : ℕ) → AllByRecursion (Q number) (rows_to number parcels)
-    q_all number = elim (selects_or_not run.files under.start.ready.grounded number at) [
+    q_all number = elim (equal_or_not number) [
       | inl s ↦ subst (AllByRecursion (Q number)) (sym (taken_rows number s.0 s.1)) (q_selected number s.0 s.1)
       | inr not_over ↦ subst (AllByRecursion (Q number)) (sym (other_rows number not_over)) tt
     ]
 
     -- each parcel is for a file, and its row for that file
     pub parcels_fit : AllByRecursion (IsParcelFor run) parcels
-    parcels_fit = all_map (λ p. Q p.file.0 p.row) (IsParcelFor run) (λ p h. record { there = h.0; fits = h.1 }) parcels (each_parcel Q parcels q_all)
+    parcels_fit = all_map (λ p. Q p.file.0 p.row) (IsParcelFor run) (λ p h. record { there = h.0; own = h.1; fits = h.2 }) parcels (each_parcel Q parcels q_all)
 
-    -- what the parcels bring passes the rows on
-    pub passed_down : (old_pending new_pending : List ℕ) (new : Files) → AreDelivered run parcels old_pending new_pending files new → IsPassedDown run at old_pending new_pending files new
-    passed_down old_pending new_pending new delivered = record {
-      taken = λ number test selects. delivered.rows number ∙ ap (λ xs. news_in now files number ++ xs) (taken_rows number test selects);
-      others = λ number not_over. delivered.rows number ∙ ap (λ xs. news_in now files number ++ xs) (other_rows number not_over) ∙ append-nil (news_in now files number);
-      quiet = λ number idle.
-          let n = none_of number (is_among number (files_of parcels)) (is_among number old_pending) (sym (delivered.noted number) ∙ idle) in
-          (n.1, delivered.rows number ∙ ap (λ xs. news_in now files number ++ xs) (none_to number parcels n.0) ∙ append-nil (news_in now files number));
-      noted = λ number is. elim (or_cases (is_among number (files_of parcels)) (is_among number old_pending) (sym (delivered.noted number) ∙ is)) [
-        | inl among ↦ elim (selects_or_not run.files under.start.ready.grounded number at) [
-          | inl s ↦ inr s
-          | inr not_over ↦ absurd (some_to number parcels among (other_rows number not_over))
-        ]
-        | inr was ↦ inl was
-      ];
-    }
+    -- what the parcels and the held rows bring passes the rows on
+    module _ (held : List HeldRows) (held_of : (file : KeptFile) → get files at ≡ Some file → AreHeldOf files at (since now file.content.rows) held) where
+      pub held_are : AreHeldOf run.files at (news_in now files at) held
+      held_are = subst (λ rows. AreHeldOf run.files at rows held) rows_are (held_of_back run files under at (since now own_file.content.rows) held (held_of own_file own_at))
+
+      -- each held row fits, and some selection takes it
+      pub held_fit : AllByRecursion (λ h. AllByRecursion (IsHeldFor run at h.slot) h.rows) held
+      held_fit = each_group (IsHeldFor run at) held (λ slot.
+          all_map (λ r. ((r.number ≡ now + 1) × (length r.row ≡ expr_width own_file.expr)) × IsHeldBy run.files at slot r.row) (IsHeldFor run at slot)
+          (λ r h. record {
+            fits = record { stamped = h.0.0; wide = λ file here. h.0.1 ∙ ap (λ (f : KeptFile). expr_width f.expr) (one_value is_there.at here) };
+            held = h.1;
+          }) (held_at slot held)
+          (all_taken run.files at slot (λ r. (r.number ≡ now + 1) × (length r.row ≡ expr_width own_file.expr)) (news_in now files at) (held_at slot held)
+          (all_both (λ (r : SignedRow). r.number ≡ now + 1) (λ (r : SignedRow). length r.row ≡ expr_width own_file.expr) (news_in now files at) (under.stamped at) (news_wide own_file own_at)) (held_are slot)))
+
+      module _ (pending0 pending1 pending2 : List ℕ) (files1 files2 : Files) (delivered : AreDelivered run parcels pending0 pending1 files files1)
+          (shared : AreShared run at (λ slot. held_at slot held) pending1 pending2 files1 files2) where
+        taken_down : (number : ℕ) (test : SignedRow → Bool) → SelectsFrom run.files number at test → news_in now files2 number ≡ news_in now files number ++ filter test (news_in now files at)
+        taken_down number _ (equal_from inner slot constant s t) =
+            let e : SelectsEqual run.files number at _ = by_constant inner slot constant s t in
+            shared.others number (no_equal run.files number at at _ e) ∙ delivered.rows number ∙ ap (λ xs. news_in now files number ++ xs) (taken_rows number _ e)
+        taken_down number _ (range_from inner slot interval s t) =
+            let r : SelectsRange run.files at slot interval number = record { inner = inner; stands = s; over = t } in
+            shared.taken slot interval number r
+            ∙ ap (λ xs. xs ++ of_rows (is_within slot interval) (held_at slot held))
+            (delivered.rows number ∙ ap (λ xs. news_in now files number ++ xs) (other_rows number (λ test e. no_equal run.files number at at test e (record { slot = slot; interval = interval; selects = r }))) ∙ append-nil (news_in now files number))
+            ∙ ap (λ xs. news_in now files number ++ xs) (of_taken run.files at slot interval number r (news_in now files at) (held_at slot held) (held_are slot))
+
+        others_down : (number : ℕ) → ((test : SignedRow → Bool) → SelectsFrom run.files number at test → ⊥) → news_in now files2 number ≡ news_in now files number
+        others_down number not_over =
+            shared.others number (λ r. not_over _ (by_interval run.files number at r.slot r.interval r.selects)) ∙ delivered.rows number
+            ∙ ap (λ xs. news_in now files number ++ xs) (other_rows number (λ test e. not_over test (by_equal run.files number at test e))) ∙ append-nil (news_in now files number)
+
+        pub passed_down : IsPassedDown run at pending0 pending2 files files2
+        passed_down = record {
+          taken = taken_down;
+          others = others_down;
+          quiet = λ number idle.
+              let q = shared.quiet number idle in
+              let n = none_of number (is_among number (files_of parcels)) (is_among number pending0) (sym (delivered.noted number) ∙ q.0) in
+              (n.1, q.1 ∙ delivered.rows number ∙ ap (λ xs. news_in now files number ++ xs) (none_to number parcels n.0) ∙ append-nil (news_in now files number));
+          noted = λ number is. elim (shared.noted number is) [
+            | inl was ↦ elim (or_cases (is_among number (files_of parcels)) (is_among number pending0) (sym (delivered.noted number) ∙ was)) [
+              | inl among ↦ elim (equal_or_not number) [
+                | inl e ↦ inr (e.0, by_equal run.files number at e.0 e.1)
+                | inr not_over ↦ absurd (some_to number parcels among (other_rows number not_over))
+              ]
+              | inr before ↦ inl before
+            ]
+            | inr r ↦ inr (_, by_interval run.files number at r.slot r.interval r.selects)
+          ];
+        }
 
   -- the joins over the file that make something of its rows are told
   pub joins_told : (change : ℕ) → change ≡ now → (numbers old_pending new_pending : List ℕ) → AreJoinsMet files at change numbers → ((number : ℕ) → is_among number new_pending ≡ (is_among number numbers || is_among number old_pending)) → AreTold run at files old_pending new_pending

@@ -21,10 +21,11 @@ use Rattle.ncq_shelf.specs.KeptFiles.{KeptFile, Files}
 use Rattle.ncq_shelf.specs.Stands.{Stands, IsThere}
 use Rattle.ncq_shelf.specs.Readers.{AreScansOf, IsScanOf}
 use Rattle.ncq_feed.specs.Feeds.{IsNamed, name_at, name_in}
-use Rattle.ncq_feed.specs.Runs.{Run, IsStarted, IsUnderWay, AreRight, ArePassed, IsScanFile, is_among, news_in, due, count_in, all_due, all_in}
+use Rattle.ncq_feed.specs.Runs.{Run, IsStarted, IsUnderWay, AreRight, ArePassed, IsScanFile, is_among, news_in, due, count_in, own_due, own_in, own as own_of}
 use Rattle.ncq_feed.specs.ScanFeeds.{AreLeft, AreScansFed, IsScanFed, is_asked, numbered}
 use Rattle.ncq_feed.proofs.CountLaws.{right_count, nowhere}
 use Rattle.ncq_feed.proofs.GrowthLaws.{scan_up, scan_back}
+use Rattle.ncq_feed.proofs.OwnLaws.{own_more, own_scan as scan_counts}
 use Rattle.ncq_feed.proofs.ScanLaws.{own_right}
 use Rattle.ncq_feed.proofs.SumLaws.{sum_more, sum_raised}
 use Rattle.ncq_feed.proofs.Variants.{scan_parts}
@@ -322,27 +323,36 @@ module _ (run : Run) (files : Files) (under : IsUnderWay run files) (portions : 
       by None e = none_few number (nowhere run files under number e)
       by (Some file) e = file_few number file e
 
-  pub scans_within : all_in run files ≤ all_due run
-  scans_within = sum_more run.files (count_in run files) (due run) scans_few
+  pub scans_within : own_in run files ≤ own_due run
+  scans_within = sum_more run.files (own_of run (count_in run files)) (own_of run (due run)) (own_more run (count_in run files) (due run) scans_few)
 
 -- one scan more, from how much was spent before
 module _ (run : Run) (files : Files) (under : IsUnderWay run files) (name : List ℕ) (at : ℕ) (rest : List ℕ) (left : AreLeft run name (at ∷ rest) files)
-    (start base s0 s1 : ℕ) (before : s0 + base ≤ start + all_in run files) (cost : s1 ≤ s0 + due run at) where
+    (start base s0 s1 : ℕ) (before : s0 + base ≤ start + own_in run files) (cost : s1 ≤ s0 + due run at) where
   abbrev own : IsScanOf run.files name at
   own = first_scan run name at rest files left
 
   nothing_yet : count_in run files at ≡ 0
   nothing_yet = ap length (first_still run name at rest files left)
 
-  pub scan_cost : (portions : List Portion) (keys : List ℕ) → AreScansFed run portions (at ∷ rest) keys files → s1 + base ≤ start + all_due run
+  all_own : (f : ℕ → ℕ) → own_of run f at ≡ f at
+  all_own = scan_counts run at (record { source = name; shape = own.shape; stands = own.stands })
+
+  pub scan_cost : (portions : List Portion) (keys : List ℕ) → AreScansFed run portions (at ∷ rest) keys files → s1 + base ≤ start + own_due run
   scan_cost portions keys fed =
-      let r = sum_raised run.files (count_in run files) (due run) at own.stands.file own.stands.at (scans_few run files under portions (at ∷ rest) keys fed left.still) s0 s1 (let n = nothing_yet in omega arith) in
+      let a = all_own (count_in run files) in
+      let b = all_own (due run) in
+      let r = sum_raised run.files (own_of run (count_in run files)) (own_of run (due run)) at own.stands.file own.stands.at
+      (own_more run (count_in run files) (due run) (scans_few run files under portions (at ∷ rest) keys fed left.still)) s0 s1 (let n = nothing_yet in omega arith) in
       omega arith
 
-  pub scan_spent : (keys keys' : List ℕ) (new : Files) → IsScanFed run at keys keys' files new → s1 + base ≤ start + all_in run new
+  pub scan_spent : (keys keys' : List ℕ) (new : Files) → IsScanFed run at keys keys' files new → s1 + base ≤ start + own_in run new
   scan_spent keys keys' new one =
+      let a = all_own (count_in run files) in
+      let b = all_own (count_in run new) in
       let e = right_count run at own.stands.file own.stands.at (news_in run.store.changes new at) one.own in
-      let r = sum_raised run.files (count_in run files) (count_in run new) at own.stands.file own.stands.at (λ number. grows number (cases_eq number at)) s0 s1 (let n = nothing_yet in omega arith) in
+      let r = sum_raised run.files (own_of run (count_in run files)) (own_of run (count_in run new)) at own.stands.file own.stands.at
+      (own_more run (count_in run files) (count_in run new) (λ number. grows number (cases_eq number at))) s0 s1 (let n = nothing_yet in omega arith) in
       omega arith
     where
       grows : (number : ℕ) → (number ≡ at) ⊎ (number ≢ at) → count_in run files number ≤ count_in run new number

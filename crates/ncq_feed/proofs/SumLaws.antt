@@ -48,7 +48,7 @@ module _ {X : Type 0} where
   own_find e es = ap (λ b. cond b (Some e.1) (find nat_cmp e.0 es)) (unsigned_tied e.0 e.0 ∙ eq-eqb e.0 e.0 refl)
 
   -- each entry is what its key finds
-  by_find : (g : ℕ → ℕ) (h : X → ℕ) (es : List (ℕ × X)) → is_sorted nat_cmp es ≡ true → ((q : ℕ) (x : X) → find nat_cmp q es ≡ Some x → g q ≡ h x) → total_by (λ e. g e.0) es ≡ total_by (λ e. h e.1) es
+  by_find : (g : ℕ → ℕ) (h : ℕ → X → ℕ) (es : List (ℕ × X)) → is_sorted nat_cmp es ≡ true → ((q : ℕ) (x : X) → find nat_cmp q es ≡ Some x → g q ≡ h q x) → total_by (λ e. g e.0) es ≡ total_by (λ e. h e.0 e.1) es
   by_find g h [] sorted is = refl
   by_find g h (e ∷ es) sorted is =
       let b = both_true (below_all nat_cmp e.0 es) (is_sorted nat_cmp es) sorted in
@@ -81,7 +81,10 @@ module _ (files : Files) where
   sum_one f number file at = among f number (entries files) file (sym (get-entries files number) ∙ at)
 
   pub sum_by_file : (g : ℕ → ℕ) (h : KeptFile → ℕ) → ((number : ℕ) (file : KeptFile) → get files number ≡ Some file → g number ≡ h file) → sum_over files g ≡ total_by (λ e. h e.1) (entries files)
-  sum_by_file g h is = by_find g h (entries files) (told _ (entries_sorted files)) (λ q x found. is q x (get-entries files q ∙ found))
+  sum_by_file g h is = by_find g (λ q. h) (entries files) (told _ (entries_sorted files)) (λ q x found. is q x (get-entries files q ∙ found))
+
+  pub sum_by_entry : (g : ℕ → ℕ) (h : ℕ → KeptFile → ℕ) → ((number : ℕ) (file : KeptFile) → get files number ≡ Some file → g number ≡ h number file) → sum_over files g ≡ total_by (λ e. h e.0 e.1) (entries files)
+  sum_by_entry g h is = by_find g h (entries files) (told _ (entries_sorted files)) (λ q x found. is q x (get-entries files q ∙ found))
 
   -- one number is raised, and the others do not fall
   pub sum_raised : (f g : ℕ → ℕ) (number : ℕ) (file : KeptFile) → get files number ≡ Some file → ((n : ℕ) → f n ≤ g n) → (before after : ℕ) → after + f number ≤ before + g number → after + sum_over files f ≤ before + sum_over files g

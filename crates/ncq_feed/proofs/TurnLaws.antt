@@ -1,12 +1,12 @@
 -- What one turn does passes the change on.
 use Rattle.std.proofs.Common.{◌≡◌, ◌≢◌, ℕ, ◌<◌, ◌≤◌, ◌+◌, Bool, true, false, ◌||◌, nat_eq, length, List, [], ◌∷◌, ◌++◌, Some, ◌⊎◌, inl, inr, refl, sym, ap, ◌∙◌, subst, arith}
 use Rattle.std.specs.List.{filter}
-use Rattle.std.specs.Prelude.{◌==◌}
+use Rattle.std.specs.Prelude.{◌==◌, not}
 use Rattle.std.specs.FinMap.{get}
 use Rattle.std.proofs.lemmas.Bool.{cases_eq, ne_eqb, eq-eqb, eqb-true}
 use Rattle.ncq_midfile.specs.declared.signed.SignedRow.{SignedRow}
 use Rattle.ncq_midfile.specs.Files.{FileState}
-use Rattle.ncq_midfile.specs.Content.{since}
+use Rattle.ncq_midfile.specs.Content.{since, signed_at}
 use Rattle.ncq_shelf.specs.KeptFiles.{KeptFile, Files}
 use Rattle.ncq_shelf.specs.Stands.{IsThere}
 use Rattle.ncq_shelf.specs.Readers.{SelectsFrom, JoinsFrom, IsJoinOver}
@@ -190,9 +190,17 @@ all_right run files under next pending passed none number file at =
 pub turn_start : (run : Run) (at : ℕ) (keys : List ℕ) (files : Files) → ArePassed run at (at ∷ keys) files → IsThere run.files at
 turn_start run at keys files passed = passed.there at (ap (λ b. b || is_among at keys) (eq-eqb at at refl))
 
-nothing_in : (rows : List SignedRow) → true ≡ (length rows == 0) → rows ≡ []
+not_false : (b : Bool) → not b ≡ false → b ≡ true
+not_false true e = refl
+not_false false e = sym e
+
+-- what a look at a length tells
+pub is_nothing : (n : ℕ) → not (n == 0) ≡ false → n ≡ 0
+is_nothing n e = eqb-true n 0 (not_false (n == 0) e)
+
+nothing_in : (places : List ℕ) → length places ≡ 0 → places ≡ []
 nothing_in [] e = refl
-nothing_in (r ∷ rows) e = let z : length (r ∷ rows) ≡ 0 = eqb-true (length (r ∷ rows)) 0 (sym e) in absurd (omega arith)
+nothing_in (place ∷ places) e = absurd (omega arith)
 
 module _ (run : Run) (files : Files) (under : IsUnderWay run files) (at : ℕ) (is_there : IsThere run.files at) (content : FileState) (shows : (file : KeptFile) → get files at ≡ Some file → content ≡ file.content) where
   -- what is shown of its content
@@ -200,8 +208,8 @@ module _ (run : Run) (files : Files) (under : IsUnderWay run files) (at : ℕ) (
   news_shown = let t = there_up run files under at is_there in ap (news_of run.store.changes) t.at ∙ ap (λ (c : FileState). since run.store.changes c.rows) (sym (shows t.file t.at))
 
   -- where nothing is shown, it has no rows of the change
-  pub none_shown : (now : ℕ) → now ≡ run.store.changes → (rows : List SignedRow) → rows ≡ since now content.rows → true ≡ (length rows == 0) → news_in run.store.changes files at ≡ []
-  none_shown now is rows e empty = news_shown ∙ ap (λ n. since n content.rows) (sym is) ∙ sym e ∙ nothing_in rows empty
+  pub none_shown : (now : ℕ) → now ≡ run.store.changes → (places : List ℕ) (below : List SignedRow) → signed_at places below ≡ since now content.rows → length places ≡ 0 → news_in run.store.changes files at ≡ []
+  none_shown now is places below e none = news_shown ∙ ap (λ n. since n content.rows) (sym is) ∙ sym e ∙ ap (λ ps. signed_at ps below) (nothing_in places none)
 
   pub file_based : content.base ≤ run.store.changes
   file_based = let t = there_up run files under at is_there in subst (λ (c : FileState). c.base ≤ run.store.changes) (sym (shows t.file t.at)) (based run files under at t.file t.at)

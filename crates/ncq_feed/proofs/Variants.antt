@@ -1,5 +1,5 @@
 -- Expressions of two variants are never one, and a join tells its parts.
-use Rattle.std.proofs.Common.{◌≡◌, ℕ, List, sym, ap, ◌∙◌}
+use Rattle.std.proofs.Common.{◌≡◌, ℕ, true, false, List, sym, ap, ◌∙◌}
 use Rattle.ncq_base.specs.declared.atom.Atom.{Atom}
 use Rattle.ncq_base.specs.declared.interval.Interval.{Interval}
 use Rattle.ncq_row.specs.declared.pair.Pair.{Pair}
@@ -9,6 +9,7 @@ use Rattle.ncq_plan.specs.declared.expr.Expr.TheVariants.{Scan, EqSel, RangeSel,
 use Rattle.ncq_plan.specs.declared.expr.Expr.TheViews.{out-Expr, out-roll-Expr}
 use Rattle.ncq_plan.specs.declared.expr.Expr.TheOpen.{Expr-F}
 use Rattle.ncq_plan.specs.declared.expr.Expr.TheOpen.Expr-F.{Scan as ScanLayer, EqSel as EqualLayer, RangeSel as RangeLayer, Join as JoinLayer}
+use Rattle.ncq_feed.specs.Feeds.{is_range_layer, is_range}
 
 abbrev tag : Expr-F Expr → ℕ
 tag (ScanLayer source shape) = 0
@@ -58,3 +59,24 @@ scans_of source source' shape shape' e = (cc, cc)
 pub scan_parts : (source source' : List ℕ) (shape shape' : Shape) → Scan source shape ≡ Scan source' shape' → (source ≡ source') × (shape ≡ shape')
 scan_parts source source' shape shape' e =
     scans_of source source' shape shape' (sym (out-Scan source shape) ∙ ap out-Expr e ∙ out-Scan source' shape')
+
+ranges_of : (input input' : Expr) (slot slot' : ℕ) (interval interval' : Interval) → ◌≡◌ {A = Expr-F Expr} (RangeLayer input slot interval) (RangeLayer input' slot' interval')
+    → (input ≡ input') × (slot ≡ slot') × (interval ≡ interval')
+ranges_of input input' slot slot' interval interval' e = (cc, cc, cc)
+
+pub range_parts : (input input' : Expr) (slot slot' : ℕ) (interval interval' : Interval) → RangeSel input slot interval ≡ RangeSel input' slot' interval' → (input ≡ input') × (slot ≡ slot') × (interval ≡ interval')
+range_parts input input' slot slot' interval interval' e =
+    ranges_of input input' slot slot' interval interval' (sym (out-RangeSel input slot interval) ∙ ap out-Expr e ∙ out-RangeSel input' slot' interval')
+
+-- which of them selects by an interval
+pub range_scan : (source : List ℕ) (shape : Shape) → is_range (Scan source shape) ≡ false
+range_scan source shape = ap is_range_layer (out-Scan source shape)
+
+pub range_equal : (input : Expr) (slot : ℕ) (constant : Atom) → is_range (EqSel input slot constant) ≡ false
+range_equal input slot constant = ap is_range_layer (out-EqSel input slot constant)
+
+pub range_range : (input : Expr) (slot : ℕ) (interval : Interval) → is_range (RangeSel input slot interval) ≡ true
+range_range input slot interval = ap is_range_layer (out-RangeSel input slot interval)
+
+pub range_join : (left right : Expr) (pairs : List Pair) → is_range (Join left right pairs) ≡ false
+range_join left right pairs = ap is_range_layer (out-Join left right pairs)

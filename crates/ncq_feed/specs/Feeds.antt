@@ -1,6 +1,6 @@
 -- What a change makes of the files of a shelf.
 use Rattle.std.specs.Prelude.{◌≡◌, ℕ, ◌+◌, false, List, [], length, slice_get, Option, Some, None}
-use Rattle.std.specs.Prelude.{nat_eq}
+use Rattle.std.specs.Prelude.{nat_eq, zero, suc, Bool, true, cond, ◌∷◌}
 use Rattle.std.specs.List.{AllByRecursion, list_any}
 use Rattle.std.specs.FinMap.{get, entries}
 use Rattle.ncq_base.specs.Counts.{total_by}
@@ -12,7 +12,10 @@ use Rattle.ncq_source.specs.StoreStates.{StoreState, found}
 use Rattle.ncq_source.specs.declared.change.Portion.{Portion}
 use Rattle.ncq_source.specs.declared.change.SourceId.{SourceId}
 use Rattle.ncq_plan.specs.declared.expr.Expr.{Expr}
-use Rattle.ncq_plan.specs.Exprs.{World}
+use Rattle.ncq_plan.specs.declared.expr.Expr.TheOpen.{Expr-F}
+use Rattle.ncq_plan.specs.declared.expr.Expr.TheOpen.Expr-F.{Scan, EqSel, RangeSel, Join}
+use Rattle.ncq_plan.specs.declared.expr.Expr.TheViews.{out-Expr}
+use Rattle.ncq_plan.specs.Exprs.{World, expr_width}
 use Rattle.ncq_plan.specs.Deltas.{delta_of}
 use Rattle.ncq_plan.specs.Totals.{SameChanges}
 use Rattle.ncq_plan.specs.Totals.{SignedRow as PlainRow}
@@ -24,6 +27,7 @@ use Rattle.ncq_delta.specs.Leads.{unnumbered}
 use Rattle.ncq_shelf.specs.KeptFiles.{EachFile, Files, KeptFile}
 use Rattle.ncq_shelf.specs.Stands.{IsGrounded}
 use Rattle.ncq_shelf.specs.Contents.{AreFormed, AreWide, AreUpTo, Fits, with_more}
+use Rattle.ncq_shelf.specs.Ranges.{IsHeldBy}
 
 -- the name of a source, where there is one
 abbrev pub name_in : Option Source → List ℕ
@@ -88,3 +92,49 @@ NamesTheFed now files numbers =
 abbrev pub feed_work : StoreState → List Portion → Files → ℕ
 feed_work store change files =
     total_by (λ entry. length (delta_by store change entry.1.expr)) (entries files)
+
+-- whether an expression selects by an interval
+abbrev pub is_range_layer : Expr-F Expr → Bool
+is_range_layer (Scan source shape) = false
+is_range_layer (EqSel input slot constant) = false
+is_range_layer (RangeSel input slot interval) = true
+is_range_layer (Join left right pairs) = false
+
+abbrev pub is_range : Expr → Bool
+is_range expr = is_range_layer (out-Expr expr)
+
+-- the signed rows that the change makes of the expressions of all files but the selections by
+-- intervals, together
+abbrev pub plain_work : StoreState → List Portion → Files → ℕ
+plain_work store change files =
+    total_by (λ entry. cond (is_range entry.1.expr) 0 (length (delta_by store change entry.1.expr)))
+    (entries files)
+
+-- so many of the signed rows some selection by an interval of the slot of the input takes: a row
+-- counts once, however many selections take it
+pub data CountsTaken (files : Files) (input slot : ℕ) : List PlainRow → ℕ → Type 0 where
+  none : CountsTaken files input slot [] 0
+  taken : {row : PlainRow} {rows : List PlainRow} {count : ℕ} → IsHeldBy files input slot row.row
+      → CountsTaken files input slot rows count
+      → CountsTaken files input slot (row ∷ rows) (suc count)
+  left : {row : PlainRow} {rows : List PlainRow} {count : ℕ}
+      → (IsHeldBy files input slot row.row → ⊥)
+      → CountsTaken files input slot rows count
+      → CountsTaken files input slot (row ∷ rows) count
+
+-- for each file and slot: how many of the signed rows that the change makes of the file's
+-- expression some selection by an interval of the slot takes
+abbrev pub CountsHeld : StoreState → List Portion → Files → (ℕ → ℕ → ℕ) → Type 0
+CountsHeld store change files held =
+    EachFile files (λ number file. (slot : ℕ)
+    → CountsTaken files number slot (delta_by store change file.expr) (held number slot))
+
+-- the counts of the slots below one, together
+abbrev pub sum_below : ℕ → (ℕ → ℕ) → ℕ
+sum_below zero counts = 0
+sum_below (suc slot) counts = sum_below slot counts + counts slot
+
+-- the counts of all slots of all files, together
+abbrev pub held_work : Files → (ℕ → ℕ → ℕ) → ℕ
+held_work files held =
+    total_by (λ entry. sum_below (expr_width entry.1.expr) (held entry.0)) (entries files)

@@ -1,6 +1,6 @@
 -- A change on its way through the files. Only the crate's private clauses cite it.
 use Rattle.std.specs.Prelude.{◌≡◌, ℕ, ◌+◌, ◌-◌, ◌<◌, ◌^◌, Bool, true, List, [], ◌++◌, length}
-use Rattle.std.specs.Prelude.{nat_eq, Option, Some, None}
+use Rattle.std.specs.Prelude.{nat_eq, nat_lt, cond, Option, Some, None}
 use Rattle.std.specs.List.{AllByRecursion, list_any}
 use Rattle.std.specs.Option.{option_map}
 use Rattle.std.specs.FinMap.{get}
@@ -20,7 +20,8 @@ use Rattle.ncq_shelf.specs.KeptFiles.{AtFile, Files, KeptFile}
 use Rattle.ncq_shelf.specs.Stands.{Stands, IsThere}
 use Rattle.ncq_shelf.specs.Contents.{AreWide, with_more, sum_over}
 use Rattle.ncq_shelf.specs.Readers.{SelectsFrom, JoinsFrom, NoneAgree}
-use Rattle.ncq_feed.specs.Feeds.{IsPreparedFrom, AreReady, delta_by}
+use Rattle.ncq_feed.specs.Feeds.{IsPreparedFrom, AreReady, delta_by, is_range, sum_below}
+use Rattle.ncq_feed.specs.Feeds.{CountsHeld}
 use Rattle.ncq_feed.specs.Passing.{Wiring, IsPassedTo}
 
 -- a prepared change, the store from which it was prepared, and the files before it
@@ -146,3 +147,33 @@ all_due run = sum_over run.files (due run)
 
 abbrev pub all_in : Run → Files → ℕ
 all_in run files = sum_over run.files (count_in run files)
+
+-- the same of all files but the selections by intervals
+abbrev pub own_of : Option KeptFile → ℕ → ℕ
+own_of None count = 0
+own_of (Some file) count = cond (is_range file.expr) 0 count
+
+abbrev pub own : Run → (ℕ → ℕ) → ℕ → ℕ
+own run counts number = own_of (get run.files number) (counts number)
+
+abbrev pub own_due : Run → ℕ
+own_due run = sum_over run.files (own run (due run))
+
+abbrev pub own_in : Run → Files → ℕ
+own_in run files = sum_over run.files (own run (count_in run files))
+
+-- the counts of held rows, for each file and slot
+abbrev pub AreCounted : Run → (ℕ → ℕ → ℕ) → Type 0
+AreCounted run held = CountsHeld run.store run.change run.files held
+
+-- how many a file passes on to range groups, and how many all files below a number
+abbrev pub groups_of : Option KeptFile → (ℕ → ℕ) → ℕ
+groups_of None counts = 0
+groups_of (Some file) counts = sum_below (expr_width file.expr) counts
+
+abbrev pub groups : Run → (ℕ → ℕ → ℕ) → ℕ → ℕ
+groups run held number = groups_of (get run.files number) (held number)
+
+abbrev pub held_below : Run → (ℕ → ℕ → ℕ) → ℕ → ℕ
+held_below run held next =
+    sum_over run.files (λ number. cond (nat_lt number next) (groups run held number) 0)

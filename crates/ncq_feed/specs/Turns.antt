@@ -1,17 +1,19 @@
 -- What a file passes on of a change. Only the crate's private clauses cite it.
-use Rattle.std.specs.Prelude.{◌≡◌, ℕ, ◌<◌, ◌≤◌, ◌⊎◌, Bool, true, false, ◌||◌, List, [], ◌++◌}
-use Rattle.std.specs.Prelude.{map, filter, length}
+use Rattle.std.specs.Prelude.{◌≡◌, ℕ, ◌<◌, ◌⊎◌, Bool, true, false, ◌||◌, List, [], ◌++◌}
+use Rattle.std.specs.Prelude.{map, filter}
 use Rattle.ncq_midfile.specs.declared.signed.SignedRow.{SignedRow}
 use Rattle.ncq_split.specs.declared.parcel.Parcel.{Parcel}
 use Rattle.ncq_readers.specs.Passed.{rows_to}
 use Rattle.ncq_shelf.specs.KeptFiles.{Files}
 use Rattle.ncq_shelf.specs.Stands.{IsThere}
+use Rattle.ncq_shelf.specs.Ranges.{IsNoRange}
 use Rattle.ncq_shelf.specs.Readers.{SelectsFrom, IsJoinOver, MakesNothing}
 use Rattle.ncq_feed.specs.Runs.{Run, news_in, is_among, IsFor}
 
--- the parcel is for a file that is there, and its row is for that file
+-- the parcel is for a file that is there and has its own rows, and its row is for that file
 pub record IsParcelFor (run : Run) (parcel : Parcel) : Type 0 where
   pub there : IsThere run.files parcel.file.0
+  pub own : IsNoRange run.files parcel.file.0
   pub fits : IsFor run parcel.file.0 parcel.row
 
 -- the numbers of the files of parcels
@@ -57,9 +59,3 @@ abbrev pub AreNamed : Run → ℕ → List ℕ → Files → Type 0
 AreNamed run next numbers files =
     (number : ℕ) → number < next → is_among number numbers ≡ false
     → news_in run.store.changes files number ≡ []
-
--- no selection over a file takes more of its rows of the change than the bound of its number
-abbrev pub AreBounded : Run → ℕ → Files → (ℕ → ℕ) → Type 0
-AreBounded run at files bound =
-    (number : ℕ) (test : SignedRow → Bool) → SelectsFrom run.files number at test
-    → length (filter test (news_in run.store.changes files at)) ≤ bound number

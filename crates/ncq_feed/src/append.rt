@@ -1,6 +1,7 @@
 //! Signed rows of a change, behind the rows of a file.
 ghost use Rattle.std.specs.Prelude.{◌≡◌, ◌∷◌, [], OnOk};
 ghost use Rattle.std.specs.List.{AllByRecursion};
+ghost use Rattle.ncq_shelf.specs.Ranges.{IsNoRange};
 ghost use Rattle.ncq_shelf.specs.Stands.{IsThere};
 ghost use Rattle.ncq_feed.specs.Runs.{Run, IsUnderWay, IsFor, IsGiven};
 
@@ -13,6 +14,7 @@ pub(crate) fn append(shelf: &mut Shelf, at: u64, row: SignedRow) -> Result<(), A
     ghost run: { Run }
     requires under { IsUnderWay run shelf.old }
     requires there { IsThere run.files at }
+    requires own { IsNoRange run.files at }
     requires fits { IsFor run at row }
     ensures under { IsUnderWay run shelf.new }
     ensures given { OnOk result (IsGiven run at (row ∷ []) shelf.old shelf.new) }
@@ -26,6 +28,7 @@ pub(crate) fn append_all(shelf: &mut Shelf, at: u64, rows: SignedRows) -> Result
     ghost run: { Run }
     requires under { IsUnderWay run shelf.old }
     requires there { IsThere run.files at }
+    requires own { IsNoRange run.files at }
     requires fits { AllByRecursion (IsFor run at) rows }
     ensures under { IsUnderWay run shelf.new }
     ensures given { OnOk result (IsGiven run at rows shelf.old shelf.new) }

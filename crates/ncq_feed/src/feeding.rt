@@ -2,8 +2,10 @@
 ghost use Rattle.std.specs.Prelude.{◌≡◌, ◌+◌, ◌-◌, ◌<◌, ◌≤◌, ◌^◌, ℕ, IfOk, OnOk, OnErr};
 ghost use Rattle.ncq_change.specs.Stores.{world_in};
 ghost use Rattle.ncq_feed.specs.Feeds.{IsPreparedFrom, AreReady, AreFed, world_after, feed_work};
-ghost use Rattle.ncq_feed.specs.Feeds.{NamesTheFed};
+ghost use Rattle.ncq_feed.specs.Feeds.{NamesTheFed, CountsHeld, plain_work, held_work};
 ghost use Rattle.ncq_feed.specs.Runs.{Run, IsStarted, IsUnderWay, AreRight, all_due, news_in};
+ghost use Rattle.ncq_feed.specs.Runs.{AreCounted, own_due, groups};
+ghost use Rattle.ncq_shelf.specs.Contents.{sum_over};
 
 use crate::pending::take_first;
 use crate::scan::feed_scans;
@@ -17,8 +19,9 @@ use std::sync::ledger::Ledger;
 
 /// Gives each file the signed rows that the change makes of its expression, under the number of the
 /// change. The answer names each file that got rows. After an error the files are as before. It
-/// takes at most one step for each signed row, whatever it answers. The only error is that memory
-/// ran out.
+/// takes at most one step for each signed row, whatever it answers; and selections by intervals of
+/// one slot of one file take together at most one step for each row that some of them takes. The
+/// only error is that memory ran out.
 pub fn feed<L: Ledger>(
     alloc: Global,
     shelf: &mut Shelf,
@@ -35,6 +38,9 @@ pub fn feed<L: Ledger>(
     ensures named { IfOk result (NamesTheFed store.now.changes shelf.new) }
     ensures err { OnErr result (shelf.new ≡ shelf.old) }
     ensures cost { steps.new ≤ steps.old + feed_work store.now change.now shelf.old }
+    ensures shared { (held : ℕ → ℕ → ℕ) → CountsHeld store.now change.now shelf.old held
+        → steps.new ≤ steps.old
+        + (plain_work store.now change.now shelf.old + held_work shelf.old held) }
 {
     match pass_on(alloc, shelf, change, store, steps) {
         Ok(numbers) => Ok(numbers),
@@ -64,6 +70,8 @@ fn pass_on<L: Ledger>(
         → AreRight run number (news_in run.store.changes shelf.new number)) }
     ensures named { IfOk result (NamesTheFed run.store.changes shelf.new) }
     ensures cost { steps.new ≤ steps.old + all_due run }
+    ensures shared { (held : ℕ → ℕ → ℕ) → AreCounted run held
+        → steps.new ≤ steps.old + (own_due run + sum_over run.files (groups run held)) }
 {
     let mut numbers = Sequence::new(alloc);
     let mut pending = BTreeSet::new(alloc);

@@ -142,8 +142,8 @@ fn joined<L: Ledger>(
 {
     let rows = join_delta(
         alloc,
-        shelf.content(left),
-        shelf.content(right),
+        &shelf.content(left),
+        &shelf.content(right),
         pairs_of(shelf, at),
         now + 1,
         steps,

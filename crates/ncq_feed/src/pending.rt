@@ -1,8 +1,9 @@
 //! The numbers of the files that have something to do, each once.
-ghost use Rattle.std.specs.Prelude.{◌≡◌, ◌<◌, ◌^◌, ◌∷◌, [], ℕ, true, ◌||◌, nat_eq};
+ghost use Rattle.std.specs.Prelude.{◌≡◌, ◌<◌, ◌^◌, ◌∷◌, [], ℕ, true, ◌||◌, map, nat_eq};
 ghost use Rattle.std.specs.Prelude.{OnOk, IfSome, IfNone};
 ghost use Rattle.ncq_feed.specs.Runs.{is_among};
 
+use ncq_base::{FileId, Sequence};
 use std::alloc::AllocError;
 use std::collections::BTreeSet;
 
@@ -22,6 +23,20 @@ pub(crate) fn note_all(pending: &mut BTreeSet<u64>, numbers: &[u64]) -> Result<(
 {
     for number in numbers {
         note(pending, *number)?;
+    }
+    Ok(())
+}
+
+/// The numbers of these files more, those that are not there.
+pub(crate) fn note_files(
+    pending: &mut BTreeSet<u64>,
+    files: Sequence<FileId>,
+) -> Result<(), AllocError>
+    ensures { OnOk result ((other : ℕ) → is_among other pending.new.keys
+        ≡ (is_among other (map (λ file. file.0) files) || is_among other pending.old.keys)) }
+{
+    for file in files.into_vec() {
+        note(pending, file.0)?;
     }
     Ok(())
 }

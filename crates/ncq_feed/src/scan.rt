@@ -5,8 +5,8 @@ ghost use Rattle.ncq_plan.specs.Deltas.{signed};
 ghost use Rattle.ncq_change.specs.Entries.{element_rows, entry_delta, scan_delta};
 ghost use Rattle.ncq_row.specs.declared.shape.Shape.{Shape as a_shape};
 ghost use Rattle.ncq_shelf.specs.Stands.{Stands};
-ghost use Rattle.ncq_feed.specs.Runs.{Run, IsUnderWay, ArePassed, news_in, IsScanFile, all_due};
-ghost use Rattle.ncq_feed.specs.Runs.{all_in, due};
+ghost use Rattle.ncq_feed.specs.Runs.{Run, IsUnderWay, ArePassed, news_in, IsScanFile, own_due};
+ghost use Rattle.ncq_feed.specs.Runs.{own_in, due};
 ghost use Rattle.ncq_feed.specs.ScanFeeds.{AreScansFed, IsScanFed, IsScanWith, numbered};
 
 use crate::append::append_all;
@@ -40,8 +40,8 @@ pub(crate) fn feed_scans<L: Ledger>(
     requires none { pending.old.keys ≡ [] }
     ensures under { IsUnderWay run shelf.new }
     ensures passed { OnOk result (ArePassed run 0 pending.new.keys shelf.new) }
-    ensures cost { steps.new ≤ steps.old + all_due run }
-    ensures spent { OnOk result (steps.new ≤ steps.old + all_in run shelf.new) }
+    ensures cost { steps.new ≤ steps.old + own_due run }
+    ensures spent { OnOk result (steps.new ≤ steps.old + own_in run shelf.new) }
 {
     let portions = change.portions();
     for at in 0..portions.len() {
@@ -69,9 +69,9 @@ fn feed_portion<L: Ledger>(
     ensures under { IsUnderWay run shelf.new }
     ensures fed { OnOk result
         (AreScansFed run (take (at + 1) run.change) [] pending.new.keys shelf.new) }
-    ensures cost { steps.new + all_in run shelf.old ≤ steps.old + all_due run }
+    ensures cost { steps.new + own_in run shelf.old ≤ steps.old + own_due run }
     ensures spent { OnOk result
-        (steps.new + all_in run shelf.old ≤ steps.old + all_in run shelf.new) }
+        (steps.new + own_in run shelf.old ≤ steps.old + own_in run shelf.new) }
 {
     let portion = &portions[at];
     let entries = portion.entries.as_slice();

@@ -18,14 +18,16 @@ use Rattle.ncq_plan.specs.Meets.{has_atom, is_within}
 use Rattle.ncq_plan.specs.WellFormed.{IsWellFormedExpr, slots_fit, pair_fits}
 use Rattle.ncq_plan.proofs.CallerLemmas.{fit_equal, fit_range, fit_join, rows_scan, rows_equal, rows_range, rows_join, rows_are_wide}
 use Rattle.ncq_base.specs.Counts.{SameCounts}
-use Rattle.ncq_midfile.specs.Content.{IsContent}
+use Rattle.ncq_midfile.specs.Content.{IsContent, IsSoundAt}
 use Rattle.ncq_midfile.specs.Files.{FileState}
-use Rattle.ncq_midfile.specs.Matching.{HaveSlots}
+use Rattle.ncq_midfile.specs.Shown.{shown, rows_below}
+use Rattle.ncq_midfile.specs.declared.view.View.{View}
 use Rattle.ncq_delta.specs.Joins.{left_slots, right_slots}
 use Rattle.ncq_shelf.specs.Contents.{AreWide, AreUpTo, Fits}
 use Rattle.ncq_shelf.specs.Inputs.{AreInputs}
 use Rattle.ncq_shelf.specs.KeptFiles.{KeptFile, Files}
 use Rattle.ncq_shelf.specs.Parts.{IsInput}
+use Rattle.ncq_shelf.specs.Ranges.{IsRange}
 use Rattle.ncq_shelf.specs.Stands.{Stands, IsThere}
 use Rattle.ncq_shelf.specs.declared.inputs.Inputs.{Inputs}
 use Rattle.ncq_shelf.specs.declared.inputs.Inputs.TheVariants.{Nothing, One, Two}
@@ -48,9 +50,6 @@ out_join left right pairs = ap out-Expr (sym (rolls-Join left right pairs)) ∙ 
 equal_no_join : (input : Expr) (slot : ℕ) (constant : Atom) (left right : Expr) (pairs : List Pair) → EqSel input slot constant ≡ Join left right pairs → ⊥
 equal_no_join input slot constant left right pairs e = let same : EqualLayer input slot constant ≡ JoinLayer left right pairs = sym (out_equal input slot constant) ∙ ap out-Expr e ∙ out_join left right pairs in cc
 
-range_no_join : (input : Expr) (slot : ℕ) (interval : Interval) (left right : Expr) (pairs : List Pair) → RangeSel input slot interval ≡ Join left right pairs → ⊥
-range_no_join input slot interval left right pairs e = let same : RangeLayer input slot interval ≡ JoinLayer left right pairs = sym (out_range input slot interval) ∙ ap out-Expr e ∙ out_join left right pairs in cc
-
 module _ (files : Files) (whole : Expr) (inputs : Inputs) (are : AreInputs files whole inputs) where
   one_input : (input : Expr) → IsInput input whole → ((left right : Expr) (pairs : List Pair) → whole ≡ Join left right pairs → ⊥) → IsOne inputs
   one_input input reads other = elim inputs as (λ i. AreInputs files whole i → IsOne i) [
@@ -63,11 +62,6 @@ module _ (files : Files) (whole : Expr) (inputs : Inputs) (are : AreInputs files
   equal_has_one input slot constant is =
       one_input input (subst (IsInput input) (sym is) (equal-input_of input slot constant))
       (λ left right pairs e. equal_no_join input slot constant left right pairs (sym is ∙ e))
-
-  pub range_has_one : (input : Expr) (slot : ℕ) (interval : Interval) → whole ≡ RangeSel input slot interval → IsOne inputs
-  range_has_one input slot interval is =
-      one_input input (subst (IsInput input) (sym is) (range-input_of input slot interval))
-      (λ left right pairs e. range_no_join input slot interval left right pairs (sym is ∙ e))
 
   pub join_has_some : (left right : Expr) (pairs : List Pair) → whole ≡ Join left right pairs → AreSome inputs
   join_has_some left right pairs is = elim inputs as (λ i. AreInputs files whole i → AreSome i) [
@@ -101,32 +95,45 @@ record InputFile (files : Files) (number now : ℕ) (world : World) (input : Exp
   pub file : KeptFile
   pub at : get files number ≡ Some file
   pub base : file.content.base ≤ now
+  pub of : file.expr ≡ input
   pub content : IsContent now file.content.rows (rows_in input world)
-  pub wide : AllByRecursion (λ r. length r.row ≡ expr_width input) file.content.rows
 
-module _ (files : Files) (now : ℕ) (world : World) (wide : AreWide files) (up_to : AreUpTo now files) (fits : Fits now world files) where
+module _ (files : Files) (now : ℕ) (world : World) (up_to : AreUpTo now files) (fits : Fits now world files) where
   input_file : (number : ℕ) (input : Expr) → Stands files input number → InputFile files number now world input
   input_file number input s = record {
     file = s.file;
     at = s.at;
     base = (up_to number s.file s.at).base;
     content = subst (λ e. IsContent now s.file.content.rows (rows_in e world)) s.of (fits number s.file s.at);
-    wide = subst (λ e. AllByRecursion (λ r. length r.row ≡ expr_width e) s.file.content.rows) s.of (wide number s.file s.at);
+    of = s.of;
   }
 
--- the file is ready to be looked through at slots that its rows have
-ready_file : (files : Files) (number now : ℕ) (world : World) (input : Expr) (slots : List ℕ) (f : InputFile files number now world input) → AllByRecursion (λ slot. slot < expr_width input) slots → IsReady now slots f.file.content
-ready_file files number now world input slots f below = record {
+-- the content of the file at this change can be told, and its expression has the slots
+pub record IsTold (now : ℕ) (slots : List ℕ) (file : KeptFile) : Type 0 where
+  pub base : file.content.base ≤ now
+  pub sound : IsSoundAt now file.content.rows
+  pub within : AllByRecursion (λ slot. slot < expr_width file.expr) slots
+
+told_file : (files : Files) (number now : ℕ) (world : World) (input : Expr) (slots : List ℕ) (f : InputFile files number now world input) → AllByRecursion (λ slot. slot < expr_width input) slots → IsTold now slots f.file
+told_file files number now world input slots f below = record {
   base = f.base;
   sound = sound_content now f.file.content.rows (rows_in input world) f.content;
-  within = have_slots slots (expr_width input) below f.file.content.rows f.wide;
+  within = subst (λ e. AllByRecursion (λ slot. slot < expr_width e) slots) (sym f.of) below;
+}
+
+-- so a view of it is ready to be looked through, where each row below it is as wide as the expression
+ready_view : (now : ℕ) (slots : List ℕ) (file : KeptFile) → IsTold now slots file → (view : View) → shown view ≡ file.content → AllByRecursion (λ r. length r.row ≡ expr_width file.expr) (rows_below view) → IsReady now slots view
+ready_view now slots file told view is wide = record {
+  base = subst (λ (f : FileState). f.base ≤ now) (sym is) told.base;
+  sound = subst (λ (f : FileState). IsSoundAt now f.rows) (sym is) told.sound;
+  within = have_slots slots (expr_width file.expr) told.within (rows_below view) wide;
 }
 
 -- a selection: its input's file, that file's content, and the rows of the whole
 pub record Selection (files : Files) (whole : Expr) (number now slot : ℕ) (world : World) (test : Row → Bool) : Type 0 where
   pub file : KeptFile
   pub at : get files number ≡ Some file
-  pub ready : IsReady now (slot ∷ []) file.content
+  pub ready : IsTold now (slot ∷ []) file
   pub list : List Row
   pub content : IsContent now file.content.rows list
   pub rows : rows_in whole world ≡ filter test list
@@ -135,12 +142,12 @@ pub record Selection (files : Files) (whole : Expr) (number now slot : ℕ) (wor
 pub record Joined (files : Files) (whole : Expr) (left right now : ℕ) (world : World) (pairs : List Pair) : Type 0 where
   pub first : KeptFile
   pub first_at : get files left ≡ Some first
-  pub first_ready : IsReady now (left_slots pairs) first.content
+  pub first_ready : IsTold now (left_slots pairs) first
   pub lefts : List Row
   pub first_content : IsContent now first.content.rows lefts
   pub second : KeptFile
   pub second_at : get files right ≡ Some second
-  pub second_ready : IsReady now (right_slots pairs) second.content
+  pub second_ready : IsTold now (right_slots pairs) second
   pub rights : List Row
   pub second_content : IsContent now second.content.rows rights
   pub rows : rows_in whole world ≡ join_rows pairs lefts rights
@@ -160,9 +167,9 @@ rights_below left right (pair ∷ pairs) h =
     (below pair.right right c.1, rights_below left right pairs b.1)
 
 module _ (files : Files) (whole : Expr) (inputs : Inputs) (changes now : ℕ) (world : World) (now_is : now ≡ changes) (are : AreInputs files whole inputs) (formed : IsWellFormedExpr whole)
-    (wide : AreWide files) (up_to : AreUpTo changes files) (fits : Fits changes world files) where
+    (up_to : AreUpTo changes files) (fits : Fits changes world files) where
   file_now : (number : ℕ) (input : Expr) → Stands files input number → InputFile files number now world input
-  file_now = input_file files now world wide (subst (λ n. AreUpTo n files) (sym now_is) up_to) (subst (λ n. Fits n world files) (sym now_is) fits)
+  file_now = input_file files now world (subst (λ n. AreUpTo n files) (sym now_is) up_to) (subst (λ n. Fits n world files) (sym now_is) fits)
 
   selection : (number : ℕ) → inputs ≡ One number → (input : Expr) (slot : ℕ) (test : Row → Bool) → IsInput input whole → slot < expr_width input
       → rows_in whole world ≡ filter test (rows_in input world) → Selection files whole number now slot world test
@@ -171,7 +178,7 @@ module _ (files : Files) (whole : Expr) (inputs : Inputs) (changes now : ℕ) (w
       record {
         file = f.file;
         at = f.at;
-        ready = ready_file files number now world input (slot ∷ []) f (fit, tt);
+        ready = told_file files number now world input (slot ∷ []) f (fit, tt);
         list = rows_in input world;
         content = f.content;
         rows = rows;
@@ -183,12 +190,6 @@ module _ (files : Files) (whole : Expr) (inputs : Inputs) (changes now : ℕ) (w
       (below slot (expr_width input) (both_true (slots_fit input) (nat_lt slot (expr_width input)) (sym (fit_equal input slot constant) ∙ ap slots_fit (sym is) ∙ formed.slots)).1)
       (ap (λ e. rows_in e world) is ∙ rows_equal world input slot constant)
 
-  pub range_selection : (number : ℕ) → inputs ≡ One number → (input : Expr) (slot : ℕ) (interval : Interval) → whole ≡ RangeSel input slot interval → Selection files whole number now slot world (is_within slot interval)
-  range_selection number told input slot interval is =
-      selection number told input slot (is_within slot interval) (subst (IsInput input) (sym is) (range-input_of input slot interval))
-      (below slot (expr_width input) (both_true (slots_fit input) (nat_lt slot (expr_width input)) (sym (fit_range input slot interval) ∙ ap slots_fit (sym is) ∙ formed.slots)).1)
-      (ap (λ e. rows_in e world) is ∙ rows_range world input slot interval)
-
   pub joined : (l r : ℕ) (left right : Expr) (pairs : List Pair) → whole ≡ Join left right pairs → AreOf l r inputs → Joined files whole l r now world pairs
   joined l r left right pairs is of =
       let stands = join_stands files whole inputs are l r left right pairs is of in
@@ -198,64 +199,71 @@ module _ (files : Files) (whole : Expr) (inputs : Inputs) (changes now : ℕ) (w
       record {
         first = one.file;
         first_at = one.at;
-        first_ready = ready_file files l now world left (left_slots pairs) one (lefts_below (expr_width left) (expr_width right) pairs fit);
+        first_ready = told_file files l now world left (left_slots pairs) one (lefts_below (expr_width left) (expr_width right) pairs fit);
         lefts = rows_in left world;
         first_content = one.content;
         second = two.file;
         second_at = two.at;
-        second_ready = ready_file files r now world right (right_slots pairs) two (rights_below (expr_width left) (expr_width right) pairs fit);
+        second_ready = told_file files r now world right (right_slots pairs) two (rights_below (expr_width left) (expr_width right) pairs fit);
         rights = rows_in right world;
         second_content = two.content;
         rows = ap (λ e. rows_in e world) is ∙ rows_join world left right pairs;
       }
 
 -- what is asked of each file of a number is so of the one that is there
-pub asked : (files : Files) (number : ℕ) (slots : List ℕ) (now : ℕ) (file : KeptFile) → get files number ≡ Some file → IsReady now slots file.content
-    → (other : KeptFile) → get files number ≡ Some other → HaveSlots slots other.content.rows
-asked files number slots now file at ready other here = subst (λ (f : KeptFile). HaveSlots slots f.content.rows) (one_value at here) ready.within
+pub asked : (files : Files) (number : ℕ) (slots : List ℕ) (now : ℕ) (file : KeptFile) → get files number ≡ Some file → IsTold now slots file
+    → (other : KeptFile) → get files number ≡ Some other → AllByRecursion (λ slot. slot < expr_width other.expr) slots
+asked files number slots now file at told other here = subst (λ (f : KeptFile). AllByRecursion (λ slot. slot < expr_width f.expr) slots) (one_value at here) told.within
 
--- what stands at a number of files that are the same
-pub told_same : (files after : Files) (number : ℕ) (content : FileState) (file : KeptFile) → after ≡ files → ((file : KeptFile) → get after number ≡ Some file → content ≡ file.content)
-    → get files number ≡ Some file → content ≡ file.content
-told_same files after number content file same told at = told file (subst (λ m. get m number ≡ Some file) (sym same) at)
+-- what is told of a view of files that are the same, at a number
+pub record IsViewOf (file : KeptFile) (view : View) : Type 0 where
+  pub is : shown view ≡ file.content
+  pub wide : AllByRecursion (λ r. length r.row ≡ expr_width file.expr) (rows_below view)
+
+pub told_same : (files after : Files) (number : ℕ) (view : View) (file : KeptFile) → after ≡ files → ((file : KeptFile) → get after number ≡ Some file → shown view ≡ file.content)
+    → ((file : KeptFile) → get after number ≡ Some file → AreWide after → AllByRecursion (λ r. length r.row ≡ expr_width file.expr) (rows_below view))
+    → AreWide files → get files number ≡ Some file → IsViewOf file view
+told_same files after number view file same told wide are at =
+    let here = subst (λ m. get m number ≡ Some file) (sym same) at in
+    record { is = told file here; wide = wide file here (subst AreWide (sym same) are) }
 
 pub there_same : (files after : Files) (number : ℕ) (file : KeptFile) → after ≡ files → get files number ≡ Some file → IsThere after number
 there_same files after number file same at = record { file = file; at = subst (λ m. get m number ≡ Some file) (sym same) at }
 
 -- what is gathered from the content of an input's file is what the selection has
 module _ (files : Files) (whole : Expr) (number now slot : ℕ) (world : World) (test : Row → Bool) (s : Selection files whole number now slot world test)
-    (content : FileState) (is : content ≡ s.file.content) where
-  pub selected_ready : IsReady now (slot ∷ []) content
-  selected_ready = subst (IsReady now (slot ∷ [])) (sym is) s.ready
+    (view : View) (of : IsViewOf s.file view) where
+  pub selected_ready : IsReady now (slot ∷ []) view
+  selected_ready = ready_view now (slot ∷ []) s.file s.ready view of.is of.wide
 
-  its_content : IsContent now content.rows s.list
-  its_content = subst (λ (f : FileState). IsContent now f.rows s.list) (sym is) s.content
+  its_content : IsContent now (shown view).rows s.list
+  its_content = subst (λ (f : FileState). IsContent now f.rows s.list) (sym of.is) s.content
 
-  pub selected_counts : (rows : List Row) → ((list : List Row) → IsContent now content.rows list → SameCounts rows (filter test list)) → SameCounts rows (rows_in whole world)
+  pub selected_counts : (rows : List Row) → ((list : List Row) → IsContent now (shown view).rows list → SameCounts rows (filter test list)) → SameCounts rows (rows_in whole world)
   selected_counts rows counts = subst (SameCounts rows) (sym s.rows) (counts s.list its_content)
 
-  pub selected_cost : (before after : ℕ) → ((list : List Row) → IsContent now content.rows list → after ≤ before + length (filter test list)) → after ≤ before + length (rows_in whole world)
+  pub selected_cost : (before after : ℕ) → ((list : List Row) → IsContent now (shown view).rows list → after ≤ before + length (filter test list)) → after ≤ before + length (rows_in whole world)
   selected_cost before after cost = subst (λ (rows : List Row). after ≤ before + length rows) (sym s.rows) (cost s.list its_content)
 
 -- and so of a join
 module _ (files : Files) (whole : Expr) (left right now : ℕ) (world : World) (pairs : List Pair) (j : Joined files whole left right now world pairs)
-    (first second : FileState) (first_is : first ≡ j.first.content) (second_is : second ≡ j.second.content) where
+    (first second : View) (of_first : IsViewOf j.first first) (of_second : IsViewOf j.second second) where
   pub ready_first : IsReady now (left_slots pairs) first
-  ready_first = subst (IsReady now (left_slots pairs)) (sym first_is) j.first_ready
+  ready_first = ready_view now (left_slots pairs) j.first j.first_ready first of_first.is of_first.wide
 
   pub ready_second : IsReady now (right_slots pairs) second
-  ready_second = subst (IsReady now (right_slots pairs)) (sym second_is) j.second_ready
+  ready_second = ready_view now (right_slots pairs) j.second j.second_ready second of_second.is of_second.wide
 
-  content_first : IsContent now first.rows j.lefts
-  content_first = subst (λ (f : FileState). IsContent now f.rows j.lefts) (sym first_is) j.first_content
+  content_first : IsContent now (shown first).rows j.lefts
+  content_first = subst (λ (f : FileState). IsContent now f.rows j.lefts) (sym of_first.is) j.first_content
 
-  content_second : IsContent now second.rows j.rights
-  content_second = subst (λ (f : FileState). IsContent now f.rows j.rights) (sym second_is) j.second_content
+  content_second : IsContent now (shown second).rows j.rights
+  content_second = subst (λ (f : FileState). IsContent now f.rows j.rights) (sym of_second.is) j.second_content
 
-  pub joined_counts : (rows : List Row) → ((lefts rights : List Row) → IsContent now first.rows lefts → IsContent now second.rows rights → SameCounts rows (join_rows pairs lefts rights)) → SameCounts rows (rows_in whole world)
+  pub joined_counts : (rows : List Row) → ((lefts rights : List Row) → IsContent now (shown first).rows lefts → IsContent now (shown second).rows rights → SameCounts rows (join_rows pairs lefts rights)) → SameCounts rows (rows_in whole world)
   joined_counts rows counts = subst (SameCounts rows) (sym j.rows) (counts j.lefts j.rights content_first content_second)
 
-  pub joined_cost : (before after : ℕ) → ((lefts rights : List Row) → IsContent now first.rows lefts → IsContent now second.rows rights → after ≤ before + length (join_rows pairs lefts rights)) → after ≤ before + length (rows_in whole world)
+  pub joined_cost : (before after : ℕ) → ((lefts rights : List Row) → IsContent now (shown first).rows lefts → IsContent now (shown second).rows rights → after ≤ before + length (join_rows pairs lefts rights)) → after ≤ before + length (rows_in whole world)
   joined_cost before after cost = subst (λ (rows : List Row). after ≤ before + length rows) (sym j.rows) (cost j.lefts j.rights content_first content_second)
 
 -- rows that are those of an expression are as wide as it

@@ -7,9 +7,9 @@ ghost use Rattle.ncq_plan.specs.WellFormed.{IsWellFormedExpr};
 ghost use Rattle.ncq_change.specs.Stores.{world_in};
 ghost use Rattle.ncq_shelf.specs.Contents.{AreWide, AreUpTo, Fits};
 ghost use Rattle.ncq_shelf.specs.Inputs.{AreInputs};
+ghost use Rattle.ncq_shelf.specs.Ranges.{IsRange};
 
 use crate::constant::with_constant;
-use crate::interval::within;
 use crate::numbers::{only, sides};
 use crate::scan::scan;
 use crate::sides::index_sides;
@@ -22,10 +22,10 @@ use ncq_source::Store;
 use std::alloc::{AllocError, Global};
 use std::sync::ledger::Ledger;
 
-/// The rows of an expression over the sources as they stand, each as often, in an order of the
-/// files' own. The files are told by what slots their rows are to be found from now on; nothing
-/// that can be seen of them changes. It takes at most one step for each row, whatever it answers.
-/// The only error is that memory ran out.
+/// The rows of an expression, no selection by an interval, over the sources as they stand, each as
+/// often, in an order of the files' own. The files are told by what slots their rows are to be
+/// found from now on; nothing that can be seen of them changes. It takes at most one step for each
+/// row, whatever it answers. The only error is that memory ran out.
 pub fn first_rows<L: Ledger>(
     alloc: Global,
     shelf: &mut Shelf,
@@ -34,6 +34,7 @@ pub fn first_rows<L: Ledger>(
     store: &Store,
     steps: &mut Steps<L>,
 ) -> Result<Rows, AllocError>
+    requires own { IsRange expr.now → ⊥ }
     requires inputs { AreInputs shelf.old expr.now inputs }
     requires formed { IsWellFormedExpr expr.now }
     requires wide { AreWide shelf.old }
@@ -51,18 +52,15 @@ pub fn first_rows<L: Ledger>(
             let number = only(inputs);
             shelf.ensure_index(alloc, number, &[*slot])?;
             let file = shelf.content(number);
-            with_constant(alloc, file, *slot, constant, now, steps)
+            with_constant(alloc, &file, *slot, constant, now, steps)
         }
-        Expr::RangeSel { slot, interval, .. } => {
-            let file = shelf.content(only(inputs));
-            within(alloc, file, *slot, interval, now, steps)
-        }
+        Expr::RangeSel { .. } => unreachable!(),
         Expr::Join { pairs, .. } => {
             let (left, right) = sides(inputs);
             index_sides(alloc, shelf, left, right, pairs)?;
             let lefts = shelf.content(left);
             let rights = shelf.content(right);
-            join_whole(alloc, lefts, rights, pairs, now, steps)
+            join_whole(alloc, &lefts, &rights, pairs, now, steps)
         }
     }
 }

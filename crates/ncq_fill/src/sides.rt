@@ -1,7 +1,9 @@
 //! What finds the rows of the two sides of a join.
-ghost use Rattle.std.specs.Prelude.{◌≡◌, IfOk};
-ghost use Rattle.ncq_midfile.specs.Matching.{HaveSlots};
+ghost use Rattle.std.specs.Prelude.{◌≡◌, ◌<◌, IfOk};
+ghost use Rattle.std.specs.List.{AllByRecursion};
+ghost use Rattle.ncq_plan.specs.Exprs.{expr_width};
 ghost use Rattle.ncq_delta.specs.Joins.{left_slots, right_slots};
+ghost use Rattle.ncq_shelf.specs.Contents.{AreWide};
 ghost use Rattle.ncq_shelf.specs.KeptFiles.{AtFile};
 ghost use Rattle.ncq_shelf.specs.Stands.{IsThere};
 
@@ -19,10 +21,11 @@ pub(crate) fn index_sides(
 ) -> Result<(), AllocError>
     requires left { IsThere shelf.old left }
     requires right { IsThere shelf.old right }
+    requires wide { AreWide shelf.old }
     requires lefts { AtFile shelf.old left (λ file.
-        HaveSlots (left_slots pairs.now) file.content.rows) }
+        AllByRecursion (λ slot. slot < expr_width file.expr) (left_slots pairs.now)) }
     requires rights { AtFile shelf.old right (λ file.
-        HaveSlots (right_slots pairs.now) file.content.rows) }
+        AllByRecursion (λ slot. slot < expr_width file.expr) (right_slots pairs.now)) }
     ensures { shelf.new ≡ shelf.old }
 {
     let lefts = left_slots(alloc, pairs)?;

@@ -1,8 +1,14 @@
 -- A table one of whose files has another base.
-use Rattle.std.proofs.Common.{◌≡◌, ◌≢◌, ℕ, ◌≤◌, true, false, cond, List, [], ◌∷◌, ◌++◌, map, filter, length, Some, inl, inr, refl, sym, ap, ◌∙◌, subst, arith}
+use Rattle.std.proofs.Common.{◌≡◌, ◌≢◌, ℕ, ◌≤◌, true, false, cond, List, [], ◌∷◌, ◌++◌, map, filter, length, Some, ◌⊎◌, inl, inr, refl, sym, ap, ◌∙◌, subst, arith}
 use Rattle.std.specs.List.{AllByRecursion}
 use Rattle.std.specs.FinMap.{get, insert}
 use Rattle.std.proofs.lemmas.Bool.{cases_eq}
+use Rattle.ncq_base.specs.declared.interval.Interval.{Interval}
+use Rattle.ncq_plan.specs.declared.expr.Expr.{Expr}
+use Rattle.ncq_plan.specs.declared.expr.Expr.TheVariants.{RangeSel, rolls-RangeSel}
+use Rattle.ncq_plan.specs.declared.expr.Expr.TheViews.{out-Expr, roll-Expr, out-roll-Expr, roll-out-Expr}
+use Rattle.ncq_plan.specs.declared.expr.Expr.TheOpen.{Expr-F}
+use Rattle.ncq_plan.specs.declared.expr.Expr.TheOpen.Expr-F.{Scan as ScanLayer, EqSel as EqualLayer, RangeSel as RangeLayer, Join as JoinLayer}
 use Rattle.ncq_plan.specs.Exprs.{expr_width}
 use Rattle.ncq_row.specs.Embeddings.{Row}
 use Rattle.ncq_midfile.specs.Content.{gains, losses, rows_of, up_to}
@@ -11,6 +17,7 @@ use Rattle.ncq_midfile.specs.declared.signed.SignedRow.{SignedRow}
 use Rattle.ncq_fill.proofs.FileLaws.{wide_same}
 use Rattle.ncq_shelf.specs.KeptFiles.{KeptFile, Files}
 use Rattle.ncq_shelf.specs.Contents.{IsUpTo, IsWide, HoldsItsContent, IsCompacted}
+use Rattle.ncq_shelf.specs.Ranges.{IsRange}
 use Rattle.ncq_shelf.proofs.CallerLemmas.{put_same, put_other, one_value}
 use Rattle.ncq_group.specs.Tables.{TableState, Facts}
 use Rattle.ncq_group.proofs.Fresh.{fresh_wide}
@@ -32,26 +39,58 @@ made_last : (change : ℕ) (rows : List Row) → AllByRecursion (λ r. r.number 
 made_last change [] = tt
 made_last change (row ∷ rows) = (omega arith, made_last change rows)
 
+-- an expression selects by an interval, or it doesn't
+range_layer : (inner : Expr) (slot : ℕ) (interval : Interval) → out-Expr (RangeSel inner slot interval) ≡ RangeLayer inner slot interval
+range_layer inner slot interval = ap out-Expr (sym (rolls-RangeSel inner slot interval)) ∙ out-roll-Expr (RangeLayer inner slot interval)
+
+is_range : (expr : Expr) → IsRange expr ⊎ (IsRange expr → ⊥)
+is_range expr = by (out-Expr expr) refl
+  where
+    by : (layer : Expr-F Expr) → out-Expr expr ≡ layer → IsRange expr ⊎ (IsRange expr → ⊥)
+    by (ScanLayer source shape) e = inr (λ r. let same : ScanLayer source shape ≡ RangeLayer r.inner r.slot r.interval = sym e ∙ ap out-Expr r.is ∙ range_layer r.inner r.slot r.interval in cc)
+    by (EqualLayer input slot constant) e = inr (λ r. let same : EqualLayer input slot constant ≡ RangeLayer r.inner r.slot r.interval = sym e ∙ ap out-Expr r.is ∙ range_layer r.inner r.slot r.interval in cc)
+    by (RangeLayer inner slot interval) e = inl (record { inner = inner; slot = slot; interval = interval; is = sym (roll-out-Expr expr) ∙ ap roll-Expr e ∙ rolls-RangeSel inner slot interval })
+    by (JoinLayer left right pairs) e = inr (λ r. let same : JoinLayer left right pairs ≡ RangeLayer r.inner r.slot r.interval = sym e ∙ ap out-Expr r.is ∙ range_layer r.inner r.slot r.interval in cc)
+
+at_most : (change now : ℕ) (rows : List SignedRow) → AllByRecursion (λ r. r.number ≤ change) rows → change ≤ now → AllByRecursion (λ r. r.number ≤ now) rows
+at_most change now [] all less = tt
+at_most change now (r ∷ rows) all less = ((let a = all.0 in omega arith), at_most change now rows all.1 less)
+
+-- a file that has rows of its own
 module _ (change now : ℕ) (old new : KeptFile) (is : IsCompacted change old new) (holds : HoldsItsContent change old new) where
-  compact_wide : IsWide old → IsWide new
-  compact_wide wide =
+  own_wide : IsWide old → IsWide new
+  own_wide wide =
       let width = expr_width old.expr in
       let list = rows_of new.content.rows in
       let all = wide_same width (list ++ losses (up_to change old.content.rows)) (gains (up_to change old.content.rows)) holds.content (gains_wide width (up_to change old.content.rows) (wide_up_to change width old.content.rows wide)) in
       let made = fresh_wide change width list (front_wide width list (losses (up_to change old.content.rows)) all) in
       subst (λ e. AllByRecursion (λ r. length r.row ≡ expr_width e) new.content.rows) (sym is.expr) (subst (λ rows. AllByRecursion (λ r. length r.row ≡ width) rows) (sym holds.gains) made)
 
-  at_most : (rows : List SignedRow) → AllByRecursion (λ r. r.number ≤ change) rows → change ≤ now → AllByRecursion (λ r. r.number ≤ now) rows
-  at_most [] all less = tt
-  at_most (r ∷ rows) all less = ((let a = all.0 in omega arith), at_most rows all.1 less)
-
-  compact_last : change ≤ now → IsUpTo now new.content
-  compact_last less = record {
+  own_last : change ≤ now → IsUpTo now new.content
+  own_last less = record {
     base = let b = is.base in omega arith;
-    last = at_most new.content.rows (subst (λ rows. AllByRecursion (λ r. r.number ≤ change) rows) (sym holds.gains) (made_last change (rows_of new.content.rows))) less;
+    last = at_most change now new.content.rows (subst (λ rows. AllByRecursion (λ r. r.number ≤ change) rows) (sym holds.gains) (made_last change (rows_of new.content.rows))) less;
   }
 
-module _ (table : TableState) (facts : Facts table) (number change : ℕ) (old next : KeptFile) (at : get table.files number ≡ Some old) (is : IsCompacted change old next) (holds : HoldsItsContent change old next) (less : change ≤ table.number)
+-- any file: one that selects by an interval keeps its rows
+module _ (change now : ℕ) (old new : KeptFile) (is : IsCompacted change old new) (holds : (IsRange old.expr → ⊥) → HoldsItsContent change old new) (same : IsRange old.expr → new.content.rows ≡ old.content.rows) where
+  compact_wide : IsWide old → IsWide new
+  compact_wide wide = elim (is_range old.expr) [
+    | inl range ↦ subst (λ e. AllByRecursion (λ r. length r.row ≡ expr_width e) new.content.rows) (sym is.expr) (subst (λ rows. AllByRecursion (λ (r : SignedRow). length r.row ≡ expr_width old.expr) rows) (sym (same range)) wide)
+    | inr own ↦ own_wide change now old new is (holds own) wide
+  ]
+
+  compact_last : AllByRecursion (λ r. r.number ≤ change) old.content.rows → change ≤ now → IsUpTo now new.content
+  compact_last last less = elim (is_range old.expr) [
+    | inl range ↦ record {
+      base = let b = is.base in omega arith;
+      last = at_most change now new.content.rows (subst (λ rows. AllByRecursion (λ (r : SignedRow). r.number ≤ change) rows) (sym (same range)) last) less;
+    }
+    | inr own ↦ own_last change now old new is (holds own) less
+  ]
+
+module _ (table : TableState) (facts : Facts table) (number change : ℕ) (old next : KeptFile) (at : get table.files number ≡ Some old) (is : IsCompacted change old next)
+    (holds : (IsRange old.expr → ⊥) → HoldsItsContent change old next) (kept : IsRange old.expr → next.content.rows ≡ old.content.rows) (last : AllByRecursion (λ r. r.number ≤ change) old.content.rows) (less : change ≤ table.number)
     (new : Files) (put : new ≡ insert table.files number next) where
   here : get new number ≡ Some next
   here = subst (λ f. get f number ≡ Some next) (sym put) (put_same table.files number next)
@@ -78,11 +117,11 @@ module _ (table : TableState) (facts : Facts table) (number change : ℕ) (old n
   pub facts_compacted : Facts (record { files = new; next_file = table.next_file; number = table.number })
   facts_compacted = facts_like table (record { files = new; next_file = table.next_file; number = table.number }) facts put_up put_back
       (λ other file after. elim (cases_eq other number) [
-        | inl same ↦ subst IsWide (sym (one_value after (subst (λ n. get new n ≡ Some next) (sym same) here))) (compact_wide change table.number old next is holds (facts.wide number old at))
+        | inl same ↦ subst IsWide (sym (one_value after (subst (λ n. get new n ≡ Some next) (sym same) here))) (compact_wide change table.number old next is holds kept (facts.wide number old at))
         | inr differs ↦ facts.wide other file (sym (others other differs) ∙ after)
       ])
       (λ other file after. elim (cases_eq other number) [
-        | inl same ↦ subst (λ f. IsUpTo table.number f.content) (sym (one_value after (subst (λ n. get new n ≡ Some next) (sym same) here))) (compact_last change table.number old next is holds less)
+        | inl same ↦ subst (λ f. IsUpTo table.number f.content) (sym (one_value after (subst (λ n. get new n ≡ Some next) (sym same) here))) (compact_last change table.number old next is holds kept last less)
         | inr differs ↦ facts.up_to other file (sym (others other differs) ∙ after)
       ])
       facts.below

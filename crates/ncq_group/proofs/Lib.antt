@@ -3,6 +3,7 @@ pub mod Collects
 pub mod Released
 pub mod Empty
 pub mod Added
+pub mod AddedFiles
 pub mod Grown
 pub mod Fresh
 pub mod Made

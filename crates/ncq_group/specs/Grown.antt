@@ -1,15 +1,16 @@
 -- Files that were added for parts of an expression. Only the crate's private clauses cite it.
-use Rattle.std.specs.Prelude.{◌≡◌, ◌≢◌, ◌⊎◌, ℕ, ◌+◌, ◌<◌, ◌≤◌, List, map, Some, None}
+use Rattle.std.specs.Prelude.{◌≡◌, ◌≢◌, ◌⊎◌, ℕ, ◌+◌, ◌<◌, ◌≤◌, List, length, Some, None}
 use Rattle.std.specs.FinMap.{get, insert}
 use Rattle.std.specs.List.{AllByRecursion}
 use Rattle.ncq_plan.specs.ExprLists.{AreApart}
 use Rattle.ncq_plan.specs.declared.expr.Expr.{Expr}
-use Rattle.ncq_plan.specs.Exprs.{World, operators}
-use Rattle.ncq_row.specs.Embeddings.{Row}
-use Rattle.ncq_midfile.specs.Made.{gained_at}
+use Rattle.ncq_plan.specs.Exprs.{World, expr_width, operators, rows_in}
+use Rattle.ncq_midfile.specs.Content.{IsContent}
+use Rattle.ncq_midfile.specs.Files.{FileState}
 use Rattle.ncq_shelf.specs.Parts.{IsPart}
 use Rattle.ncq_shelf.specs.KeptFiles.{AtFile, EachFile, Files, KeptFile}
 use Rattle.ncq_shelf.specs.Stands.{IsReadIn, IsGrounded}
+use Rattle.ncq_shelf.specs.Contents.{IsUpTo}
 use Rattle.ncq_feed.specs.Feeds.{AreReady}
 use Rattle.ncq_group.specs.Closure.{IsKept}
 use Rattle.ncq_group.specs.Installs.{IsFresh, rows_of_all}
@@ -43,20 +44,26 @@ pub record HasMade (whole : Expr) (world : World) (old : Files) (made : List Exp
   pub unknown : AllByRecursion (λ part. IsKept old part → ⊥) made
   pub cost : after ≤ before + rows_of_all world made
 
--- a file for the expression, without a use, whose rows are there from the base on
-abbrev pub new_file : Expr → ℕ → List Row → KeptFile
-new_file expr now rows = record {
-  expr = expr;
-  uses = 0;
-  content = record { base = now; rows = map (gained_at now) rows };
-}
+-- a file for the expression, without a use
+abbrev pub new_file : Expr → FileState → KeptFile
+new_file expr content = record { expr = expr; uses = 0; content = content }
 
--- the shelf has one more file, with the rows at the base now, under the number that was next
-pub record IsPut (old : Filed) (at : ℕ) (expr : Expr) (now : ℕ) (rows : List Row) (new : Filed)
+-- there is one more file, made at the change of now, with the rows of its expression over the world
+pub record IsAdded (old : Files) (number : ℕ) (expr : Expr) (now : ℕ) (world : World)
+    (new : Files) : Type 0 where
+  pub content : FileState
+  pub files : new ≡ insert old number (new_file expr content)
+  pub base : content.base ≡ now
+  pub up_to : IsUpTo now content
+  pub wide : AllByRecursion (λ r. length r.row ≡ expr_width expr) content.rows
+  pub holds : IsContent now content.rows (rows_in expr world)
+
+-- the shelf has one more file, under the number that was next
+pub record IsPut (old : Filed) (at : ℕ) (expr : Expr) (now : ℕ) (world : World) (new : Filed)
     : Type 0 where
   pub number : at ≡ old.next
   pub next : new.next ≡ old.next + 1
-  pub files : new.shelf ≡ insert old.shelf old.next (new_file expr now rows)
+  pub added : IsAdded old.shelf old.next expr now world new.shelf
 
 -- the files below the number are as before, and there are no others
 pub record IsCut (old : Files) (low : ℕ) (new : Files) : Type 0 where

@@ -1,17 +1,23 @@
 //! The table of shared files.
-ghost use Rattle.std.specs.Prelude.{◌≡◌, ℕ, ◌+◌, ◌-◌, ◌<◌, ◌≤◌, ◌^◌, List, IfOk, OnOk, OnErr};
+ghost use Rattle.std.specs.Prelude.{◌≡◌, ℕ, ◌+◌, ◌-◌, ◌<◌, ◌≤◌, ◌^◌, List};
+ghost use Rattle.std.specs.Prelude.{length, IfOk, IfSome, IfNone, OnOk, OnErr};
 ghost use Rattle.std.specs.FinMap.{empty, get, insert, len};
 ghost use Rattle.std.specs.List.{AllByRecursion};
 ghost use Rattle.std.specs.Option.{option_map};
+ghost use Rattle.ncq_base.specs.declared.interval.Interval.{Interval as an_interval};
 ghost use Rattle.ncq_plan.specs.declared.expr.Expr.{Expr as an_expr};
+ghost use Rattle.ncq_plan.specs.Exprs.{expr_width};
 ghost use Rattle.ncq_plan.specs.WellFormed.{IsWellFormedExpr};
 ghost use Rattle.ncq_midfile.specs.Content.{IsSoundAt};
+ghost use Rattle.ncq_midfile.specs.Shown.{shown, rows_below};
 ghost use Rattle.ncq_change.specs.Stores.{world_in};
 ghost use Rattle.ncq_signature.specs.Groups.{AreGroupLines};
 ghost use Rattle.ncq_shelf.specs.KeptFiles.{AtFile, EachFile, KeptFile};
 ghost use Rattle.ncq_shelf.specs.Stands.{IsThere};
+ghost use Rattle.ncq_shelf.specs.Ranges.{IsRange, IsRangeFile, SelectsRange, ShareRows};
 ghost use Rattle.ncq_shelf.specs.Contents.{Fits, HoldsItsContent, IsCompacted, cut_to};
 ghost use Rattle.ncq_feed.specs.Feeds.{IsPreparedFrom, AreFed, NamesTheFed, world_after, feed_work};
+ghost use Rattle.ncq_feed.specs.Feeds.{CountsHeld, plain_work, held_work};
 ghost use Rattle.ncq_count.specs.FileExprs.{exprs_of};
 ghost use Rattle.ncq_group.specs.Installs.{IsInstalled, NamesTheMissing, rows_of_all};
 ghost use Rattle.ncq_group.specs.Releases.{HasUse, IsReleased};
@@ -24,7 +30,7 @@ use crate::place::place;
 use crate::undo::cut;
 use ncq_base::{FileId, Sequence, Steps};
 use ncq_count::Groups;
-use ncq_midfile::MidFile;
+use ncq_midfile::{RangeFile, View};
 use ncq_plan::Expr;
 use ncq_shelf::Shelf;
 use ncq_signature::GroupLines;
@@ -71,12 +77,13 @@ impl GroupTable {
         }
     }
 
-    /// Every table meets the facts: this call does nothing.
+    /// Every table meets the facts, and its selections by intervals are virtual files over one file
+    /// for each slot of an input: this call does nothing.
     pub fn facts(&self)
-        ensures { Facts self.now }
+        ensures facts { Facts self.now }
+        ensures shared { ShareRows self.now.files }
     {
-        // A look at a field is what gives a proof the invariant.
-        let _ = &self.filed;
+        self.filed.shelf.share_rows();
     }
 
     /// The change up to which the files stand.
@@ -100,12 +107,26 @@ impl GroupTable {
         self.filed.shelf.len()
     }
 
-    /// The rows of a file. It takes no memory.
-    pub fn file(&self, file: FileId) -> &MidFile
+    /// The rows of a file, which may be a part of others. Each row below it has a value for each
+    /// slot of the file's expression. It takes no memory.
+    pub fn file(&self, file: FileId) -> View<'_>
         requires { IsThere self.now.files file.0 }
-        ensures { AtFile self.now.files file.0 (λ kept. result.now ≡ kept.content) }
+        ensures content { AtFile self.now.files file.0 (λ kept. shown result ≡ kept.content) }
+        ensures wide { AtFile self.now.files file.0 (λ kept.
+            AllByRecursion (λ r. length r.row ≡ expr_width kept.expr) (rows_below result)) }
     {
         self.filed.shelf.content(file.0)
+    }
+
+    /// The rows that the selections by intervals of the slot of a file share. Where it tells none
+    /// there is no such selection. It takes no memory.
+    pub fn range_file(&self, input: FileId, slot: usize) -> Option<&RangeFile>
+        ensures some { IfSome result (λ range.
+            IsRangeFile self.now.files input.0 slot range.now) }
+        ensures none { IfNone result ((interval : an_interval) (number : ℕ)
+            → SelectsRange self.now.files input.0 slot interval number → ⊥) }
+    {
+        self.filed.shelf.range_file(input.0, slot)
     }
 
     /// A line for each group of the files' expressions, in the order of a report. The work grows
@@ -180,8 +201,9 @@ impl GroupTable {
 
     /// Gives each file the signed rows that the change makes of its expression, under the number of
     /// the change. The answer names each file that got rows. After an error the table is as it was.
-    /// It takes at most one step for each signed row, whatever it answers. The only error is that
-    /// memory ran out.
+    /// It takes at most one step for each signed row, whatever it answers; and selections by
+    /// intervals of one slot of one file take together at most one step for each row that some of
+    /// them takes. The only error is that memory ran out.
     pub fn feed<L: Ledger>(
         &mut self,
         alloc: Global,
@@ -201,6 +223,9 @@ impl GroupTable {
         ensures next_file { self.new.next_file ≡ self.old.next_file }
         ensures err { OnErr result (self.new ≡ self.old) }
         ensures cost { steps.new ≤ steps.old + feed_work store.now change.now self.old.files }
+        ensures shared { (held : ℕ → ℕ → ℕ) → CountsHeld store.now change.now self.old.files held
+            → steps.new ≤ steps.old + (plain_work store.now change.now self.old.files
+            + held_work self.old.files held) }
     {
         let numbers = ncq_feed::feed(alloc, &mut self.filed.shelf, change, store, steps)?;
         self.number += 1;
@@ -224,9 +249,9 @@ impl GroupTable {
         self.number = mark.number;
     }
 
-    /// Makes a change the base of a file: it has then the rows that are left there, each as one
-    /// that is there from the base on. After an error the table is as it was. The only error is
-    /// that memory ran out.
+    /// Makes a change the base of a file. Where it has rows of its own it has then those that are
+    /// left there, each as one that is there from the base on; a selection by an interval keeps its
+    /// rows. After an error the table is as it was. The only error is that memory ran out.
     pub fn compact(&mut self, alloc: Global, file: FileId, change: u64) -> Result<(), AllocError>
         requires there { IsThere self.old.files file.0 }
         requires base { AtFile self.old.files file.0 (λ kept. kept.content.base ≤ change) }
@@ -238,7 +263,8 @@ impl GroupTable {
             (next : KeptFile) × (self.new.files ≡ insert self.old.files file.0 next)
             × IsCompacted change kept next)) }
         ensures rows { OnOk result (AtFile self.old.files file.0 (λ kept.
-            AtFile self.new.files file.0 (λ next. HoldsItsContent change kept next))) }
+            (IsRange kept.expr → ⊥)
+            → AtFile self.new.files file.0 (λ next. HoldsItsContent change kept next))) }
         ensures err { OnErr result (self.new ≡ self.old) }
         ensures next_file { self.new.next_file ≡ self.old.next_file }
         ensures number { self.new.number ≡ self.old.number }

@@ -12,6 +12,7 @@ use Rattle.ncq_shelf.specs.Stands.{Stands}
 use Rattle.ncq_group.specs.Tables.{TableState, Facts}
 use Rattle.ncq_group.proofs.Closures.{keeps_the_live}
 use Rattle.ncq_book.specs.declared.subscription.Subscription.{Subscription}
+use Rattle.ncq_shelf.specs.Ranges.{ShareRows}
 use Rattle.ncq_live.specs.LiveTables.{IsLiveTable, plan_in}
 use Rattle.ncq_live.specs.Shares.{Shares}
 
@@ -58,8 +59,8 @@ module _ (files : Files) where
         used = elim (nat_eq m.file.0 p.subscription.file.0) as (λ t. 0 < cond {A = ℕ} t 1 0 + times (λ n. nat_eq n.file.0 p.subscription.file.0) ms) [ true ↦ omega (arith, u) | false ↦ omega (arith, u) ];
       }
 
-pub shares : (table : TableState) (subscriptions : List Subscription) → Facts table → IsLiveTable table subscriptions → Shares subscriptions table
-shares table subscriptions facts live_table = record {
+pub shares : (table : TableState) (subscriptions : List Subscription) → Facts table → ShareRows table.files → IsLiveTable table subscriptions → Shares subscriptions table
+shares table subscriptions facts shared live_table = record {
   kept = λ expr. (
     λ kept.
         let live = ((keeps_the_live table facts).0 expr).0 kept in
@@ -79,5 +80,6 @@ shares table subscriptions facts live_table = record {
         }),
   );
   facts = facts;
+  shared = shared;
   live_table = live_table;
 }

@@ -13,6 +13,7 @@ ghost use Rattle.ncq_feed.specs.Feeds.{IsPreparedFrom, AreFed, NamesTheFed, worl
 ghost use Rattle.ncq_group.specs.Installs.{NamesTheMissing, rows_of_all};
 ghost use Rattle.ncq_group.specs.Releases.{IsReleased};
 ghost use Rattle.ncq_group.specs.Tables.{Facts, mark_of};
+ghost use Rattle.ncq_shelf.specs.Ranges.{ShareRows};
 ghost use Rattle.ncq_book.specs.Books.{is_named, is_of, subscription_of, with_note};
 ghost use Rattle.ncq_book.specs.Books.{InstallsRise, NamesDiffer};
 ghost use Rattle.ncq_live.specs.LiveTables.{IsLiveTable, HasJoined, plan_in};
@@ -91,6 +92,7 @@ impl LiveTable {
     pub fn facts(&self)
         ensures live_table { IsLiveTable self.now.table self.now.subscriptions }
         ensures facts { Facts self.now.table }
+        ensures shared { ShareRows self.now.table.files }
         ensures rise { InstallsRise self.now.subscriptions }
         ensures names { NamesDiffer self.now.subscriptions }
     {
@@ -98,8 +100,8 @@ impl LiveTable {
         self.book.facts();
     }
 
-    /// The files are those of the parts of the subscriptions' plans, one each: this call does
-    /// nothing.
+    /// The files are those of the parts of the subscriptions' plans, one each, and selections by
+    /// intervals share their rows: this call does nothing.
     pub fn shares(&self)
         ensures { Shares self.now.subscriptions self.now.table }
     {

@@ -1,8 +1,8 @@
 -- What is passed on of rows to what selects of them.
-use Rattle.std.proofs.Common.{◌≡◌, ℕ, ◌++◌, Bool, true, false, cond, nat_eq, nat_le, true≢false, List, [], ◌∷◌, map, filter, refl, sym, ◌∙◌, ap, subst, append-nil}
+use Rattle.std.proofs.Common.{◌≡◌, ℕ, ◌<◌, ◌||◌, ◌++◌, length, Bool, true, false, cond, nat_eq, nat_le, true≢false, List, [], ◌∷◌, map, filter, refl, sym, ◌∙◌, ap, subst, append-nil, arith}
 use Rattle.std.specs.Prelude.{Option, Some, None}
 use Rattle.std.specs.FinMap.{FinMap, get, find}
-use Rattle.std.specs.List.{flat_map, IsDistinct, AllByRecursion}
+use Rattle.std.specs.List.{flat_map, list_any, IsDistinct, AllByRecursion}
 use Rattle.std.specs.Map.{lookup, keys_of}
 use Rattle.std.specs.Option.{option_map, option_and_then, option_to_list}
 use Rattle.std.proofs.lemmas.Bool.{eqb-true, eq-eqb}
@@ -15,16 +15,17 @@ use Rattle.ncq_base.specs.declared.atom.Atom.{Atom}
 use Rattle.ncq_base.specs.declared.atom.FileId.{FileId}
 use Rattle.ncq_base.specs.declared.interval.Interval.{Interval}
 use Rattle.ncq_row.specs.Values.{atom_at}
-use Rattle.ncq_consttab.specs.Ranges.{is_interval, holders}
+use Rattle.ncq_consttab.specs.Ranges.{is_interval}
 use Rattle.ncq_consttab.proofs.Intervals.{interval_is}
+use Rattle.ncq_midfile.specs.Content.{Row}
+use Rattle.ncq_midfile.specs.Views.{is_within, is_held, of_rows}
 use Rattle.ncq_midfile.specs.declared.signed.SignedRow.{SignedRow}
 use Rattle.ncq_split.specs.declared.parcel.Parcel.{Parcel}
-use Rattle.ncq_split.specs.Splits.{for_file, row_parcels, parcels_of, files_equal, files_holding, put_by_number, by_number, intervals_of}
-use Rattle.ncq_split.proofs.FileLaws.{equal_rows, range_rows}
-use Rattle.ncq_readers.specs.Readings.{Reading, IsSelection}
+use Rattle.ncq_split.specs.Splits.{for_file, row_parcels, parcels_of, files_equal}
+use Rattle.ncq_split.proofs.FileLaws.{equal_rows}
 use Rattle.ncq_readers.specs.Readings.Reading.{equal, range}
 use Rattle.ncq_readers.specs.ReaderTables.{ReaderTables, IsReader}
-use Rattle.ncq_readers.specs.Passed.{AreTables, ReadOnce, equal_parcels, range_parcels, parcels_in, rows_to}
+use Rattle.ncq_readers.specs.Passed.{AreTables, ReadOnce, equal_parcels, parcels_in, held_by, held_in, held_at, rows_to}
 use Rattle.ncq_readers.specs.Tables.{found_at, file_of}
 use Rattle.ncq_readers.proofs.TableLaws.{reads, tail_apart, first_found, later_found, found_has, each_has, slot_is, slot_itself}
 use Rattle.ncq_readers.proofs.KeyLaws.{interval_itself}
@@ -110,62 +111,6 @@ module _ (number : ℕ) where
       by None none = tt
       by (Some file) none = (lacks file (λ e. none (ap Some e)), tt)
 
-  abbrev NoInterval : RangeTable → Type 0
-  NoInterval table = (i : Interval) → reads (file_of table i) number → ⊥
-
-  put_lacks : (file : FileId) (files : List FileId) → nat_eq file.0 number ≡ false → Lack number files → Lack number (put_by_number file files)
-  put_lacks file [] h all = (h, tt)
-  put_lacks file (other ∷ files) h all =
-      elim (nat_le file.0 other.0) as (λ b. Lack number (cond b (file ∷ other ∷ files) (other ∷ put_by_number file files))) [
-        | true ↦ (h, all)
-        | false ↦ (all.0, put_lacks file files h all.1)
-      ]
-
-  by_number_lacks : (files : List FileId) → Lack number files → Lack number (by_number files)
-  by_number_lacks [] h = tt
-  by_number_lacks (file ∷ files) h = put_lacks file (by_number files) h.0 (by_number_lacks files h.1)
-
-  holders_lack : (atom : Atom) (table : RangeTable) → AllByRecursion (λ e. nat_eq e.1.0 number ≡ false) table → Lack number (holders atom table)
-  holders_lack atom [] h = tt
-  holders_lack atom (e ∷ table) h =
-      elim (in_interval e.0 atom) as (λ b. Lack number (map (λ (p : Interval × FileId). p.1) (cond b (e ∷ filter (λ (p : Interval × FileId). in_interval p.0 atom) table) (filter (λ (p : Interval × FileId). in_interval p.0 atom) table)))) [
-        | true ↦ (h.0, holders_lack atom table h.1)
-        | false ↦ holders_lack atom table h.1
-      ]
-
-  no_interval_lacks : (table : RangeTable) → IsDistinct is_interval (keys_of table) → NoInterval table → (atom : Atom) → Lack number (files_holding table atom)
-  no_interval_lacks table apart h atom =
-      by_number_lacks (holders atom table) (holders_lack atom table (each_has is_interval interval_is interval_itself (λ i (file : FileId). nat_eq file.0 number ≡ false) table apart
-      (λ i file found. lacks file (λ e. h i (ap (option_map (λ (f : FileId). f.0)) found ∙ ap Some e)))))
-
--- the one interval of a file
-
-alone : (table : RangeTable) (interval : Interval) (file : FileId) → IsDistinct is_interval (keys_of table) → file_of table interval ≡ Some file
-    → ((i : Interval) (f : FileId) → file_of table i ≡ Some f → f.0 ≡ file.0 → i ≡ interval) → intervals_of file table ≡ (interval, file) ∷ []
-alone [] interval file apart found once = cc
-alone (e ∷ es) interval file apart found once =
-    let rest = IsDistinct-tail is_interval e.0 (keys_of es) apart in
-    let behind = λ (i : Interval) (f : FileId) (at : file_of es i ≡ Some f). once i f (later_found is_interval interval_is interval_itself e es i f apart at) in
-    elim (is_interval interval e.0) as (λ b. is_interval interval e.0 ≡ b → cond b (Some e.1) (file_of es interval) ≡ Some file
-    → cond (nat_eq e.1.0 file.0) (e ∷ intervals_of file es) (intervals_of file es) ≡ (interval, file) ∷ []) [
-      | true ↦ λ q at.
-          let key : interval ≡ e.0 = interval_is interval e.0 q in
-          let value : e.1 ≡ file = cc in
-          let none = none_left es (each_has is_interval interval_is interval_itself (λ i (f : FileId). nat_eq f.0 file.0 ≡ false) es rest (λ i f in_es.
-          lacks file.0 f (λ same.
-          absurd (true≢false (sym (interval_itself e.0) ∙ ap (λ k. is_interval k e.0) (sym (behind i f in_es same ∙ key)) ∙ tail_apart is_interval interval_is interval_itself e es i f apart in_es))))) in
-          (λ i. cond (eq-eqb e.1.0 file.0 (ap (λ (f : FileId). f.0) value) i) (e ∷ intervals_of file es) (intervals_of file es))
-          ∙ (λ i. (sym key i, value i) ∷ none i)
-      | false ↦ λ q at.
-          let other = lacks file.0 e.1 (λ same.
-          absurd (true≢false (sym (interval_itself interval) ∙ ap (is_interval interval) (sym (once e.0 e.1 (first_found is_interval interval_is interval_itself e es) same)) ∙ q))) in
-          (λ i. cond (other i) (e ∷ intervals_of file es) (intervals_of file es)) ∙ alone es interval file rest at behind
-    ] refl found
-  where
-    none_left : (es : RangeTable) → AllByRecursion (λ e. nat_eq e.1.0 file.0 ≡ false) es → intervals_of file es ≡ []
-    none_left [] h = refl
-    none_left (e ∷ es) h = (λ i. cond (h.0 i) (e ∷ intervals_of file es) (intervals_of file es)) ∙ none_left es h.1
-
 -- what a look-up in a group tells of the tables
 
 pub found_in : {T K : Type 0} (find : T → K → Option FileId) (es : List (ℕ × T)) (slot : ℕ) (table : T) (k : K) → lookup (nat_eq slot) es ≡ Some table → found_at find es slot k ≡ find table k
@@ -190,34 +135,17 @@ module _ (tables : ReaderTables) (rows : List SignedRow) (number : ℕ) (are : A
   abbrev equals_to : ℕ × EqualTable → List SignedRow
   equals_to table = rows_to number (equal_parcels rows table)
 
-  abbrev ranges_to : ℕ × RangeTable → List SignedRow
-  ranges_to table = rows_to number (range_parcels rows table)
-
-  passed : (es fs : List SignedRow) → flat_map equals_to tables.equals ≡ es → flat_map ranges_to tables.ranges ≡ fs → rows_to number (parcels_in tables rows) ≡ es ++ fs
-  passed es fs p q =
-      rows_to-append number (flat_map (equal_parcels rows) tables.equals) (flat_map (range_parcels rows) tables.ranges)
-      ∙ (λ i. (rows_to-groups number (equal_parcels rows) tables.equals ∙ p) i ++ (rows_to-groups number (range_parcels rows) tables.ranges ∙ q) i)
+  passed : (es : List SignedRow) → flat_map equals_to tables.equals ≡ es → rows_to number (parcels_in tables rows) ≡ es
+  passed es p = rows_to-groups number (equal_parcels rows) tables.equals ∙ p
 
   equal_reader : (s : ℕ) (t : EqualTable) (c : Atom) → lookup (nat_eq s) tables.equals ≡ Some t → reads (get t c) number → IsReader tables (equal s c) number
   equal_reader s t c found h = subst (λ o. reads o number) (sym (found_in get tables.equals s t c found)) h
 
-  range_reader : (s : ℕ) (t : RangeTable) (i : Interval) → lookup (nat_eq s) tables.ranges ≡ Some t → reads (file_of t i) number → IsReader tables (range s i) number
-  range_reader s t i found h = subst (λ o. reads o number) (sym (found_in file_of tables.ranges s t i found)) h
-
   no_equal : (s : ℕ) (t : EqualTable) → lookup (nat_eq s) tables.equals ≡ Some t → ((c : Atom) → IsReader tables (equal s c) number → ⊥) → equals_to (s, t) ≡ []
   no_equal s t found h = none_of number (files_equal t) (no_constant_lacks number t (λ c at. h c (equal_reader s t c found at))) s rows
 
-  apart_at : (s : ℕ) (t : RangeTable) → lookup (nat_eq s) tables.ranges ≡ Some t → IsDistinct is_interval (keys_of t)
-  apart_at s t found = found_has nat_eq slot_is slot_itself (λ _ (t : RangeTable). IsDistinct is_interval (keys_of t)) tables.ranges s t are.intervals found
-
-  no_range : (s : ℕ) (t : RangeTable) → lookup (nat_eq s) tables.ranges ≡ Some t → ((i : Interval) → IsReader tables (range s i) number → ⊥) → ranges_to (s, t) ≡ []
-  no_range s t found h = none_of number (files_holding t) (no_interval_lacks number t (apart_at s t found) (λ i at. h i (range_reader s t i found at))) s rows
-
-  pub others_get_none : ((reading : Reading) (slot : ℕ) (test : SignedRow → Bool) → IsReader tables reading number → IsSelection reading slot test → ⊥) → rows_to number (parcels_in tables rows) ≡ []
-  others_get_none h =
-      passed [] []
-      (no_group equals_to tables.equals are.equal_slots (λ s t found. no_equal s t found (λ c at. h (equal s c) s _ at (IsSelection.equal s c))))
-      (no_group ranges_to tables.ranges are.range_slots (λ s t found. no_range s t found (λ i at. h (range s i) s _ at (IsSelection.range s i))))
+  pub others_get_none : ((slot : ℕ) (constant : Atom) → IsReader tables (equal slot constant) number → ⊥) → rows_to number (parcels_in tables rows) ≡ []
+  others_get_none h = passed [] (no_group equals_to tables.equals are.equal_slots (λ s t found. no_equal s t found (λ c at. h s c at)))
 
 module _ (tables : ReaderTables) (rows : List SignedRow) (number : ℕ) (are : AreTables tables) (once : ReadOnce tables) where
   same_slot : (s t : ℕ) (c d : Atom) → equal s c ≡ equal t d → s ≡ t
@@ -226,16 +154,7 @@ module _ (tables : ReaderTables) (rows : List SignedRow) (number : ℕ) (are : A
   same_constant : (s t : ℕ) (c d : Atom) → equal s c ≡ equal t d → c ≡ d
   same_constant s t c d e = cc
 
-  same_range_slot : (s t : ℕ) (i j : Interval) → range s i ≡ range t j → s ≡ t
-  same_range_slot s t i j e = cc
-
-  same_interval : (s t : ℕ) (i j : Interval) → range s i ≡ range t j → i ≡ j
-  same_interval s t i j e = cc
-
-  two_ways : (s t : ℕ) (c : Atom) (i : Interval) → equal s c ≡ range t i → ⊥
-  two_ways s t c i e = cc
-
-  equal_gets : (slot : ℕ) (constant : Atom) → IsReader tables (equal slot constant) number
+  pub equal_gets : (slot : ℕ) (constant : Atom) → IsReader tables (equal slot constant) number
       → rows_to number (parcels_in tables rows) ≡ filter (λ (r : SignedRow). Rattle.ncq_base.specs.Atoms.same_atom (atom_at r.row slot) constant) rows
   equal_gets slot constant reader =
       let at = table_of get tables.equals slot constant number reader in
@@ -245,30 +164,78 @@ module _ (tables : ReaderTables) (rows : List SignedRow) (number : ℕ) (are : A
       same_constant slot slot other constant
       (once (equal slot other) (equal slot constant) number (equal_reader tables rows number are slot table other at.2 (ap (option_map (λ (f : FileId). f.0)) found ∙ ap Some at.4)) reader)) in
       let here : equals_to tables rows number are (slot, table) ≡ _ = ap (λ n. rows_to n (equal_parcels rows (slot, table))) (sym at.4) ∙ its in
-      passed tables rows number are _ []
+      passed tables rows number are _
       (one_group (equals_to tables rows number are) tables.equals slot table are.equal_slots at.2 (λ s t found other.
       no_equal tables rows number are s t found (λ c h. other (same_slot s slot c constant (once (equal s c) (equal slot constant) number h reader)))) ∙ here)
-      (no_group (ranges_to tables rows number are) tables.ranges are.range_slots (λ s t found.
-      no_range tables rows number are s t found (λ i h. two_ways slot s constant i (once (equal slot constant) (range s i) number reader h))))
-      ∙ append-nil _
 
-  range_gets : (slot : ℕ) (interval : Interval) → IsReader tables (range slot interval) number
-      → rows_to number (parcels_in tables rows) ≡ filter (λ (r : SignedRow). in_interval interval (atom_at r.row slot)) rows
-  range_gets slot interval reader =
+-- what is held at a slot
+
+module _ (tables : ReaderTables) (rows : List SignedRow) (slot : ℕ) (are : AreTables tables) where
+  abbrev held_of : ℕ × RangeTable → List SignedRow
+  held_of table = cond (nat_eq table.0 slot) (held_by rows table).rows []
+
+  held_each : (es : List (ℕ × RangeTable)) → held_at slot (map (held_by rows) es) ≡ flat_map held_of es
+  held_each [] = refl
+  held_each (e ∷ es) = ap (λ xs. held_of e ++ xs) (held_each es)
+
+  elsewhere : (s : ℕ) (t : RangeTable) → (s ≡ slot → ⊥) → held_of (s, t) ≡ []
+  elsewhere s t other = by (nat_eq s slot) refl
+    where
+      by : (b : Bool) → nat_eq s slot ≡ b → cond b (held_by rows (s, t)).rows [] ≡ []
+      by true q = absurd (other (eqb-true s slot q))
+      by false q = refl
+
+  here_held : (t : RangeTable) → held_of (slot, t) ≡ of_rows (is_held slot (keys_of t)) rows
+  here_held t = ap (λ b. cond b (held_by rows (slot, t)).rows []) (slot_itself slot)
+
+  pub held_there : (t : RangeTable) → lookup (nat_eq slot) tables.ranges ≡ Some t → held_at slot (held_in tables rows) ≡ of_rows (is_held slot (keys_of t)) rows
+  held_there t found = held_each tables.ranges ∙ one_group held_of tables.ranges slot t are.range_slots found (λ s u _ other. elsewhere s u other) ∙ here_held t
+
+  -- an interval of the table holds what is within it
+  within_held : (t : RangeTable) (interval : Interval) (file : FileId) (a : Atom) → file_of t interval ≡ Some file → in_interval interval a ≡ true
+      → list_any (λ i. in_interval i a) (keys_of t) ≡ true
+  within_held [] interval file a found h = cc
+  within_held (e ∷ t) interval file a found h =
+      elim (is_interval interval e.0) as (λ b. is_interval interval e.0 ≡ b → cond b (Some e.1) (file_of t interval) ≡ Some file → (in_interval e.0 a || list_any (λ i. in_interval i a) (keys_of t)) ≡ true) [
+        | true ↦ λ q f. ap (λ b. b || list_any (λ i. in_interval i a) (keys_of t)) (ap (λ i. in_interval i a) (sym (interval_is interval e.0 q)) ∙ h)
+        | false ↦ λ q f. ap (λ b. in_interval e.0 a || b) (within_held t interval file a f h) ∙ or_true (in_interval e.0 a)
+      ] refl found
+    where
+      or_true : (b : Bool) → (b || true) ≡ true
+      or_true true = refl
+      or_true false = refl
+
+  twice : (p q : Row → Bool) → ((r : Row) → p r ≡ true → q r ≡ true) → (rs : List SignedRow) → of_rows p (of_rows q rs) ≡ of_rows p rs
+  twice p q h [] = refl
+  twice p q h (r ∷ rs) =
+      elim (q r.row) as (λ b. q r.row ≡ b → of_rows p (cond b (r ∷ of_rows q rs) (of_rows q rs)) ≡ cond (p r.row) (r ∷ of_rows p rs) (of_rows p rs)) [
+        | true ↦ λ _. ap (λ xs. cond (p r.row) (r ∷ xs) xs) (twice p q h rs)
+        | false ↦ λ e. twice p q h rs ∙ ap (λ b. cond b (r ∷ of_rows p rs) (of_rows p rs)) (sym (not_p e))
+      ] refl
+    where
+      not_p : q r.row ≡ false → p r.row ≡ false
+      not_p e = by (p r.row) refl
+        where
+          by : (b : Bool) → p r.row ≡ b → b ≡ false
+          by true f = absurd (true≢false (sym (h r.row f) ∙ e))
+          by false f = refl
+
+  pub interval_gets : (interval : Interval) (number : ℕ) → IsReader tables (range slot interval) number → of_rows (is_within slot interval) (held_at slot (held_in tables rows)) ≡ of_rows (is_within slot interval) rows
+  interval_gets interval number reader =
       let at = table_of file_of tables.ranges slot interval number reader in
-      let table = at.0 in
-      let file = at.1 in
-      let its = range_rows table slot rows interval file (alone table interval file (apart_at tables rows number are slot table at.2) at.3 (λ i f found same.
-      same_interval slot slot i interval
-      (once (range slot i) (range slot interval) number (range_reader tables rows number are slot table i at.2 (ap (option_map (λ (f : FileId). f.0)) found ∙ ap Some (same ∙ at.4))) reader))) in
-      let here : ranges_to tables rows number are (slot, table) ≡ _ = ap (λ n. rows_to n (range_parcels rows (slot, table))) (sym at.4) ∙ its in
-      passed tables rows number are [] _
-      (no_group (equals_to tables rows number are) tables.equals are.equal_slots (λ s t found.
-      no_equal tables rows number are s t found (λ c h. two_ways s slot c interval (once (equal s c) (range slot interval) number h reader))))
-      (one_group (ranges_to tables rows number are) tables.ranges slot table are.range_slots at.2 (λ s t found other.
-      no_range tables rows number are s t found (λ i h. other (same_range_slot s slot i interval (once (range s i) (range slot interval) number h reader)))) ∙ here)
+      ap (of_rows (is_within slot interval)) (held_there at.0 at.2)
+      ∙ twice (is_within slot interval) (is_held slot (keys_of at.0)) (λ r h. within_held at.0 interval at.1 (atom_at r slot) at.3 h) rows
 
-  pub selection_gets : {reading : Reading} {slot : ℕ} {test : SignedRow → Bool} → IsReader tables reading number → IsSelection reading slot test
-      → rows_to number (parcels_in tables rows) ≡ filter test rows
-  selection_gets reader (IsSelection.equal slot constant) = equal_gets slot constant reader
-  selection_gets reader (IsSelection.range slot interval) = range_gets slot interval reader
+  pub none_held : ((interval : Interval) (number : ℕ) → IsReader tables (range slot interval) number → ⊥) → held_at slot (held_in tables rows) ≡ []
+  none_held h = held_each tables.ranges ∙ no_group held_of tables.ranges are.range_slots (λ s t found. by s t found (nat_eq s slot) refl)
+    where
+      first : (t : RangeTable) → lookup (nat_eq slot) tables.ranges ≡ Some t → 0 < length t → ⊥
+      first [] found some = omega arith
+      first (e ∷ t) found some =
+          h e.0 e.1.0 (ap (option_map (λ (f : FileId). f.0)) (found_in file_of tables.ranges slot (e ∷ t) e.0 found ∙ first_found is_interval interval_is interval_itself e t))
+
+      by : (s : ℕ) (t : RangeTable) → lookup (nat_eq s) tables.ranges ≡ Some t → (b : Bool) → nat_eq s slot ≡ b → cond b (held_by rows (s, t)).rows [] ≡ []
+      by s t found true q =
+          absurd (first t (ap (λ n. lookup (nat_eq n) tables.ranges) (sym (eqb-true s slot q)) ∙ found)
+          (found_has nat_eq slot_is slot_itself (λ _ (t : RangeTable). 0 < length t) tables.ranges s t are.ranges_some found))
+      by s t found false q = refl

@@ -1,16 +1,18 @@
 //! The equality groups of a file: constants with their files, by slot.
-ghost use Rattle.std.specs.Prelude.{◌≡◌, ◌+◌, ◌≤◌, ◌++◌, length, Some, None, OnOk, OnErr};
+ghost use Rattle.std.specs.Prelude.{◌≡◌, ◌+◌, ◌-◌, ◌<◌, ◌≤◌, ◌++◌, length, Some, None, OnOk, OnErr};
 ghost use Rattle.std.specs.FinMap.{get};
 ghost use Rattle.std.specs.List.{flat_map, AllByRecursion};
 ghost use Rattle.std.specs.Ordering.{eq_by_cmp};
 ghost use Rattle.ncq_base.specs.Atoms.{atom_cmp};
+ghost use Rattle.ncq_midfile.specs.Content.{since};
+ghost use Rattle.ncq_midfile.specs.Shown.{shown, rows_below};
 ghost use Rattle.ncq_readers.specs.Passed.{equal_parcels};
 ghost use Rattle.ncq_readers.specs.Readings.{HaveSlot};
 ghost use Rattle.ncq_readers.specs.Tables.{AreGroups, IsEqualTable, Sets, found_at};
 
 use ncq_base::{Atom, FileId, Steps};
 use ncq_consttab::EqTable;
-use ncq_midfile::SignedRow;
+use ncq_midfile::View;
 use ncq_split::{Parcels, split_equal};
 use std::alloc::{AllocError, Global};
 use std::collections::BTreeMap;
@@ -58,22 +60,27 @@ pub(crate) fn remove_constant(groups: &mut BTreeMap<usize, EqTable>, slot: usize
     groups.remove(&slot);
 }
 
-/// Adds the parcels of each group.
+/// Adds the parcels of each group, of the input's rows of the change.
 pub(crate) fn add_equal_parcels<L: Ledger>(
     alloc: Global,
     groups: &BTreeMap<usize, EqTable>,
-    rows: &[SignedRow],
+    input: &View<'_>,
+    number: u64,
     parcels: &mut Parcels,
     steps: &mut Steps<L>,
 ) -> Result<(), AllocError>
-    requires { AllByRecursion (λ table. HaveSlot table.0 rows.now) groups.now.entries }
-    ensures parcels { OnOk result (parcels.new
-        ≡ parcels.old ++ flat_map (equal_parcels rows.now) groups.now.entries) }
-    ensures cost { steps.new
-        ≤ steps.old + length (flat_map (equal_parcels rows.now) groups.now.entries) }
+    requires base { (shown input.now).base < number }
+    requires slots { AllByRecursion (λ table. HaveSlot table.0 (rows_below input.now))
+        groups.now.entries }
+    ensures parcels { OnOk result (parcels.new ≡ parcels.old
+        ++ flat_map (equal_parcels (since (number - 1) (shown input.now).rows))
+        groups.now.entries) }
+    ensures cost { steps.new ≤ steps.old
+        + length (flat_map (equal_parcels (since (number - 1) (shown input.now).rows))
+        groups.now.entries) }
 {
     for (slot, table) in groups {
-        let more = split_equal(alloc, table, *slot, rows, steps)?;
+        let more = split_equal(alloc, table, *slot, input, number, steps)?;
         parcels.append(more)?;
     }
     Ok(())

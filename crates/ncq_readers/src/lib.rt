@@ -1,7 +1,8 @@
 //! The groups over one file: who reads it, as selections by slot and constant or interval, and as
 //! joins.
-//! The number of each reader comes in with how it reads; signed rows of the file come in, and
-//! parcels for the selections that take them go out. A constant is found by its hash, and no
+//! The number of each reader comes in with how it reads; the file comes in, and of its rows of a
+//! change go out parcels for the selections by constants that take them, and for each slot with
+//! intervals those that some interval holds, each once. A constant is found by its hash, and no
 //! group stands without a constant.
 #![tactic(auto)]
 
@@ -11,4 +12,5 @@ mod ranges;
 mod readers;
 
 pub use laws::selections_get_what_they_take;
+pub use ranges::HeldRows;
 pub use readers::Readers;

@@ -1,18 +1,27 @@
 //! The range groups of a file: intervals with their files, by slot.
-ghost use Rattle.std.specs.Prelude.{◌≡◌, ◌+◌, ◌≤◌, ◌++◌, length, Some, None, OnOk, OnErr};
-ghost use Rattle.std.specs.List.{flat_map, AllByRecursion};
+ghost use Rattle.std.specs.Prelude.{◌≡◌, ◌+◌, ◌-◌, ◌<◌, ◌≤◌, ◌++◌, map, Some, None, OnOk, OnErr};
+ghost use Rattle.std.specs.List.{AllByRecursion};
 ghost use Rattle.ncq_consttab.specs.Ranges.{is_interval};
-ghost use Rattle.ncq_readers.specs.Passed.{range_parcels};
+ghost use Rattle.ncq_midfile.specs.Content.{since};
+ghost use Rattle.ncq_midfile.specs.Shown.{shown, rows_below};
+ghost use Rattle.ncq_readers.specs.Passed.{held_by, size_of};
 ghost use Rattle.ncq_readers.specs.Readings.{HaveSlot};
 ghost use Rattle.ncq_readers.specs.Tables.{AreGroups, IsRangeTable, Sets, file_of, found_at};
 
-use ncq_base::{FileId, Interval, Steps};
+use ncq_base::{FileId, Interval, Sequence, Steps};
 use ncq_consttab::RangeTable;
-use ncq_midfile::SignedRow;
-use ncq_split::{Parcels, split_range};
+use ncq_midfile::{SignedRows, View};
+use ncq_split::split_range;
 use std::alloc::{AllocError, Global};
 use std::collections::BTreeMap;
 use std::sync::ledger::Ledger;
+
+/// Rows that some interval of a range group holds, each once, with the group's slot.
+#[derive(Drop)]
+pub struct HeldRows {
+    pub slot: usize,
+    pub rows: SignedRows,
+}
 
 /// The slot's interval has the file, where it had none. After an error all is as before.
 pub(crate) fn add_interval(
@@ -60,23 +69,27 @@ pub(crate) fn remove_interval(
     groups.remove(&slot);
 }
 
-/// Adds the parcels of each group.
-pub(crate) fn add_range_parcels<L: Ledger>(
+/// Adds the rows that each group holds, of the input's rows of the change.
+pub(crate) fn add_held<L: Ledger>(
     alloc: Global,
     groups: &BTreeMap<usize, RangeTable>,
-    rows: &[SignedRow],
-    parcels: &mut Parcels,
+    input: &View<'_>,
+    number: u64,
+    held: &mut Sequence<HeldRows>,
     steps: &mut Steps<L>,
 ) -> Result<(), AllocError>
-    requires { AllByRecursion (λ table. HaveSlot table.0 rows.now) groups.now.entries }
-    ensures parcels { OnOk result (parcels.new
-        ≡ parcels.old ++ flat_map (range_parcels rows.now) groups.now.entries) }
-    ensures cost { steps.new
-        ≤ steps.old + length (flat_map (range_parcels rows.now) groups.now.entries) }
+    requires base { (shown input.now).base < number }
+    requires slots { AllByRecursion (λ table. HaveSlot table.0 (rows_below input.now))
+        groups.now.entries }
+    ensures held { OnOk result (held.new ≡ held.old
+        ++ map (held_by (since (number - 1) (shown input.now).rows)) groups.now.entries) }
+    ensures cost { steps.new ≤ steps.old
+        + size_of (map (held_by (since (number - 1) (shown input.now).rows))
+        groups.now.entries) }
 {
     for (slot, table) in groups {
-        let more = split_range(alloc, table, *slot, rows, steps)?;
-        parcels.append(more)?;
+        let rows = split_range(alloc, table, *slot, input, number, steps)?;
+        held.push(HeldRows { slot: *slot, rows })?;
     }
     Ok(())
 }

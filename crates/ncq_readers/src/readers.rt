@@ -1,16 +1,21 @@
 //! The readers of one file.
-ghost use Rattle.std.specs.Prelude.{◌≡◌, ◌+◌, ◌≤◌, ℕ, [], length, nat_eq, IfOk, OnOk, OnErr};
+ghost use Rattle.std.specs.Prelude.{◌≡◌, ◌+◌, ◌-◌, ◌<◌, ◌≤◌, ℕ, [], length, nat_eq, IfOk, OnOk};
+ghost use Rattle.std.specs.Prelude.{OnErr};
 ghost use Rattle.std.specs.List.{IsDistinct};
-ghost use Rattle.ncq_readers.specs.Passed.{AreTables, HaveSlots, parcels_in};
+ghost use Rattle.std.specs.Map.{lookup};
+ghost use Rattle.std.specs.Option.{option_map};
+ghost use Rattle.ncq_midfile.specs.Content.{since};
+ghost use Rattle.ncq_midfile.specs.Shown.{shown, rows_below};
+ghost use Rattle.ncq_readers.specs.Passed.{AreTables, HaveSlots, parcels_in, held_in, size_of};
 ghost use Rattle.ncq_readers.specs.Readings.Reading.{equal, range, joined};
 ghost use Rattle.ncq_readers.specs.ReaderTables.{IsReader, TellsUnread, Gains, Loses};
 
 use crate::equals::{add_constant, add_equal_parcels, remove_constant};
-use crate::ranges::{add_interval, add_range_parcels, remove_interval};
+use crate::ranges::{HeldRows, add_held, add_interval, remove_interval};
 use indexmap::IndexSet;
-use ncq_base::{Atom, FileId, Interval, Steps};
+use ncq_base::{Atom, FileId, Interval, Sequence, Steps};
 use ncq_consttab::{EqTable, RangeTable};
-use ncq_midfile::SignedRow;
+use ncq_midfile::View;
 use ncq_split::Parcels;
 use std::alloc::{AllocError, Global};
 use std::collections::BTreeMap;
@@ -145,22 +150,56 @@ impl Readers {
         self.joins.as_slice()
     }
 
-    /// A parcel of each row for each selection that takes it. It takes at most one step for each
-    /// parcel. The only error is that memory ran out.
+    /// The intervals of a slot, each with its file; none stands twice. It takes no memory.
+    pub fn range_table(&self, slot: usize) -> Option<&RangeTable>
+        ensures table { option_map (λ t. t.now) result ≡ lookup (nat_eq slot) self.now.ranges }
+        ensures tables { AreTables self.now }
+    {
+        self.ranges.get(&slot)
+    }
+
+    /// A parcel of each of the file's rows of the change for each selection by a constant that
+    /// takes it. Its rows of the change are those with no lower number. It takes at most one step
+    /// for each parcel. The only error is that memory ran out.
     pub fn parcels<L: Ledger>(
         &self,
         alloc: Global,
-        rows: &[SignedRow],
+        input: &View<'_>,
+        number: u64,
         steps: &mut Steps<L>,
     ) -> Result<Parcels, AllocError>
-        requires { HaveSlots self.now rows.now }
-        ensures parcels { IfOk result (λ parcels. parcels ≡ parcels_in self.now rows.now) }
-        ensures cost { steps.new ≤ steps.old + length (parcels_in self.now rows.now) }
+        requires base { (shown input.now).base < number }
+        requires slots { HaveSlots self.now (rows_below input.now) }
+        ensures parcels { IfOk result (λ parcels. parcels
+            ≡ parcels_in self.now (since (number - 1) (shown input.now).rows)) }
+        ensures cost { steps.new ≤ steps.old
+            + length (parcels_in self.now (since (number - 1) (shown input.now).rows)) }
         ensures tables { AreTables self.now }
     {
         let mut parcels = Parcels::new(alloc);
-        add_equal_parcels(alloc, &self.equals, rows, &mut parcels, steps)?;
-        add_range_parcels(alloc, &self.ranges, rows, &mut parcels, steps)?;
+        add_equal_parcels(alloc, &self.equals, input, number, &mut parcels, steps)?;
         Ok(parcels)
+    }
+
+    /// For each slot with intervals those of the file's rows of the change that some interval
+    /// holds, each once. Each such row is one step. The only error is that memory ran out.
+    pub fn held<L: Ledger>(
+        &self,
+        alloc: Global,
+        input: &View<'_>,
+        number: u64,
+        steps: &mut Steps<L>,
+    ) -> Result<Sequence<HeldRows>, AllocError>
+        requires base { (shown input.now).base < number }
+        requires slots { HaveSlots self.now (rows_below input.now) }
+        ensures held { IfOk result (λ held. held
+            ≡ held_in self.now (since (number - 1) (shown input.now).rows)) }
+        ensures cost { steps.new ≤ steps.old
+            + size_of (held_in self.now (since (number - 1) (shown input.now).rows)) }
+        ensures tables { AreTables self.now }
+    {
+        let mut held = Sequence::new(alloc);
+        add_held(alloc, &self.ranges, input, number, &mut held, steps)?;
+        Ok(held)
     }
 }

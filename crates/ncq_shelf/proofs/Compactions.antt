@@ -8,13 +8,7 @@ use Rattle.ncq_midfile.specs.Content.{Row, IsContent, gains, losses, rows_of, up
 use Rattle.ncq_midfile.specs.Files.{FileState}
 use Rattle.ncq_midfile.specs.Made.{gained_at}
 use Rattle.ncq_midfile.specs.declared.signed.SignedRow.{SignedRow}
-
--- the rows are those left at the change, there from the base on
-pub record HasBase (change : ℕ) (old new : FileState) : Type 0 where
-  pub base : new.base ≡ change
-  pub gains : new.rows ≡ map (gained_at change) (rows_of new.rows)
-  pub content : IsContent change old.rows (rows_of new.rows)
-  pub stays : (at : ℕ) (list : List Row) → change ≤ at → IsContent at old.rows list → IsContent at new.rows list
+use Rattle.ncq_shelf.specs.Groups.{HasBase}
 
 -- where no row is of a later change, all are up to each number from there on
 all_up : (n at : ℕ) → n ≤ at → (rows : List SignedRow) → AllByRecursion (λ r. r.number ≤ n) rows → up_to at rows ≡ rows

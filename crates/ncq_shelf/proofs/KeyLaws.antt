@@ -128,6 +128,20 @@ held_at P rows (place ∷ places) a = by (slice_get rows place) refl (held_at P 
     by (Some r) e rest = subst (λ o. AllByRecursion P (kept o (signed_at places rows))) (sym e) (a.0 r e, rest)
     by None e rest = subst (λ o. AllByRecursion P (kept o (signed_at places rows))) (sym e) rest
 
+-- what holds of the rows up to a number and of those above it
+pub all_parts : (P : SignedRow → Type 0) (n : ℕ) (rows : List SignedRow) → AllByRecursion P (up_to n rows) → AllByRecursion P (since n rows) → AllByRecursion P rows
+all_parts P n [] a b = tt
+all_parts P n (r ∷ rows) a b = elim (cases_lt n r.number) as (λ _. AllByRecursion P (r ∷ rows)) [
+  | inl above ↦
+      let first : AllByRecursion P (up_to n rows) = subst (λ t. AllByRecursion P (cond t (r ∷ up_to n rows) (up_to n rows))) (lt-leb r.number n above) a in
+      let last : AllByRecursion P (r ∷ since n rows) = subst (λ t. AllByRecursion P (cond t (r ∷ since n rows) (since n rows))) (lt-ltb n r.number above) b in
+      (last.0, all_parts P n rows first last.1)
+  | inr low ↦
+      let first : AllByRecursion P (r ∷ up_to n rows) = subst (λ t. AllByRecursion P (cond t (r ∷ up_to n rows) (up_to n rows))) (le-leb r.number n low) a in
+      let last : AllByRecursion P (since n rows) = subst (λ t. AllByRecursion P (cond t (r ∷ since n rows) (since n rows))) (le-ltb n r.number low) b in
+      (first.0, all_parts P n rows first.1 last)
+]
+
 -- what is left at the base are the rows of the base
 module _ (test : Row → Bool) (base : ℕ) where
   abbrev Passes : List SignedRow → Type 0

@@ -96,7 +96,7 @@ module _ (old new : Scans) (source : List ℕ) (others : (q : List ℕ) → q �
 -- the source of a scan is one
 module _ (whole : Expr) (source : List ℕ) (shape : Shape) (is : whole ≡ Scan source shape) where
   source_is : (q : List ℕ) → ScansSource q whole → q ≡ source
-  source_is q s = let l = layers _ _ _ _ (sym s.is ∙ is) (out-Scan q s.shape) (out-Scan source shape) in cc
+  source_is q s = let l = layers [] _ _ _ _ (sym s.is ∙ is) (out-Scan q s.shape) (out-Scan source shape) in cc
 
   scans_it : (q : List ℕ) → q ≡ source → ScansSource q whole
   scans_it q e = record { shape = shape; is = is ∙ ap (λ s. Scan s shape) (sym e) }

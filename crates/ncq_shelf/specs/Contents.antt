@@ -4,6 +4,7 @@ use Rattle.std.specs.List.{AllByRecursion}
 use Rattle.std.specs.FinMap.{entries}
 use Rattle.ncq_base.specs.Counts.{total_by}
 use Rattle.ncq_row.specs.Embeddings.{Row}
+use Rattle.ncq_plan.specs.declared.expr.Expr.{Expr}
 use Rattle.ncq_plan.specs.Exprs.{World, rows_in, expr_width}
 use Rattle.ncq_plan.specs.WellFormed.{IsWellFormedExpr}
 use Rattle.ncq_midfile.specs.Content.{IsContent, rows_of, up_to}
@@ -37,6 +38,14 @@ AreUpTo now files =
 abbrev pub Fits : ℕ → World → Files → Type 0
 Fits now world files =
     EachFile files (λ number file. IsContent now file.content.rows (rows_in file.expr world))
+
+-- a file of the expression without a use, with the change as its base
+pub record IsNewAt (now : ℕ) (whole : Expr) (file : KeptFile) : Type 0 where
+  pub expr : file.expr ≡ whole
+  pub uses : file.uses ≡ 0
+  pub base : file.content.base ≡ now
+  pub up_to : IsUpTo now file.content
+  pub wide : IsWide file
 
 -- the sum of f over the numbers of the files
 abbrev pub sum_over : Files → (ℕ → ℕ) → ℕ

@@ -17,7 +17,8 @@ use Rattle.ncq_shelf.specs.KeptFiles.{AtFile, Files}
 use Rattle.ncq_readers.specs.ReaderTables.{ReaderTables}
 use Rattle.ncq_shelf.specs.Stands.{IsThere}
 use Rattle.ncq_shelf.specs.Readers.{IsAmong, JoinsFrom}
-use Rattle.ncq_shelf.specs.Shown.{shown}
+use Rattle.ncq_shelf.specs.Groups.{Groups, IsGrouped}
+use Rattle.ncq_shelf.specs.Shown.{shown, state_of}
 use Rattle.ncq_shelf.specs.Wired.{IsShelved}
 use Rattle.ncq_shelf.specs.Enrolled.{AreSidesOf}
 use Rattle.ncq_shelf.specs.declared.file.File.{File}
@@ -97,10 +98,11 @@ abbrev pub IsFound : Keys → ℕ → ℕ → ℕ → List Pair → Type 0
 IsFound keys number left right pairs = IsAlways keys number ⊎ AreKeyed keys left right pairs
 
 -- the file has those rows, and they are noted at the slot
-pub record AreNotedIn (files : List (ℕ × File)) (held : Held) (number slot : ℕ) : Type 0 where
+pub record AreNotedIn (groups : Groups) (files : List (ℕ × File)) (held : Held) (number slot : ℕ)
+    : Type 0 where
   pub file : File
   pub at : lookup (nat_eq number) files ≡ Some file
-  pub noted : AreHeld held number slot file.content.rows
+  pub noted : AreHeld held number slot (state_of groups file).content.rows
 
 -- if the expression is a join of the files of the inputs, it is found when it is met
 abbrev pub IsJoinFound : Keys → ℕ → Expr → Inputs → Type 0
@@ -117,8 +119,10 @@ pub record IsKeyed (files : Files) (keys : Keys) : Type 0 where
   pub found : (number left right : ℕ) (joins : JoinsFrom files number left right)
       → IsFound keys number left right joins.pairs
 
--- the files are found and know their readers, and the joins that a row may meet are found
-pub record IsKept (files : List (ℕ × File)) (numbers : List (Expr × ℕ))
+-- the files are found and know their readers, virtual ones have their groups, and the joins that a
+-- row may meet are found
+pub record IsKept (groups : Groups) (files : List (ℕ × File)) (numbers : List (Expr × ℕ))
     (scans : List (List ℕ × ReaderTables)) (keys : Keys) : Type 0 where
-  pub shelved : IsShelved files numbers scans
-  pub keyed : IsKeyed (shown files) keys
+  pub shelved : IsShelved groups files numbers scans
+  pub grouped : IsGrouped files groups
+  pub keyed : IsKeyed (shown groups files) keys

@@ -10,3 +10,5 @@ pub mod Readers
 pub mod Shown
 pub mod Stands
 pub mod Wired
+pub mod Groups
+pub mod Ranges

@@ -82,18 +82,24 @@ pub record AreJoinsMet (files : Files) (input change : ℕ) (numbers : List ℕ)
   pub others : (number : ℕ) → IsJoinOver files input number
       → list_any (nat_eq number) numbers ≡ false → MakesNothing files input change number
 
--- each selection over the file gets those of the rows that it takes, in their order, and no other
--- file gets any
+-- the file has those rows of its input whose slot has a constant's atom
+pub data SelectsEqual (files : Files) (number input : ℕ) : (SignedRow → Bool) → Type 0 where
+  equal : (inner : Expr) (slot : ℕ) (constant : Atom)
+      → Stands files (EqSel inner slot constant) number → Stands files inner input
+      → SelectsEqual files number input (λ r. has_atom slot constant r.row)
+
+-- each selection by a constant over the file gets those of the rows that it takes, in their order,
+-- and no other file gets any
 pub record ArePassedOn (files : Files) (input : ℕ) (rows : List SignedRow) (parcels : List Parcel)
     : Type 0 where
-  pub taken : (number : ℕ) (test : SignedRow → Bool) → SelectsFrom files number input test
+  pub taken : (number : ℕ) (test : SignedRow → Bool) → SelectsEqual files number input test
       → rows_to number parcels ≡ filter test rows
   pub others : (number : ℕ)
-      → ((test : SignedRow → Bool) → SelectsFrom files number input test → ⊥)
+      → ((test : SignedRow → Bool) → SelectsEqual files number input test → ⊥)
       → rows_to number parcels ≡ []
 
--- no selection over the file takes more of the rows than the bound of its number
+-- no selection by a constant over the file takes more of the rows than the bound of its number
 abbrev pub AreBoundBy : Files → ℕ → List SignedRow → (ℕ → ℕ) → Type 0
 AreBoundBy files input rows bound =
-    (number : ℕ) (test : SignedRow → Bool) → SelectsFrom files number input test
+    (number : ℕ) (test : SignedRow → Bool) → SelectsEqual files number input test
     → length (filter test rows) ≤ bound number

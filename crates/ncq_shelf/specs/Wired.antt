@@ -13,6 +13,7 @@ use Rattle.ncq_shelf.specs.KeptFiles.{Files}
 use Rattle.ncq_shelf.specs.Stands.{Stands}
 use Rattle.ncq_shelf.specs.Readers.{IsScanOf}
 use Rattle.ncq_shelf.specs.Indexed.{IsIndexed}
+use Rattle.ncq_shelf.specs.Groups.{Groups}
 use Rattle.ncq_shelf.specs.Shown.{shown}
 use Rattle.ncq_shelf.specs.declared.file.File.{File}
 
@@ -51,17 +52,17 @@ pub record KnowsScans (files : Files) (scans : List (List ℕ × ReaderTables)) 
       → (number : ℕ) → IsScanOf files source number → ⊥
 
 -- each file knows its readers, and each source its scans
-pub record IsWired (files : List (ℕ × File)) (sources : List (List ℕ × ReaderTables))
-    : Type 0 where
+pub record IsWired (groups : Groups) (files : List (ℕ × File))
+    (sources : List (List ℕ × ReaderTables)) : Type 0 where
   pub readers : (number : ℕ) (file : File) → lookup (nat_eq number) files ≡ Some file
-      → KnowsReaders (shown files) file.readers file.expr
-  pub scans : (source : List ℕ) → KnowsScans (shown files) sources source
+      → KnowsReaders (shown groups files) file.readers file.expr
+  pub scans : (source : List ℕ) → KnowsScans (shown groups files) sources source
 
 -- the files are found, and know their readers and their scans
-pub record IsShelved (files : List (ℕ × File)) (numbers : List (Expr × ℕ))
+pub record IsShelved (groups : Groups) (files : List (ℕ × File)) (numbers : List (Expr × ℕ))
     (scans : List (List ℕ × ReaderTables)) : Type 0 where
-  pub indexed : IsIndexed files numbers
-  pub wired : IsWired files scans
+  pub indexed : IsIndexed groups files numbers
+  pub wired : IsWired groups files scans
 
 -- the second file differs from the first in its readers at most
 pub record HasOthers (old new : File) : Type 0 where

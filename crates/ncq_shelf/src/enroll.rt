@@ -1,5 +1,5 @@
 //! A file as a reader of its inputs: on its way in and on its way out.
-ghost use Rattle.std.specs.Prelude.{◌≡◌, ◌⊎◌, ℕ, nat_eq, Some, OnOk, OnErr};
+ghost use Rattle.std.specs.Prelude.{◌≡◌, ◌⊎◌, [], ℕ, nat_eq, Some, OnOk, OnErr};
 ghost use Rattle.std.specs.Map.{lookup};
 ghost use Rattle.indexmap.specs.IndexMap.{spare};
 ghost use Rattle.ncq_readers.specs.Readings.Reading.{equal, range, joined};
@@ -28,7 +28,7 @@ pub(crate) fn enroll(
     inputs: Inputs,
     number: u64,
 ) -> Result<(), AllocError>
-    requires inputs { AreInputs (shown files.old.entries) expr.now inputs }
+    requires inputs { AreInputs (shown [] files.old.entries) expr.now inputs }
     requires one { OneEach files.old.entries }
     requires unread { IsUnread files.old.entries expr.now number }
     ensures ok { OnOk result (IsEnrolled files.old.entries expr.now number files.new.entries) }
@@ -54,7 +54,7 @@ pub(crate) fn enroll(
 /// The files that the expression reads know the number as that of a reader no more. It takes no
 /// memory.
 pub(crate) fn strike(files: &mut IndexMap<u64, File>, expr: &Expr, inputs: Inputs, number: u64)
-    requires inputs { AreInputs (shown files.old.entries) expr.now inputs }
+    requires inputs { AreInputs (shown [] files.old.entries) expr.now inputs }
     requires one { OneEach files.old.entries }
     requires known { IsKnown files.old.entries expr.now number }
     ensures { IsStruck files.old.entries expr.now number files.new.entries }

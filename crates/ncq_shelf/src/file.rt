@@ -1,7 +1,7 @@
 //! A file of a shelf.
 
 use crate::inputs::Inputs;
-use ncq_midfile::MidFile;
+use crate::rows::Rows;
 use ncq_plan::Expr;
 use ncq_readers::Readers;
 
@@ -10,7 +10,7 @@ use ncq_readers::Readers;
 pub(crate) struct File {
     pub(crate) expr: Expr,
     pub(crate) uses: u64,
-    pub(crate) content: MidFile,
+    pub(crate) content: Rows,
     pub(crate) inputs: Inputs,
     pub(crate) readers: Readers,
 }

@@ -6,6 +6,7 @@ ghost use Rattle.std.specs.List.{All, AllByRecursion, list_any};
 ghost use Rattle.std.specs.Map.{lookup};
 ghost use Rattle.ncq_holders.specs.Held.{is_holder};
 ghost use Rattle.ncq_midfile.specs.Content.{signed_at};
+ghost use Rattle.ncq_midfile.specs.Shown.{shown, rows_below};
 ghost use Rattle.ncq_shelf.specs.Keyed.{AreHeld, IsHeld, HoldsMore, HoldsOthers, HaveKept};
 ghost use Rattle.ncq_shelf.specs.Keyed.{IsKey, IsAlways, Grows, ForgetsFile, nowhere, noted_at};
 ghost use Rattle.ncq_shelf.specs.Keyed.{slots_in};
@@ -13,7 +14,7 @@ ghost use Rattle.ncq_shelf.specs.Keyed.{slots_in};
 use indexmap::{IndexMap, IndexSet};
 use ncq_base::{Atom, Copied};
 use ncq_holders::Holders;
-use ncq_midfile::{MidFile, SignedRow};
+use ncq_midfile::View;
 use ncq_row::Row;
 use std::alloc::{AllocError, Global};
 
@@ -71,9 +72,9 @@ impl Keys {
         &mut self,
         number: u64,
         slot: usize,
-        content: &MidFile,
+        content: &View<'_>,
     ) -> Result<(), AllocError>
-        ensures grows { Grows (noted_at number content.now.rows self.new.holders) self.old
+        ensures grows { Grows (noted_at number (shown content.now).rows self.new.holders) self.old
             self.new }
         ensures ok { OnOk result (IsKey self.new number slot) }
     {
@@ -184,13 +185,12 @@ fn note_content(
     atoms: &mut Vec<Atom>,
     slot: usize,
     number: u64,
-    content: &MidFile,
+    content: &View<'_>,
 ) -> Result<(), AllocError>
     ensures more { HoldsMore holders.old holders.new }
-    ensures ok { OnOk result (AreHeld holders.new number slot content.now.rows) }
+    ensures ok { OnOk result (AreHeld holders.new number slot (shown content.now).rows) }
 {
-    let base = content.base();
-    let places = content.content_at(alloc, base)?;
+    let places = content.places(alloc)?;
     note_places(
         alloc,
         holders,
@@ -199,14 +199,6 @@ fn note_content(
         number,
         content,
         places.as_slice(),
-    )?;
-    note_rows(
-        alloc,
-        holders,
-        atoms,
-        slot,
-        number,
-        content.rows_since(base),
     )
 }
 
@@ -217,34 +209,16 @@ fn note_places(
     atoms: &mut Vec<Atom>,
     slot: usize,
     number: u64,
-    content: &MidFile,
+    content: &View<'_>,
     places: &[usize],
 ) -> Result<(), AllocError>
-    requires { All (λ place. place < length content.now.rows) places.now }
+    requires { All (λ place. place < length (rows_below content.now)) places.now }
     ensures more { HoldsMore holders.old holders.new }
     ensures ok { OnOk result (AreHeld holders.new number slot
-        (signed_at places.now content.now.rows)) }
+        (signed_at places.now (rows_below content.now))) }
 {
     for place in places {
         note_slot(alloc, holders, atoms, slot, number, content.row(*place))?;
-    }
-    Ok(())
-}
-
-/// Notes these rows at the slot.
-fn note_rows(
-    alloc: Global,
-    holders: &mut Holders,
-    atoms: &mut Vec<Atom>,
-    slot: usize,
-    number: u64,
-    rows: &[SignedRow],
-) -> Result<(), AllocError>
-    ensures more { HoldsMore holders.old holders.new }
-    ensures ok { OnOk result (AreHeld holders.new number slot rows.now) }
-{
-    for signed in rows {
-        note_slot(alloc, holders, atoms, slot, number, &signed.row)?;
     }
     Ok(())
 }

@@ -9,12 +9,18 @@
 mod cut;
 mod enroll;
 mod file;
+mod group;
 mod inputs;
+mod install;
 mod keyed;
 mod keys;
+mod laws;
 mod met;
+mod ranged;
+mod rows;
 mod scans;
 mod shelf;
 
 pub use inputs::Inputs;
+pub use laws::held_rows_are_the_takers;
 pub use shelf::Shelf;

@@ -1,6 +1,8 @@
 //! The joins over a file that its rows may meet.
-ghost use Rattle.std.specs.Prelude.{◌↔◌, ℕ, IfOk, IsTrue, OnOk};
-ghost use Rattle.std.specs.List.{AllByRecursion};
+ghost use Rattle.std.specs.Prelude.{◌↔◌, ◌<◌, ℕ, length, IfOk, IsTrue, OnOk};
+ghost use Rattle.std.specs.List.{All, AllByRecursion};
+ghost use Rattle.ncq_midfile.specs.Content.{signed_at};
+ghost use Rattle.ncq_midfile.specs.Shown.{rows_below};
 ghost use Rattle.ncq_shelf.specs.Met.{Gathers, IsGathered, IsHolderMet, IsJoinFileOver, IsOver};
 ghost use Rattle.ncq_shelf.specs.Met.{IsRowMet, IsSide, IsSlotMet};
 ghost use Rattle.ncq_shelf.specs.Readers.{IsAmong};
@@ -9,30 +11,34 @@ use crate::file::File;
 use crate::inputs::Inputs;
 use crate::keys::Keys;
 use indexmap::{IndexMap, IndexSet};
-use ncq_midfile::SignedRow;
+use ncq_midfile::View;
 use ncq_plan::Expr;
 use ncq_row::Row;
 use std::alloc::{AllocError, Global};
 
-/// The joins over the file that these rows of it may meet, and those that are met whatever came.
+/// The joins over the file that its rows at these places may meet, and those that are met whatever
+/// came.
 pub(crate) fn joins_in(
     alloc: Global,
     files: &IndexMap<u64, File>,
     keys: &Keys,
     input: u64,
-    rows: &[SignedRow],
+    view: &View<'_>,
+    places: &[usize],
 ) -> Result<IndexSet<u64>, AllocError>
+    requires { All (λ place. place < length (rows_below view.now)) places.now }
     ensures only { IfOk result (λ met. (n : ℕ) → IsAmong n met.keys
         → IsOver files.now.entries input n) }
     ensures always { IfOk result (λ met.
         AllByRecursion (IsGathered files.now.entries input met.keys) keys.now.always.keys) }
-    ensures rows { IfOk result (λ met.
-        AllByRecursion (λ r. IsRowMet files.now.entries keys.now input met.keys r.row) rows.now) }
+    ensures rows { IfOk result (λ met. AllByRecursion
+        (λ r. IsRowMet files.now.entries keys.now input met.keys r.row)
+        (signed_at places.now (rows_below view.now))) }
 {
     let mut met = IndexSet::new(alloc);
     add_joins(&mut met, files, input, keys.always())?;
-    for signed in rows {
-        add_row(&mut met, files, keys, input, &signed.row)?;
+    for place in places {
+        add_row(&mut met, files, keys, input, view.row(*place))?;
     }
     Ok(met)
 }

@@ -1,31 +1,43 @@
 //! Files by their numbers, and what finds them.
-ghost use Rattle.std.specs.Prelude.{◌≡◌, ◌+◌, ◌<◌, ◌≤◌, ◌∷◌, [], ℕ, Some, None};
-ghost use Rattle.std.specs.Prelude.{nat_eq, IfOk, OnOk, OnErr};
+ghost use Rattle.std.specs.Prelude.{◌≡◌, ◌↔◌, ◌+◌, ◌-◌, ◌<◌, ◌≤◌, ◌∷◌, [], ℕ, List, Some, None};
+ghost use Rattle.std.specs.Prelude.{nat_eq, length, map, filter, IfOk, OnOk, OnErr, IfSome, IfNone};
 ghost use Rattle.std.specs.FinMap.{empty, get, insert, remove, len};
 ghost use Rattle.std.specs.List.{AllByRecursion, IsDistinct};
 ghost use Rattle.std.specs.Option.{option_map};
-ghost use Rattle.ncq_midfile.specs.Content.{since, IsSoundAt};
-ghost use Rattle.ncq_midfile.specs.Matching.{HaveSlots};
-ghost use Rattle.ncq_shelf.specs.Contents.{AreFormed, AreWide, with_more, cut_to, sum_over};
-ghost use Rattle.ncq_shelf.specs.Contents.{HoldsItsContent, IsCompacted};
+ghost use Rattle.ncq_base.specs.declared.interval.Interval.{Interval as an_interval};
+ghost use Rattle.ncq_plan.specs.Exprs.{World, expr_width, rows_in};
+ghost use Rattle.ncq_plan.specs.WellFormed.{IsWellFormedExpr};
+ghost use Rattle.ncq_midfile.specs.Content.{since, IsContent, IsSoundAt};
+ghost use Rattle.ncq_midfile.specs.Shown.{shown as what_is_shown, rows_below};
+ghost use Rattle.ncq_readers.specs.Passed.{size_of};
+ghost use Rattle.ncq_readers.specs.declared.ranges.HeldRows.{HeldRows as held_rows};
+ghost use Rattle.ncq_shelf.specs.Contents.{AreFormed, AreUpTo, AreWide, Fits, with_more, cut_to};
+ghost use Rattle.ncq_shelf.specs.Contents.{HoldsItsContent, IsCompacted, IsNewAt, sum_over};
 ghost use Rattle.ncq_shelf.specs.Inputs.{AreInputs};
 ghost use Rattle.ncq_shelf.specs.KeptFiles.{AtFile, EachFile, KeptFile};
-ghost use Rattle.ncq_shelf.specs.Readers.{AreScansOf, AreJoinsMet, ArePassedOn, AreBoundBy};
+ghost use Rattle.ncq_shelf.specs.Readers.{IsAmong, AreScansOf, AreJoinsMet};
+ghost use Rattle.ncq_shelf.specs.Readers.{ArePassedOn, AreBoundBy};
+ghost use Rattle.ncq_shelf.specs.Ranges.{IsRange, IsNoRange, SelectsRange, Takes, TakesValue};
+ghost use Rattle.ncq_shelf.specs.Ranges.{IsHeldBy, AppendsHeld, AreHeldOf, IsRangeFile, ShareRows};
 ghost use Rattle.ncq_shelf.specs.Stands.{Finds, IsGrounded, IsIdle, IsThere, Stands, TellsIdle};
 
-use crate::cut::cut_all;
+use crate::cut::{cut_all, cut_groups};
 use crate::enroll::{enroll, strike};
 use crate::file::File;
+use crate::group::{Group, view_of};
 use crate::inputs::Inputs;
+use crate::install::{install, missing_at, put_file};
 use crate::keyed::key_join;
 use crate::keys::Keys;
 use crate::met::joins_in;
+use crate::ranged::{note_takers, release_of};
+use crate::rows::{Rows, append_own, compact_rows, index_rows};
 use crate::scans::{enroll_scan, strike_scan};
 use indexmap::IndexMap;
-use ncq_base::{Bytes, Copied, Sequence, Steps};
-use ncq_midfile::{MidFile, SignedRow};
+use ncq_base::{Atom, Bytes, Copied, FileId, Sequence, Steps};
+use ncq_midfile::{MidFile, RangeFile, SignedRow, View};
 use ncq_plan::Expr;
-use ncq_readers::Readers;
+use ncq_readers::{HeldRows, Readers};
 use ncq_split::Parcels;
 use std::alloc::{AllocError, Global};
 use std::marker::Model;
@@ -38,6 +50,7 @@ const FEW_JOINS: usize = 4;
 #[derive(Drop)]
 pub struct Shelf {
     files: IndexMap<u64, File>,
+    groups: IndexMap<Group, RangeFile>,
     numbers: IndexMap<Expr, u64>,
     scans: IndexMap<Bytes, Readers>,
     keys: Keys,
@@ -52,10 +65,10 @@ impl Model for Shelf {
 
     ghost coded = { files_code };
 
-    ghost view = { λ m. shown m.files.entries };
+    ghost view = { λ m. shown m.groups.entries m.files.entries };
 
-    ghost invariant = { λ m.
-        IsKept m.files.entries m.numbers.entries m.scans.entries m.keys };
+    ghost invariant = { λ m. IsKept m.groups.entries m.files.entries m.numbers.entries
+        m.scans.entries m.keys };
 }
 
 impl Shelf {
@@ -65,6 +78,7 @@ impl Shelf {
     {
         Shelf {
             files: IndexMap::new(alloc),
+            groups: IndexMap::new(alloc),
             numbers: IndexMap::new(alloc),
             scans: IndexMap::new(alloc),
             keys: Keys::new(alloc),
@@ -100,15 +114,37 @@ impl Shelf {
         }
     }
 
-    /// The rows of a file.
-    pub fn content(&self, number: u64) -> &MidFile
+    /// The rows of a file, which may be a part of others. Where all files are wide, each row below
+    /// it has a value for each slot of the file's expression.
+    pub fn content(&self, number: u64) -> View<'_>
         requires { IsThere self.now number }
-        ensures { AtFile self.now number (λ file. result.now ≡ file.content) }
+        ensures content { AtFile self.now number (λ file. what_is_shown result ≡ file.content) }
+        ensures wide { AtFile self.now number (λ file. AreWide self.now
+            → AllByRecursion (λ r. length r.row ≡ expr_width file.expr) (rows_below result)) }
     {
         match self.files.get(&number) {
-            Some(file) => &file.content,
+            Some(file) => view_of(&self.groups, file),
             None => unreachable!(),
         }
+    }
+
+    /// The rows that the selections by intervals of the slot of a file share. Where it tells none
+    /// there is no such selection. It takes no memory.
+    pub fn range_file(&self, input: u64, slot: usize) -> Option<&RangeFile>
+        ensures some { IfSome result (λ range. IsRangeFile self.now input slot range.now) }
+        ensures none { IfNone result ((interval : an_interval) (number : ℕ)
+            → SelectsRange self.now input slot interval number → ⊥) }
+    {
+        self.groups.get(&Group { input, slot })
+    }
+
+    /// The selections by intervals of one slot of one file are virtual files over one list of rows,
+    /// each of which one of them takes: this call does nothing.
+    pub fn share_rows(&self)
+        ensures { ShareRows self.now }
+    {
+        // A look at a field is what gives a proof the invariant.
+        let _ = &self.groups;
     }
 
     /// How many uses a file has.
@@ -166,11 +202,13 @@ impl Shelf {
         let _number = self.numbers.swap_remove(&file.expr);
         strike(&mut self.files, &file.expr, file.inputs, number);
         strike_scan(&mut self.scans, &file.expr, number);
+        release_of(&mut self.groups, &self.files, &file);
         self.keys.forget(number);
         file.inputs
     }
 
-    /// A new file without a use, for an expression that has none. After an error all is as before.
+    /// A new file without a use, for an expression that has none and is no selection by an
+    /// interval. After an error all is as before.
     pub fn add(
         &mut self,
         alloc: Global,
@@ -182,6 +220,7 @@ impl Shelf {
         requires absent { get self.old number ≡ None }
         requires new { (other : ℕ) → Stands self.old expr.now other → ⊥ }
         requires inputs { AreInputs self.old expr.now inputs }
+        requires own { IsRange expr.now → ⊥ }
         ensures ok { OnOk result (self.new ≡ insert self.old number
             (record { expr = expr.now; uses = 0; content = content })) }
         ensures err { OnErr result (self.new ≡ self.old) }
@@ -190,13 +229,20 @@ impl Shelf {
         let copy = expr.copy(alloc)?;
         self.numbers.reserve(1)?;
         self.files.reserve(1)?;
-        key_join(&mut self.keys, &self.files, expr, inputs, number)?;
+        key_join(
+            &mut self.keys,
+            &self.files,
+            &self.groups,
+            expr,
+            inputs,
+            number,
+        )?;
         enroll(alloc, &mut self.files, expr, inputs, number)?;
         enroll_scan(alloc, &mut self.scans, expr, number)?;
         let file = File {
             expr: copy,
             uses: 0,
-            content,
+            content: Rows::Whole(content),
             inputs,
             readers: Readers::new(alloc),
         };
@@ -205,10 +251,82 @@ impl Shelf {
         Ok(())
     }
 
-    /// One more signed row of a file, with a number above its base and not below its last row's.
-    /// After an error all is as before.
+    /// A new file without a use, for a selection by an interval that has none, with the change as
+    /// its base. Of its input's content those rows alone are copied that no file has yet which
+    /// selects by an interval of the slot: all of these hold their rows once. It takes at most one
+    /// step for each row that the new file has at the change. After an error all is as before.
+    pub fn add_ranged<L: Ledger>(
+        &mut self,
+        alloc: Global,
+        number: u64,
+        expr: &Expr,
+        inputs: Inputs,
+        change: u64,
+        steps: &mut Steps<L>,
+    ) -> Result<(), AllocError>
+        requires absent { get self.old number ≡ None }
+        requires new { (other : ℕ) → Stands self.old expr.now other → ⊥ }
+        requires inputs { AreInputs self.old expr.now inputs }
+        requires range { IsRange expr.now }
+        requires formed { IsWellFormedExpr expr.now }
+        requires grounded { IsGrounded self.old }
+        requires wide { AreWide self.old }
+        requires up_to { AreUpTo change self.old }
+        requires sound { EachFile self.old (λ other file. IsSoundAt change file.content.rows) }
+        ensures ok { OnOk result ((kept : KeptFile) × (self.new ≡ insert self.old number kept)
+            × IsNewAt change expr.now kept) }
+
+        // `world` is any whose rows the files have at the change.
+        ensures fits { OnOk result ((world : World)
+            → Fits change world self.old → Fits change world self.new) }
+        ensures cost { (world : World) → Fits change world self.old
+            → steps.new ≤ steps.old + length (rows_in expr.now world) }
+        ensures err { OnErr result (self.new ≡ self.old) }
+    {
+        let Expr::RangeSel { slot, interval, .. } = expr else {
+            unreachable!()
+        };
+        let Inputs::One(input) = inputs else {
+            unreachable!()
+        };
+        let Some(inner) = self.files.get(&input) else {
+            unreachable!()
+        };
+        let group = Group { input, slot: *slot };
+        let view = view_of(&self.groups, inner);
+        let missing = missing_at(alloc, &inner.readers, interval, *slot, &view, change, steps)?;
+        let key = expr.copy(alloc)?;
+        let copy = expr.copy(alloc)?;
+        self.numbers.reserve(1)?;
+        self.files.reserve(1)?;
+        install(
+            alloc,
+            &mut self.groups,
+            &mut self.files,
+            group,
+            expr,
+            number,
+            missing,
+        )?;
+        let file = File {
+            expr: copy,
+            uses: 0,
+            content: Rows::Ranged {
+                group,
+                base: change,
+            },
+            inputs,
+            readers: Readers::new(alloc),
+        };
+        put_file(&mut self.files, &mut self.numbers, number, key, file);
+        Ok(())
+    }
+
+    /// One more signed row of a file that has its own, with a number above its base and not below
+    /// its last row's. After an error all is as before.
     pub fn append(&mut self, number: u64, row: SignedRow) -> Result<(), AllocError>
         requires there { IsThere self.old number }
+        requires own { IsNoRange self.old number }
         requires above { AtFile self.old number (λ file. file.content.base < row.number) }
         requires last { AtFile self.old number (λ file.
             AllByRecursion (λ r. r.number ≤ row.number) file.content.rows) }
@@ -220,7 +338,62 @@ impl Shelf {
         let Some(file) = self.files.get_mut(&number) else {
             unreachable!()
         };
-        file.content.append(row)
+        append_own(&mut file.content, row)
+    }
+
+    /// One more signed row of each file that takes it of the input by an interval of the slot, with
+    /// a number not below the last row of any that selects so. The row is kept once. The answer
+    /// names the files. After an error all is as before.
+    pub fn append_held(
+        &mut self,
+        alloc: Global,
+        input: u64,
+        slot: usize,
+        row: SignedRow,
+    ) -> Result<Sequence<FileId>, AllocError>
+        requires there { IsThere self.old input }
+        requires taken { IsHeldBy self.old input slot row.row }
+        requires slot { slot < length row.row }
+        requires last { (interval : an_interval) (number : ℕ)
+            → SelectsRange self.old input slot interval number → AtFile self.old number (λ file.
+            AllByRecursion (λ r. r.number ≤ row.number) file.content.rows) }
+        ensures ok { OnOk result (AppendsHeld self.old input slot row self.new) }
+        ensures told { IfOk result (λ files. (number : ℕ)
+            → IsAmong number (map (λ file. file.0) files)
+            ↔ Takes self.old input slot row.row number) }
+        ensures err { OnErr result (self.new ≡ self.old) }
+    {
+        let group = Group { input, slot };
+        let takers = self.takers(alloc, input, slot, row.row.atom(slot))?;
+        note_takers(&mut self.keys, takers.as_slice(), &row.row)?;
+        let Some(held) = self.groups.get_mut(&group) else {
+            unreachable!()
+        };
+        held.add(row)?;
+        Ok(takers)
+    }
+
+    /// The files that select by an interval of the slot of the input which has the value, by rising
+    /// number. The others are not looked at.
+    fn takers(
+        &self,
+        alloc: Global,
+        input: u64,
+        slot: usize,
+        value: &Atom,
+    ) -> Result<Sequence<FileId>, AllocError>
+        requires { IsThere self.now input }
+        ensures { IfOk result (λ files. (number : ℕ)
+            → IsAmong number (map (λ file. file.0) files)
+            ↔ TakesValue self.now input slot value.now number) }
+    {
+        let Some(file) = self.files.get(&input) else {
+            unreachable!()
+        };
+        match file.readers.range_table(slot) {
+            Some(table) => table.takers(alloc, value),
+            None => Ok(Sequence::new(alloc)),
+        }
     }
 
     /// Makes sure that rows of a file are found by the atoms at these slots. It changes no answer.
@@ -231,17 +404,20 @@ impl Shelf {
         slots: &[usize],
     ) -> Result<(), AllocError>
         requires there { IsThere self.old number }
-        requires slots { AtFile self.old number (λ file. HaveSlots slots.now file.content.rows) }
+        requires wide { AreWide self.old }
+        requires slots { AtFile self.old number (λ file.
+            AllByRecursion (λ slot. slot < expr_width file.expr) slots.now) }
         ensures { self.new ≡ self.old }
     {
         let Some(file) = self.files.get_mut(&number) else {
             unreachable!()
         };
-        file.content.ensure_index(alloc, slots)
+        index_rows(alloc, &mut self.groups, &mut file.content, slots)
     }
 
-    /// Makes a change the base of a file: it has then the rows that are left there, each as one
-    /// that is there from the base on. After an error all is as before.
+    /// Makes a change the base of a file. Where it has rows of its own it has then those that are
+    /// left there, each as one that is there from the base on; a selection by an interval keeps its
+    /// rows. After an error all is as before.
     pub fn compact(&mut self, alloc: Global, number: u64, change: u64) -> Result<(), AllocError>
         requires there { IsThere self.old number }
         requires base { AtFile self.old number (λ file. file.content.base ≤ change) }
@@ -251,14 +427,16 @@ impl Shelf {
         ensures ok { OnOk result (AtFile self.old number (λ file.
             (kept : KeptFile) × (self.new ≡ insert self.old number kept)
             × IsCompacted change file kept)) }
-        ensures rows { OnOk result (AtFile self.old number (λ file.
-            AtFile self.new number (λ kept. HoldsItsContent change file kept))) }
+        ensures rows { OnOk result (AtFile self.old number (λ file. (IsRange file.expr → ⊥)
+            → AtFile self.new number (λ kept. HoldsItsContent change file kept))) }
+        ensures ranged { OnOk result (AtFile self.old number (λ file. IsRange file.expr
+            → AtFile self.new number (λ kept. kept.content.rows ≡ file.content.rows))) }
         ensures err { OnErr result (self.new ≡ self.old) }
     {
         let Some(file) = self.files.get_mut(&number) else {
             unreachable!()
         };
-        file.content.compact(alloc, change)
+        compact_rows(alloc, &mut file.content, change)
     }
 
     /// Takes the signed rows of later changes away from each file. It takes no memory.
@@ -268,6 +446,7 @@ impl Shelf {
             → get self.new number ≡ option_map (cut_to change) (get self.old number) }
     {
         cut_all(&mut self.files, change);
+        cut_groups(&mut self.groups, change);
     }
 
     /// The numbers of the scans of a source, each once.
@@ -305,40 +484,79 @@ impl Shelf {
             let all = copy_of(alloc, joins)?;
             return Ok(all);
         }
-        let rows = file.content.rows_since(change);
-        let met = joins_in(alloc, &self.files, &self.keys, input, rows)?;
+        let view = view_of(&self.groups, file);
+        let places = view.since(alloc, change)?;
+        let met = joins_in(
+            alloc,
+            &self.files,
+            &self.keys,
+            input,
+            &view,
+            places.as_slice(),
+        )?;
         let numbers = copy_of(alloc, met.as_slice())?;
         Ok(numbers)
     }
 
-    /// A parcel of each of a file's rows above a change for each selection over the file that takes
-    /// it. It takes at most one step for each parcel. The only error is that memory ran out.
+    /// A parcel of each of a file's rows of a change for each selection by a constant over the file
+    /// that takes it. Its rows of the change are those with no lower number. It takes at most one
+    /// step for each parcel. The only error is that memory ran out.
     pub fn parcels<L: Ledger>(
         &self,
         alloc: Global,
         input: u64,
-        change: u64,
+        number: u64,
         steps: &mut Steps<L>,
     ) -> Result<Parcels, AllocError>
         requires there { IsThere self.now input }
-        requires base { AtFile self.now input (λ file. file.content.base ≤ change) }
+        requires base { AtFile self.now input (λ file. file.content.base < number) }
         requires grounded { IsGrounded self.now }
         requires formed { AreFormed self.now }
         requires wide { AreWide self.now }
         ensures parcels { IfOk result (λ parcels.
             AtFile self.now input (λ file.
-            ArePassedOn self.now input (since change file.content.rows) parcels)) }
+            ArePassedOn self.now input (since (number - 1) file.content.rows) parcels)) }
 
-        // `bound` is any that no selection over the file exceeds.
+        // `bound` is any that no selection by a constant over the file exceeds.
         ensures cost { (file : KeptFile) (bound : ℕ → ℕ) → get self.now input ≡ Some file
-            → AreBoundBy self.now input (since change file.content.rows) bound
+            → AreBoundBy self.now input (since (number - 1) file.content.rows) bound
             → steps.new ≤ steps.old + sum_over self.now bound }
     {
         let Some(file) = self.files.get(&input) else {
             unreachable!()
         };
-        file.readers
-            .parcels(alloc, file.content.rows_since(change), steps)
+        let view = view_of(&self.groups, file);
+        file.readers.parcels(alloc, &view, number, steps)
+    }
+
+    /// For each slot of a file by whose intervals files select, those of its rows of a change that
+    /// one of them takes, each once. Its rows of the change are those with no lower number. It
+    /// takes at most one step for each row of an Ok, whatever it answers. The only error is that
+    /// memory ran out.
+    pub fn held<L: Ledger>(
+        &self,
+        alloc: Global,
+        input: u64,
+        number: u64,
+        steps: &mut Steps<L>,
+    ) -> Result<Sequence<HeldRows>, AllocError>
+        requires there { IsThere self.now input }
+        requires base { AtFile self.now input (λ file. file.content.base < number) }
+        requires grounded { IsGrounded self.now }
+        requires formed { AreFormed self.now }
+        requires wide { AreWide self.now }
+        ensures held { IfOk result (λ held. AtFile self.now input (λ file.
+            AreHeldOf self.now input (since (number - 1) file.content.rows) held)) }
+        ensures spent { IfOk result (λ held. steps.new ≤ steps.old + size_of held) }
+        ensures cost { AtFile self.now input (λ file. (held : List held_rows)
+            × AreHeldOf self.now input (since (number - 1) file.content.rows) held
+            × (steps.new ≤ steps.old + size_of held)) }
+    {
+        let Some(file) = self.files.get(&input) else {
+            unreachable!()
+        };
+        let view = view_of(&self.groups, file);
+        file.readers.held(alloc, &view, number, steps)
     }
 }
 

@@ -1,11 +1,13 @@
-use Rattle.std.proofs.Common.{◌≡◌, ◌+◌, ◌≤◌, ℕ, refl, sym, subst}
+use Rattle.std.proofs.Common.{◌≡◌, ◌+◌, ◌≤◌, ℕ, refl, sym, subst, arith}
 use Rattle.std.specs.Option.{option_map}
 use Rattle.std.specs.FinMap.{get}
 use Rattle.ncq_shelf.specs.Contents.{cut_to}
-use Rattle.ncq_feed.specs.Runs.{Run, all_due}
+use Rattle.ncq_feed.specs.Runs.{Run, all_due, own_due, groups}
+use Rattle.ncq_shelf.specs.Contents.{sum_over}
 use Rattle.ncq_feed.proofs.CountLaws.{all_due_is}
 use Rattle.ncq_feed.proofs.FeedLaws.{are_fed, are_ready}
 use Rattle.ncq_feed.proofs.GrowthLaws.{rolled_back, based}
+use Rattle.ncq_feed.proofs.OwnLaws.{own_due_is, groups_are}
 use Rattle.ncq_feed.proofs.feeding.feed.Goals as goal
 
 pub pass_on-requires : goal.pass_on-requires
@@ -41,3 +43,19 @@ returns-in-Err-clause-cost g c =
     let run : Run = record { store = c.args.store.now; change = c.args.change.now; files = c.args.shelf.now } in
     let cost : c.pass_on.new.steps ≤ c.args.steps.now + all_due run = c.pass_on.ensures.cost in
     subst (λ (n : ℕ). c.pass_on.new.steps ≤ c.args.steps.now + n) (all_due_is run) cost
+
+pub returns-in-Ok-clause-shared : goal.returns-in-Ok-clause-shared
+returns-in-Ok-clause-shared g c = λ held counted.
+    let run : Run = record { store = c.args.store.now; change = c.args.change.now; files = c.args.shelf.now } in
+    let cost : c.pass_on.new.steps ≤ c.args.steps.now + (own_due run + sum_over run.files (groups run held)) = c.pass_on.ensures.shared held counted in
+    let own = own_due_is run in
+    let all = groups_are run held in
+    omega arith
+
+pub returns-in-Err-clause-shared : goal.returns-in-Err-clause-shared
+returns-in-Err-clause-shared g c = λ held counted.
+    let run : Run = record { store = c.args.store.now; change = c.args.change.now; files = c.args.shelf.now } in
+    let cost : c.pass_on.new.steps ≤ c.args.steps.now + (own_due run + sum_over run.files (groups run held)) = c.pass_on.ensures.shared held counted in
+    let own = own_due_is run in
+    let all = groups_are run held in
+    omega arith

@@ -1,5 +1,5 @@
 use Rattle.std.proofs.Common.{ℕ, ◌+◌, ◌≤◌}
-use Rattle.ncq_feed.specs.Runs.{IsUnderWay, ArePassed, all_in}
+use Rattle.ncq_feed.specs.Runs.{IsUnderWay, ArePassed, AreCounted, all_in, own_in, held_below}
 use Rattle.ncq_feed.specs.Turns.{AreNamed}
 use Rattle.ncq_feed.proofs.PendingLaws.{room_above}
 use Rattle.ncq_feed.proofs.feeding.pass_on.Given as goal
@@ -15,6 +15,7 @@ invariant-loop-at g l = record {
   under : IsUnderWay g.run l.shelf;
   spent : l.steps ≤ l.fn.steps + all_in g.run l.shelf;
   next : ℕ;
+  shared : (held : ℕ → ℕ → ℕ) → AreCounted g.run held → l.steps ≤ l.fn.steps + (own_in g.run l.shelf + held_below g.run held next);
   passed : ArePassed g.run next l.pending.keys l.shelf;
   named : AreNamed g.run next l.numbers l.shelf;
 }

@@ -4,6 +4,7 @@ use Rattle.ncq_feed.specs.Runs.{IsUnderWay, IsGiven, JoinGetsFrom, news_in}
 use Rattle.ncq_feed.specs.JoinFeeds.{AreKnown}
 use Rattle.ncq_feed.proofs.GrowthLaws.{there_up, joins_back}
 use Rattle.ncq_feed.proofs.JoinLaws.{no_join, join_given, none_yet, all_given}
+use Rattle.ncq_feed.proofs.RangeLaws.{no_range-join}
 use Rattle.ncq_feed.proofs.join.feed_join.Goals as goal
 
 pub sides_of-requires : goal.sides_of-requires
@@ -27,6 +28,12 @@ joined-requires g c = λ κs within.
         ),
       ),
     )
+
+pub append_all-requires : goal.append_all-requires
+append_all-requires g c =
+    let same = sym c.in_ok-index_sides.ensures in
+    let j = joins_back g.run c.args.shelf.now c.requires.1.1.0 c.args.at c.in-Some.left c.in-Some.right c.in-Some.ensures.some in
+    (subst (IsUnderWay g.run) same c.requires.1.1.0, (c.requires.1.1.1.0, (no_range-join g.run.files c.args.at j.first j.second j.pairs j.stands, c.in_ok-rows.ensures.fits)))
 
 pub returns-in_default-clause-joined : goal.returns-in_default-clause-joined
 returns-in_default-clause-joined g c = no_join g.run c.args.shelf.now c.requires.1.1.0 c.args.at c.in_default.ensures.none

@@ -4,7 +4,7 @@ use Rattle.std.proofs.lemmas.Grind.{common_steps}
 use Rattle.ncq_source.specs.StoreStates.{StoreState}
 use Rattle.ncq_shelf.specs.Readers.{AreScansOf}
 use Rattle.ncq_feed.specs.Feeds.{name_at}
-use Rattle.ncq_feed.specs.Runs.{all_in}
+use Rattle.ncq_feed.specs.Runs.{own_in}
 use Rattle.ncq_feed.specs.ScanFeeds.{AreLeft, AreScansFed}
 use Rattle.ncq_feed.proofs.PortionLaws.{asked_now, first_scan, first_still, left_less, portion_begins, portion_here, portion_left, portion_name, portion_same, portion_there, scan_cost, scan_spent, scans_more, scans_within}
 use Rattle.ncq_feed.proofs.ScanLaws.{no_rows}
@@ -75,7 +75,7 @@ loop-scan-preserved g c =
     let fed = subst (λ left. AreScansFed g.run portions left c.loop-scan.pending.keys c.loop-scan.shelf) split inv.fed in
     record {
       under = c.feed_scan.ensures.under;
-      spent = scan_spent g.run c.loop-scan.shelf inv.under inv.name c.in-Some.scan rest left c.args.steps.now (all_in g.run c.args.shelf.now) c.loop-scan.steps c.feed_scan.new.steps inv.spent c.feed_scan.ensures.cost
+      spent = scan_spent g.run c.loop-scan.shelf inv.under inv.name c.in-Some.scan rest left c.args.steps.now (own_in g.run c.args.shelf.now) c.loop-scan.steps c.feed_scan.new.steps inv.spent c.feed_scan.ensures.cost
           c.loop-scan.pending.keys c.feed_scan.new.pending.keys c.feed_scan.new.shelf one;
       name = inv.name;
       asked = inv.asked;
@@ -92,7 +92,7 @@ returns-in_err-feed_scan-clause-cost g c =
     let split = c.in-Some.ensures.steps.0 in
     let left = subst (λ left. AreLeft g.run inv.name left c.loop-scan.shelf) split inv.left in
     let fed = subst (λ left. AreScansFed g.run portions left c.loop-scan.pending.keys c.loop-scan.shelf) split inv.fed in
-    scan_cost g.run c.loop-scan.shelf inv.under inv.name c.in-Some.scan rest left c.args.steps.now (all_in g.run c.args.shelf.now) c.loop-scan.steps c.feed_scan.new.steps inv.spent c.feed_scan.ensures.cost portions c.loop-scan.pending.keys fed
+    scan_cost g.run c.loop-scan.shelf inv.under inv.name c.in-Some.scan rest left c.args.steps.now (own_in g.run c.args.shelf.now) c.loop-scan.steps c.feed_scan.new.steps inv.spent c.feed_scan.ensures.cost portions c.loop-scan.pending.keys fed
 
 pub returns-clause-fed : goal.returns-clause-fed
 returns-clause-fed g c =

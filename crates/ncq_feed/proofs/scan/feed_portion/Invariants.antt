@@ -1,7 +1,7 @@
 use Rattle.std.proofs.Common.{◌≡◌, true, ◌+◌, ◌≤◌, ℕ, List, take}
 use Rattle.std.specs.Vec.Iter.{into_iter_items}
 use Rattle.ncq_change.specs.Stores.{entries_in}
-use Rattle.ncq_feed.specs.Runs.{IsUnderWay, all_in}
+use Rattle.ncq_feed.specs.Runs.{IsUnderWay, own_in}
 use Rattle.ncq_feed.specs.ScanFeeds.{AreLeft, AreScansFed, is_asked}
 use Rattle.ncq_feed.proofs.scan.feed_portion.Given as goal
 
@@ -11,7 +11,7 @@ ghost-feed_scan g a = g.run
 abbrev pub invariant-loop-scan : goal.invariant-loop-scan
 invariant-loop-scan g l = record {
   under : IsUnderWay g.run l.shelf;
-  spent : l.steps + all_in g.run l.fn.shelf ≤ l.fn.steps + all_in g.run l.shelf;
+  spent : l.steps + own_in g.run l.fn.shelf ≤ l.fn.steps + own_in g.run l.shelf;
   name : List ℕ;
   asked : is_asked g.run.store (take (l.fn.at + 1) g.run.change) name ≡ true;
   same : l.entries ≡ entries_in g.run.store g.run.change name;

@@ -2,6 +2,7 @@ use Rattle.std.proofs.Common.{◌≡◌, arith, sym, subst, ◌∙◌, List}
 use Rattle.std.specs.List.{AllByRecursion}
 use Rattle.ncq_midfile.specs.declared.signed.SignedRow.{SignedRow}
 use Rattle.ncq_feed.specs.Runs.{IsFor, IsGiven}
+use Rattle.ncq_feed.proofs.RangeLaws.{no_range-scan}
 use Rattle.ncq_feed.proofs.ScanLaws.{no_rows, wanted, own_fit, scan_none, scan_given, scan_file, scan_due, wanted_is}
 use Rattle.ncq_feed.proofs.scan.feed_scan.Goals as goal
 
@@ -22,7 +23,7 @@ append_all-requires g c =
     let scan = with.scan in
     let e : c.in_ok-rows.rows ≡ wanted g.run with.name scan.shape =
     wanted_is g.run c.args.shelf.now c.requires.1.1.0 c.args.at with.name scan c.args.now c.requires.1.0 c.args.entries.now with.same c.shape_of.result.now c.shape_of.ensures c.in_ok-rows.rows c.in_ok-rows.ensures.rows in
-    (c.requires.1.1.0, (record { file = scan.stands.file; at = scan.stands.at }, subst (AllByRecursion (IsFor g.run c.args.at)) (sym e) (own_fit g.run c.args.at with.name scan)))
+    (c.requires.1.1.0, (record { file = scan.stands.file; at = scan.stands.at }, (no_range-scan g.run.files c.args.at with.name scan.shape scan.stands, subst (AllByRecursion (IsFor g.run c.args.at)) (sym e) (own_fit g.run c.args.at with.name scan))))
 
 pub returns-clause-fed : goal.returns-clause-fed
 returns-clause-fed g c =

@@ -12,7 +12,7 @@ pub append-requires : goal.append-requires
 append-requires g c =
     let e : into_iter_items c.loop-parcel.parcel-iterator ≡ c.in-Some.parcel ∷ into_iter_items c.next.new.self = search rules in
     let fits = (subst (AllByRecursion (IsParcelFor g.run)) e c.loop-parcel.invariant.left).0 in
-    (c.loop-parcel.invariant.under, (fits.there, fits.fits))
+    (c.loop-parcel.invariant.under, (fits.there, (fits.own, fits.fits)))
 
 pub loop-parcel-preserved : goal.loop-parcel-preserved
 loop-parcel-preserved g c =

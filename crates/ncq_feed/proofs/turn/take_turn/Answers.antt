@@ -1,8 +1,9 @@
-use Rattle.std.proofs.Common.{◌≤◌, ◌-◌, ◌∷◌, subst, sym, ℕ, true≢false}
-use Rattle.ncq_feed.specs.Runs.{is_among, due, count_in}
+use Rattle.std.proofs.Common.{◌-◌, ◌∷◌, ℕ, arith, true≢false}
+use Rattle.ncq_feed.specs.Runs.{is_among, due, count_in, news_in}
 use Rattle.ncq_feed.proofs.CountLaws.{few, turn_refused, join_cost, join_spent, left_due, made_due, down_cost, down_spent}
-use Rattle.ncq_feed.proofs.GrowthLaws.{there_up}
-use Rattle.ncq_feed.proofs.TurnLaws.{idle_turn, busy_turn, below_join, below_turn, turn_known, turn_start, none_shown, file_based}
+use Rattle.ncq_feed.proofs.TurnLaws.{idle_turn, busy_turn, below_join, below_turn, turn_known, turn_start}
+use Rattle.ncq_feed.proofs.OwnLaws.{own_joined, own_join_cost, own_refused, shared_cost, shared_spent}
+use Rattle.ncq_feed.proofs.PaidLaws.{turn_paid}
 use Rattle.ncq_feed.proofs.turn.take_turn.Goals as goal
 
 pub feed_join-requires : goal.feed_join-requires
@@ -11,14 +12,8 @@ feed_join-requires g c = λ κs within.
     let passed = c.requires.1.1.1.0 in
     (within, (c.requires.1.0, (under, (turn_start g.run c.args.at c.args.pending.now.keys c.args.shelf.now passed, (turn_known g.run c.args.shelf.now under c.args.at _ passed, few g.run c.args.shelf.now under c.args.at (λ number. is_among number (c.args.at ∷ c.args.pending.now.keys)) passed.passed c.args.at)))))
 
-pub content-requires : goal.content-requires
-content-requires g c =
-    there_up g.run c.feed_join.new.shelf c.feed_join.ensures.under c.args.at (turn_start g.run c.args.at c.args.pending.now.keys c.args.shelf.now c.requires.1.1.1.0)
-
-pub rows_since-requires : goal.rows_since-requires
-rows_since-requires g c =
-    subst (λ n. c.content.result.now.base ≤ n) (sym c.requires.1.0)
-    (file_based g.run c.feed_join.new.shelf c.feed_join.ensures.under c.args.at (turn_start g.run c.args.at c.args.pending.now.keys c.args.shelf.now c.requires.1.1.1.0) c.content.result.now c.content.ensures)
+pub got_rows-requires : goal.got_rows-requires
+got_rows-requires g c = (c.requires.1.0, (c.feed_join.ensures.under, turn_start g.run c.args.at c.args.pending.now.keys c.args.shelf.now c.requires.1.1.1.0))
 
 pub pass_down-requires : goal.pass_down-requires
 pass_down-requires g c = λ κs within.
@@ -27,19 +22,16 @@ pass_down-requires g c = λ κs within.
 pub tell_joins-requires : goal.tell_joins-requires
 tell_joins-requires g c = (c.requires.1.0, (c.pass_down.ensures.under, turn_start g.run c.args.at c.args.pending.now.keys c.args.shelf.now c.requires.1.1.1.0))
 
-pub returns-then-is_empty-clause-passed : goal.returns-then-is_empty-clause-passed
-returns-then-is_empty-clause-passed g c =
-    let there = turn_start g.run c.args.at c.args.pending.now.keys c.args.shelf.now c.requires.1.1.1.0 in
+pub returns-then-not-got-clause-passed : goal.returns-then-not-got-clause-passed
+returns-then-not-got-clause-passed g c =
     idle_turn g.run c.requires.1.1.0.start c.args.at c.args.pending.now.keys c.args.shelf.now c.feed_join.new.shelf c.requires.1.1.1.0 c.requires.1.1.1.1 c.in_ok-feed_join.ensures.joined
-    (none_shown g.run c.feed_join.new.shelf c.feed_join.ensures.under c.args.at there c.content.result.now c.content.ensures c.args.now c.requires.1.0 c.rows_since.result.now c.rows_since.ensures c.if-is_empty.ensures)
+    (c.in_ok-got.ensures c.if-not-got.true)
 
-pub returns-then-is_empty-clause-below : goal.returns-then-is_empty-clause-below
-returns-then-is_empty-clause-below g c = below_join g.run c.requires.1.1.0.start c.args.at c.args.shelf.now c.feed_join.new.shelf c.in_ok-feed_join.ensures.joined
+pub returns-then-not-got-clause-below : goal.returns-then-not-got-clause-below
+returns-then-not-got-clause-below g c = below_join g.run c.requires.1.1.0.start c.args.at c.args.shelf.now c.feed_join.new.shelf c.in_ok-feed_join.ensures.joined
 
-pub returns-then-is_empty-clause-nothing : goal.returns-then-is_empty-clause-nothing
-returns-then-is_empty-clause-nothing g c = λ none.
-    let there = turn_start g.run c.args.at c.args.pending.now.keys c.args.shelf.now c.requires.1.1.1.0 in
-    none_shown g.run c.feed_join.new.shelf c.feed_join.ensures.under c.args.at there c.content.result.now c.content.ensures c.args.now c.requires.1.0 c.rows_since.result.now c.rows_since.ensures c.if-is_empty.ensures
+pub returns-then-not-got-clause-nothing : goal.returns-then-not-got-clause-nothing
+returns-then-not-got-clause-nothing g c = λ none. c.in_ok-got.ensures c.if-not-got.true
 
 pub returns-clause-below : goal.returns-clause-below
 returns-clause-below g c =
@@ -57,29 +49,65 @@ pub returns-in_err-feed_join-clause-cost : goal.returns-in_err-feed_join-clause-
 returns-in_err-feed_join-clause-cost g c =
     turn_refused g.run c.args.at c.args.pending.now.keys c.args.shelf.now c.requires.1.1.0 c.requires.1.1.1.0 (turn_start g.run c.args.at c.args.pending.now.keys c.args.shelf.now c.requires.1.1.1.0) c.args.steps.now c.feed_join.new.steps c.feed_join.ensures.cost
 
-pub returns-then-is_empty-clause-cost : goal.returns-then-is_empty-clause-cost
-returns-then-is_empty-clause-cost g c = join_cost g.run c.args.at c.args.pending.now.keys c.args.shelf.now c.feed_join.new.shelf c.requires.1.1.0 c.feed_join.ensures.under c.requires.1.1.1.0 c.in_ok-feed_join.ensures.joined (turn_start g.run c.args.at c.args.pending.now.keys c.args.shelf.now c.requires.1.1.1.0) c.args.steps.now c.feed_join.new.steps c.in_ok-feed_join.ensures.spent
+pub returns-then-not-got-clause-cost : goal.returns-then-not-got-clause-cost
+returns-then-not-got-clause-cost g c = join_cost g.run c.args.at c.args.pending.now.keys c.args.shelf.now c.feed_join.new.shelf c.requires.1.1.0 c.feed_join.ensures.under c.requires.1.1.1.0 c.in_ok-feed_join.ensures.joined (turn_start g.run c.args.at c.args.pending.now.keys c.args.shelf.now c.requires.1.1.1.0) c.args.steps.now c.feed_join.new.steps c.in_ok-feed_join.ensures.spent
 
-pub returns-then-is_empty-clause-spent : goal.returns-then-is_empty-clause-spent
-returns-then-is_empty-clause-spent g c = join_spent g.run c.args.at c.args.pending.now.keys c.args.shelf.now c.feed_join.new.shelf c.requires.1.1.0 c.feed_join.ensures.under c.requires.1.1.1.0 c.in_ok-feed_join.ensures.joined (turn_start g.run c.args.at c.args.pending.now.keys c.args.shelf.now c.requires.1.1.1.0) c.args.steps.now c.feed_join.new.steps c.in_ok-feed_join.ensures.spent
+pub returns-in_err-got-clause-cost : goal.returns-in_err-got-clause-cost
+returns-in_err-got-clause-cost g c = join_cost g.run c.args.at c.args.pending.now.keys c.args.shelf.now c.feed_join.new.shelf c.requires.1.1.0 c.feed_join.ensures.under c.requires.1.1.1.0 c.in_ok-feed_join.ensures.joined (turn_start g.run c.args.at c.args.pending.now.keys c.args.shelf.now c.requires.1.1.1.0) c.args.steps.now c.feed_join.new.steps c.in_ok-feed_join.ensures.spent
+
+pub returns-then-not-got-clause-spent : goal.returns-then-not-got-clause-spent
+returns-then-not-got-clause-spent g c = join_spent g.run c.args.at c.args.pending.now.keys c.args.shelf.now c.feed_join.new.shelf c.requires.1.1.0 c.feed_join.ensures.under c.requires.1.1.1.0 c.in_ok-feed_join.ensures.joined (turn_start g.run c.args.at c.args.pending.now.keys c.args.shelf.now c.requires.1.1.1.0) c.args.steps.now c.feed_join.new.steps c.in_ok-feed_join.ensures.spent
 
 pub returns-in_err-pass_down-clause-cost : goal.returns-in_err-pass_down-clause-cost
 returns-in_err-pass_down-clause-cost g c =
     down_cost g.run c.args.at c.args.pending.now.keys c.args.shelf.now c.feed_join.new.shelf c.requires.1.1.0 c.feed_join.ensures.under c.requires.1.1.1.0 c.in_ok-feed_join.ensures.joined (turn_start g.run c.args.at c.args.pending.now.keys c.args.shelf.now c.requires.1.1.1.0) c.args.steps.now c.feed_join.new.steps c.in_ok-feed_join.ensures.spent c.pass_down.new.steps
-    (c.pass_down.ensures.cost (λ (number : ℕ). due g.run number - count_in g.run c.feed_join.new.shelf number) (left_due g.run c.args.at c.args.pending.now.keys c.args.shelf.now c.feed_join.new.shelf c.requires.1.1.0 c.feed_join.ensures.under c.requires.1.1.1.0 c.in_ok-feed_join.ensures.joined (turn_start g.run c.args.at c.args.pending.now.keys c.args.shelf.now c.requires.1.1.1.0) c.args.steps.now c.feed_join.new.steps c.in_ok-feed_join.ensures.spent))
+    (turn_paid g.run c.requires.1.1.0.start c.args.at (news_in g.run.store.changes c.feed_join.new.shelf c.args.at) (λ (number : ℕ). due g.run number - count_in g.run c.feed_join.new.shelf number) (left_due g.run c.args.at c.args.pending.now.keys c.args.shelf.now c.feed_join.new.shelf c.requires.1.1.0 c.feed_join.ensures.under c.requires.1.1.1.0 c.in_ok-feed_join.ensures.joined (turn_start g.run c.args.at c.args.pending.now.keys c.args.shelf.now c.requires.1.1.1.0) c.args.steps.now c.feed_join.new.steps c.in_ok-feed_join.ensures.spent) c.feed_join.new.steps c.pass_down.new.steps c.pass_down.ensures.cost)
 
 pub returns-in_err-tell_joins-clause-cost : goal.returns-in_err-tell_joins-clause-cost
 returns-in_err-tell_joins-clause-cost g c =
     down_cost g.run c.args.at c.args.pending.now.keys c.args.shelf.now c.feed_join.new.shelf c.requires.1.1.0 c.feed_join.ensures.under c.requires.1.1.1.0 c.in_ok-feed_join.ensures.joined (turn_start g.run c.args.at c.args.pending.now.keys c.args.shelf.now c.requires.1.1.1.0) c.args.steps.now c.feed_join.new.steps c.in_ok-feed_join.ensures.spent c.pass_down.new.steps
-    (c.pass_down.ensures.cost (λ (number : ℕ). due g.run number - count_in g.run c.feed_join.new.shelf number) (left_due g.run c.args.at c.args.pending.now.keys c.args.shelf.now c.feed_join.new.shelf c.requires.1.1.0 c.feed_join.ensures.under c.requires.1.1.1.0 c.in_ok-feed_join.ensures.joined (turn_start g.run c.args.at c.args.pending.now.keys c.args.shelf.now c.requires.1.1.1.0) c.args.steps.now c.feed_join.new.steps c.in_ok-feed_join.ensures.spent))
+    (turn_paid g.run c.requires.1.1.0.start c.args.at (news_in g.run.store.changes c.feed_join.new.shelf c.args.at) (λ (number : ℕ). due g.run number - count_in g.run c.feed_join.new.shelf number) (left_due g.run c.args.at c.args.pending.now.keys c.args.shelf.now c.feed_join.new.shelf c.requires.1.1.0 c.feed_join.ensures.under c.requires.1.1.1.0 c.in_ok-feed_join.ensures.joined (turn_start g.run c.args.at c.args.pending.now.keys c.args.shelf.now c.requires.1.1.1.0) c.args.steps.now c.feed_join.new.steps c.in_ok-feed_join.ensures.spent) c.feed_join.new.steps c.pass_down.new.steps c.pass_down.ensures.cost)
 
 pub returns-clause-cost : goal.returns-clause-cost
 returns-clause-cost g c =
     down_cost g.run c.args.at c.args.pending.now.keys c.args.shelf.now c.feed_join.new.shelf c.requires.1.1.0 c.feed_join.ensures.under c.requires.1.1.1.0 c.in_ok-feed_join.ensures.joined (turn_start g.run c.args.at c.args.pending.now.keys c.args.shelf.now c.requires.1.1.1.0) c.args.steps.now c.feed_join.new.steps c.in_ok-feed_join.ensures.spent c.pass_down.new.steps
-    (c.pass_down.ensures.cost (λ (number : ℕ). due g.run number - count_in g.run c.feed_join.new.shelf number) (left_due g.run c.args.at c.args.pending.now.keys c.args.shelf.now c.feed_join.new.shelf c.requires.1.1.0 c.feed_join.ensures.under c.requires.1.1.1.0 c.in_ok-feed_join.ensures.joined (turn_start g.run c.args.at c.args.pending.now.keys c.args.shelf.now c.requires.1.1.1.0) c.args.steps.now c.feed_join.new.steps c.in_ok-feed_join.ensures.spent))
+    (turn_paid g.run c.requires.1.1.0.start c.args.at (news_in g.run.store.changes c.feed_join.new.shelf c.args.at) (λ (number : ℕ). due g.run number - count_in g.run c.feed_join.new.shelf number) (left_due g.run c.args.at c.args.pending.now.keys c.args.shelf.now c.feed_join.new.shelf c.requires.1.1.0 c.feed_join.ensures.under c.requires.1.1.1.0 c.in_ok-feed_join.ensures.joined (turn_start g.run c.args.at c.args.pending.now.keys c.args.shelf.now c.requires.1.1.1.0) c.args.steps.now c.feed_join.new.steps c.in_ok-feed_join.ensures.spent) c.feed_join.new.steps c.pass_down.new.steps c.pass_down.ensures.cost)
 
 pub returns-clause-spent : goal.returns-clause-spent
 returns-clause-spent g c =
     down_spent g.run c.args.at c.args.pending.now.keys c.args.shelf.now c.feed_join.new.shelf c.requires.1.1.0 c.feed_join.ensures.under c.requires.1.1.1.0 c.in_ok-feed_join.ensures.joined (turn_start g.run c.args.at c.args.pending.now.keys c.args.shelf.now c.requires.1.1.1.0) c.args.steps.now c.feed_join.new.steps c.in_ok-feed_join.ensures.spent c.pass_down.new.shelf c.args.pending.now.keys c.pass_down.new.pending.keys c.in_ok-pass_down.ensures.down c.pass_down.new.steps
-    (c.pass_down.ensures.cost (λ (number : ℕ). count_in g.run c.pass_down.new.shelf number - count_in g.run c.feed_join.new.shelf number)
-    (made_due g.run c.args.at c.args.pending.now.keys c.args.shelf.now c.feed_join.new.shelf c.requires.1.1.0 c.feed_join.ensures.under c.requires.1.1.1.0 c.in_ok-feed_join.ensures.joined (turn_start g.run c.args.at c.args.pending.now.keys c.args.shelf.now c.requires.1.1.1.0) c.args.steps.now c.feed_join.new.steps c.in_ok-feed_join.ensures.spent c.pass_down.new.shelf c.args.pending.now.keys c.pass_down.new.pending.keys c.in_ok-pass_down.ensures.down))
+    (turn_paid g.run c.requires.1.1.0.start c.args.at (news_in g.run.store.changes c.feed_join.new.shelf c.args.at) (λ (number : ℕ). count_in g.run c.pass_down.new.shelf number - count_in g.run c.feed_join.new.shelf number)
+    (made_due g.run c.args.at c.args.pending.now.keys c.args.shelf.now c.feed_join.new.shelf c.requires.1.1.0 c.feed_join.ensures.under c.requires.1.1.1.0 c.in_ok-feed_join.ensures.joined (turn_start g.run c.args.at c.args.pending.now.keys c.args.shelf.now c.requires.1.1.1.0) c.args.steps.now c.feed_join.new.steps c.in_ok-feed_join.ensures.spent c.pass_down.new.shelf c.args.pending.now.keys c.pass_down.new.pending.keys c.in_ok-pass_down.ensures.down) c.feed_join.new.steps c.pass_down.new.steps c.pass_down.ensures.cost)
+
+pub returns-in_err-feed_join-clause-shared : goal.returns-in_err-feed_join-clause-shared
+returns-in_err-feed_join-clause-shared g c = λ held counted.
+    let less = own_refused g.run c.args.at c.args.pending.now.keys c.args.shelf.now c.requires.1.1.0 c.requires.1.1.1.0 (turn_start g.run c.args.at c.args.pending.now.keys c.args.shelf.now c.requires.1.1.1.0) c.args.steps.now c.feed_join.new.steps c.feed_join.ensures.cost in
+    omega arith
+
+pub returns-then-not-got-clause-shared : goal.returns-then-not-got-clause-shared
+returns-then-not-got-clause-shared g c = λ held counted.
+    let less = own_join_cost g.run c.args.at c.args.pending.now.keys c.args.shelf.now c.feed_join.new.shelf c.requires.1.1.0 c.feed_join.ensures.under c.requires.1.1.1.0 c.in_ok-feed_join.ensures.joined (turn_start g.run c.args.at c.args.pending.now.keys c.args.shelf.now c.requires.1.1.1.0) c.args.steps.now c.feed_join.new.steps c.in_ok-feed_join.ensures.spent in
+    omega arith
+
+pub returns-in_err-got-clause-shared : goal.returns-in_err-got-clause-shared
+returns-in_err-got-clause-shared g c = λ held counted.
+    let less = own_join_cost g.run c.args.at c.args.pending.now.keys c.args.shelf.now c.feed_join.new.shelf c.requires.1.1.0 c.feed_join.ensures.under c.requires.1.1.1.0 c.in_ok-feed_join.ensures.joined (turn_start g.run c.args.at c.args.pending.now.keys c.args.shelf.now c.requires.1.1.1.0) c.args.steps.now c.feed_join.new.steps c.in_ok-feed_join.ensures.spent in
+    omega arith
+
+pub returns-then-not-got-clause-split : goal.returns-then-not-got-clause-split
+returns-then-not-got-clause-split g c = λ held counted.
+    let less = own_joined g.run c.args.at c.args.pending.now.keys c.args.shelf.now c.feed_join.new.shelf c.requires.1.1.0 c.feed_join.ensures.under c.requires.1.1.1.0 c.in_ok-feed_join.ensures.joined (turn_start g.run c.args.at c.args.pending.now.keys c.args.shelf.now c.requires.1.1.1.0) c.args.steps.now c.feed_join.new.steps c.in_ok-feed_join.ensures.spent in
+    omega arith
+
+pub returns-in_err-pass_down-clause-shared : goal.returns-in_err-pass_down-clause-shared
+returns-in_err-pass_down-clause-shared g c = shared_cost g.run c.args.at c.args.pending.now.keys c.args.shelf.now c.feed_join.new.shelf c.requires.1.1.0 c.feed_join.ensures.under c.requires.1.1.1.0 c.in_ok-feed_join.ensures.joined (turn_start g.run c.args.at c.args.pending.now.keys c.args.shelf.now c.requires.1.1.1.0) c.args.steps.now c.feed_join.new.steps c.in_ok-feed_join.ensures.spent c.pass_down.new.steps c.pass_down.ensures.cost
+
+pub returns-in_err-tell_joins-clause-shared : goal.returns-in_err-tell_joins-clause-shared
+returns-in_err-tell_joins-clause-shared g c = shared_cost g.run c.args.at c.args.pending.now.keys c.args.shelf.now c.feed_join.new.shelf c.requires.1.1.0 c.feed_join.ensures.under c.requires.1.1.1.0 c.in_ok-feed_join.ensures.joined (turn_start g.run c.args.at c.args.pending.now.keys c.args.shelf.now c.requires.1.1.1.0) c.args.steps.now c.feed_join.new.steps c.in_ok-feed_join.ensures.spent c.pass_down.new.steps c.pass_down.ensures.cost
+
+pub returns-clause-shared : goal.returns-clause-shared
+returns-clause-shared g c = shared_cost g.run c.args.at c.args.pending.now.keys c.args.shelf.now c.feed_join.new.shelf c.requires.1.1.0 c.feed_join.ensures.under c.requires.1.1.1.0 c.in_ok-feed_join.ensures.joined (turn_start g.run c.args.at c.args.pending.now.keys c.args.shelf.now c.requires.1.1.1.0) c.args.steps.now c.feed_join.new.steps c.in_ok-feed_join.ensures.spent c.pass_down.new.steps c.pass_down.ensures.cost
+
+pub returns-clause-split : goal.returns-clause-split
+returns-clause-split g c = λ held counted.
+    shared_spent g.run c.args.at c.args.pending.now.keys c.args.shelf.now c.feed_join.new.shelf c.requires.1.1.0 c.feed_join.ensures.under c.requires.1.1.1.0 c.in_ok-feed_join.ensures.joined (turn_start g.run c.args.at c.args.pending.now.keys c.args.shelf.now c.requires.1.1.1.0) c.args.steps.now c.feed_join.new.steps c.in_ok-feed_join.ensures.spent c.pass_down.new.steps c.pass_down.ensures.cost held counted c.pass_down.new.shelf c.args.pending.now.keys c.pass_down.new.pending.keys c.in_ok-pass_down.ensures.down

@@ -8,3 +8,6 @@ ghost-pass_down g a = g.run
 
 abbrev pub ghost-tell_joins : goal.ghost-tell_joins
 ghost-tell_joins g a = g.run
+
+abbrev pub ghost-got_rows : goal.ghost-got_rows
+ghost-got_rows g a = g.run

@@ -1,13 +1,9 @@
-use Rattle.std.proofs.Common.{rules, [], ◌∷◌, ◌++◌, map, refl, sym, ◌∙◌, subst, arith}
-use Rattle.std.specs.FinMap.{insert}
+use Rattle.std.proofs.Common.{rules, [], ◌∷◌, ◌++◌, refl, sym, ◌∙◌, subst, arith}
 use Rattle.ncq_plan.specs.declared.expr.Expr.{the_lemmas}
 use Rattle.ncq_plan.specs.declared.expr.Expr.TheVariants.{Join}
-use Rattle.ncq_plan.specs.Exprs.{rows_in, expr_width}
-use Rattle.ncq_midfile.specs.Made.{gained_at}
 use Rattle.ncq_change.specs.Stores.{world_in}
 use Rattle.ncq_shelf.specs.Stands.{Stands}
-use Rattle.ncq_group.specs.Grown.{IsGrown, new_file}
-use Rattle.ncq_group.proofs.Fresh.{fresh_up_to, fresh_content, fresh_wide}
+use Rattle.ncq_group.specs.Grown.{IsGrown}
 use Rattle.ncq_group.proofs.Grown.{unread_hit, unread_two, grown_add, stands_added, unread_add, stays_mid}
 use Rattle.ncq_group.proofs.Made.{made_whole, kept_whole, kept_both, made_within, made_then}
 use Rattle.ncq_group.proofs.Places.{equal_one, range_one, join_two, grown_one, inputs_one, grown_left, grown_two, inputs_two, parts_one, parts_left, parts_right, room_in_one, room_in_left, room_in_right}
@@ -16,45 +12,36 @@ use Rattle.ncq_group.proofs.place.+placing.Goals as goal
 pub place-returns-in-Some-clause-unread : goal.place-returns-in-Some-clause-unread
 place-returns-in-Some-clause-unread g t c = unread_hit c.args.expr.now c.args.filed.now.next c.place_inputs.new.filed.shelf c.in-Some.number c.in-Some.ensures c.in_ok-inputs.ensures.unread
 
-pub place-returns-in_err-rows-clause-cost : goal.place-returns-in_err-rows-clause-cost
-place-returns-in_err-rows-clause-cost g t c =
-    let i = c.in_ok-inputs.ensures.cost in
-    (i.0 ++ c.args.expr.now ∷ [], made_whole (world_in c.args.store.now) c.args.expr.now c.args.filed.now.shelf c.place_inputs.new.filed.shelf i.0 c.args.steps.now c.place_inputs.new.steps c.first_rows.new.steps c.place_inputs.ensures.grown.stays i.1 i.2 c.in_default.ensures c.first_rows.ensures.cost, search rules)
-
-pub place-put-requires-clause-new : goal.place-put-requires-clause-new
-place-put-requires-clause-new g t c = λ number s. c.in_default.ensures number (subst (λ f. Stands f c.args.expr.now number) c.first_rows.ensures.same s)
-
 pub place-returns-in_err-number-clause-cost : goal.place-returns-in_err-number-clause-cost
 place-returns-in_err-number-clause-cost g t c =
     let i = c.in_ok-inputs.ensures.cost in
-    (i.0 ++ c.args.expr.now ∷ [], made_whole (world_in c.args.store.now) c.args.expr.now c.args.filed.now.shelf c.place_inputs.new.filed.shelf i.0 c.args.steps.now c.place_inputs.new.steps c.first_rows.new.steps c.place_inputs.ensures.grown.stays i.1 i.2 c.in_default.ensures c.first_rows.ensures.cost, search rules)
+    (i.0 ++ c.args.expr.now ∷ [], made_whole (world_in c.args.store.now) c.args.expr.now c.args.filed.now.shelf c.place_inputs.new.filed.shelf i.0 c.args.steps.now c.place_inputs.new.steps c.put.new.steps c.place_inputs.ensures.grown.stays i.1 i.2 c.in_default.ensures c.put.ensures.cost, search rules)
 
 pub place-returns-clause-grown : goal.place-returns-clause-grown
 place-returns-clause-grown g t c =
     let p = c.in_ok-number.ensures.ok in
     subst (λ n. IsGrown c.args.expr.now c.args.store.now.changes (world_in c.args.store.now) c.args.filed.now.shelf c.args.filed.now.next c.put.new.filed.shelf n) (sym p.next)
-    (grown_add c.args.store.now.changes (world_in c.args.store.now) c.args.expr.now c.args.filed.now.shelf c.args.filed.now.next c.place_inputs.new.filed.shelf c.place_inputs.new.filed.next c.put.new.filed.shelf (record { base = c.args.store.now.changes; rows = map (gained_at c.args.store.now.changes) c.in_ok-rows.rows }) (p.files ∙ (λ k. insert (c.first_rows.ensures.same k) c.place_inputs.new.filed.next (new_file c.args.expr.now (c.changes.ensures k) c.in_ok-rows.rows))) c.place_inputs.ensures.grown c.in_default.ensures
-    c.in_ok-inputs.inputs c.in_ok-inputs.ensures.inputs c.requires.formed (fresh_wide c.args.store.now.changes (expr_width c.args.expr.now) c.in_ok-rows.rows c.in_ok-rows.ensures.wide)
-    (fresh_up_to c.args.store.now.changes c.in_ok-rows.rows) (fresh_content c.args.store.now.changes c.in_ok-rows.rows (rows_in c.args.expr.now (world_in c.args.store.now)) c.in_ok-rows.ensures.counts) refl c.place_inputs.ensures.room)
+    (grown_add c.args.store.now.changes (world_in c.args.store.now) c.args.expr.now c.args.filed.now.shelf c.args.filed.now.next c.place_inputs.new.filed.shelf c.place_inputs.new.filed.next c.put.new.filed.shelf p.added.content p.added.files c.place_inputs.ensures.grown c.in_default.ensures
+    c.in_ok-inputs.inputs c.in_ok-inputs.ensures.inputs c.requires.formed p.added.wide p.added.up_to p.added.holds p.added.base c.place_inputs.ensures.room)
 
 pub place-returns-clause-stands : goal.place-returns-clause-stands
 place-returns-clause-stands g t c =
     let p = c.in_ok-number.ensures.ok in
     subst (λ n. Stands c.put.new.filed.shelf c.args.expr.now n) (sym p.number)
-    (stands_added c.args.store.now.changes (world_in c.args.store.now) c.args.expr.now c.args.filed.now.shelf c.args.filed.now.next c.place_inputs.new.filed.shelf c.place_inputs.new.filed.next c.put.new.filed.shelf (record { base = c.args.store.now.changes; rows = map (gained_at c.args.store.now.changes) c.in_ok-rows.rows }) (p.files ∙ (λ k. insert (c.first_rows.ensures.same k) c.place_inputs.new.filed.next (new_file c.args.expr.now (c.changes.ensures k) c.in_ok-rows.rows))) c.place_inputs.ensures.grown c.in_default.ensures)
+    (stands_added c.args.store.now.changes (world_in c.args.store.now) c.args.expr.now c.args.filed.now.shelf c.args.filed.now.next c.place_inputs.new.filed.shelf c.place_inputs.new.filed.next c.put.new.filed.shelf p.added.content p.added.files c.place_inputs.ensures.grown c.in_default.ensures)
 
 pub place-returns-clause-unread : goal.place-returns-clause-unread
 place-returns-clause-unread g t c =
     let p = c.in_ok-number.ensures.ok in
-    unread_add c.args.store.now.changes (world_in c.args.store.now) c.args.expr.now c.args.filed.now.shelf c.args.filed.now.next c.place_inputs.new.filed.shelf c.place_inputs.new.filed.next c.put.new.filed.shelf (record { base = c.args.store.now.changes; rows = map (gained_at c.args.store.now.changes) c.in_ok-rows.rows }) (p.files ∙ (λ k. insert (c.first_rows.ensures.same k) c.place_inputs.new.filed.next (new_file c.args.expr.now (c.changes.ensures k) c.in_ok-rows.rows))) c.place_inputs.ensures.grown c.in_default.ensures c.in_ok-inputs.ensures.unread
+    unread_add c.args.store.now.changes (world_in c.args.store.now) c.args.expr.now c.args.filed.now.shelf c.args.filed.now.next c.place_inputs.new.filed.shelf c.place_inputs.new.filed.next c.put.new.filed.shelf p.added.content p.added.files c.place_inputs.ensures.grown c.in_default.ensures c.in_ok-inputs.ensures.unread
 
 pub place-returns-clause-cost : goal.place-returns-clause-cost
 place-returns-clause-cost g t c =
     let p = c.in_ok-number.ensures.ok in
     let i = c.in_ok-inputs.ensures.cost in (
       i.0 ++ c.args.expr.now ∷ [],
-      made_whole (world_in c.args.store.now) c.args.expr.now c.args.filed.now.shelf c.place_inputs.new.filed.shelf i.0 c.args.steps.now c.place_inputs.new.steps c.first_rows.new.steps c.place_inputs.ensures.grown.stays i.1 i.2 c.in_default.ensures c.first_rows.ensures.cost,
-      kept_whole c.args.expr.now c.place_inputs.new.filed.shelf c.put.new.filed.shelf i.0 (stays_mid c.args.store.now.changes (world_in c.args.store.now) c.args.expr.now c.args.filed.now.shelf c.args.filed.now.next c.place_inputs.new.filed.shelf c.place_inputs.new.filed.next c.put.new.filed.shelf (record { base = c.args.store.now.changes; rows = map (gained_at c.args.store.now.changes) c.in_ok-rows.rows }) (p.files ∙ (λ k. insert (c.first_rows.ensures.same k) c.place_inputs.new.filed.next (new_file c.args.expr.now (c.changes.ensures k) c.in_ok-rows.rows))) c.place_inputs.ensures.grown c.in_default.ensures) i.2 (c.place_inputs.new.filed.next, stands_added c.args.store.now.changes (world_in c.args.store.now) c.args.expr.now c.args.filed.now.shelf c.args.filed.now.next c.place_inputs.new.filed.shelf c.place_inputs.new.filed.next c.put.new.filed.shelf (record { base = c.args.store.now.changes; rows = map (gained_at c.args.store.now.changes) c.in_ok-rows.rows }) (p.files ∙ (λ k. insert (c.first_rows.ensures.same k) c.place_inputs.new.filed.next (new_file c.args.expr.now (c.changes.ensures k) c.in_ok-rows.rows))) c.place_inputs.ensures.grown c.in_default.ensures),
+      made_whole (world_in c.args.store.now) c.args.expr.now c.args.filed.now.shelf c.place_inputs.new.filed.shelf i.0 c.args.steps.now c.place_inputs.new.steps c.put.new.steps c.place_inputs.ensures.grown.stays i.1 i.2 c.in_default.ensures c.put.ensures.cost,
+      kept_whole c.args.expr.now c.place_inputs.new.filed.shelf c.put.new.filed.shelf i.0 (stays_mid c.args.store.now.changes (world_in c.args.store.now) c.args.expr.now c.args.filed.now.shelf c.args.filed.now.next c.place_inputs.new.filed.shelf c.place_inputs.new.filed.next c.put.new.filed.shelf p.added.content p.added.files c.place_inputs.ensures.grown c.in_default.ensures) i.2 (c.place_inputs.new.filed.next, stands_added c.args.store.now.changes (world_in c.args.store.now) c.args.expr.now c.args.filed.now.shelf c.args.filed.now.next c.place_inputs.new.filed.shelf c.place_inputs.new.filed.next c.put.new.filed.shelf p.added.content p.added.files c.place_inputs.ensures.grown c.in_default.ensures),
     )
 
 pub place_inputs-place-requires : goal.place_inputs-place-requires

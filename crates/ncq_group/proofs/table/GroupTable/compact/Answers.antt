@@ -14,7 +14,8 @@ invariant_of-self-2 c =
     let r = c.in_ok-compact.ensures.ok c.requires.there.file at in
     let next_at : get c.compact.new.self c.args.file.0 ≡ Some r.0 = ap (λ f. get f c.args.file.0) r.1 ∙ put_same old.files c.args.file.0 r.0 in
     record {
-      facts = facts_compacted old c.self.invariant.facts c.args.file.0 c.args.change c.requires.there.file r.0 at r.2 (c.in_ok-compact.ensures.rows c.requires.there.file at r.0 next_at) (subst (λ (t : TableState). c.args.change ≤ t.number) (sym c.self.view_is) c.requires.number) c.compact.new.self r.1;
+      facts = facts_compacted old c.self.invariant.facts c.args.file.0 c.args.change c.requires.there.file r.0 at r.2 (λ own. c.in_ok-compact.ensures.rows c.requires.there.file at own r.0 next_at) (λ range. c.in_ok-compact.ensures.ranged c.requires.there.file at range r.0 next_at)
+          (c.requires.last c.requires.there.file c.requires.there.at) (subst (λ (t : TableState). c.args.change ≤ t.number) (sym c.self.view_is) c.requires.number) c.compact.new.self r.1;
       counted = counted_again old.files c.compact.new.self (one_changed old.files c.compact.new.self c.args.file.0 c.requires.there.file r.0 at r.2.expr r.1) c.self.inside.filed.groups c.self.invariant.counted;
     }
 

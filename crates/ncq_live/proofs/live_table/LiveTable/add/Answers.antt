@@ -42,19 +42,19 @@ pub roll_back-requires-clause-base : goal.roll_back-requires-clause-base
 roll_back-requires-clause-base g c =
     let facts : Facts c.self.inside.groups = subst (λ (r : LiveState). Facts r.table) (sym c.self.view_is) c.facts.ensures.facts in
     λ number file at.
-    (at_mark c.args.plan.now c.self.inside.groups c.install.new.self c.in_ok-file.file.0 c.in_ok-file.ensures.ok facts c.facts-2.ensures c.release.new.self.files c.release.ensures.files c.mark-before.result c.mark-before.ensures number file at).0
+    (at_mark c.args.plan.now c.self.inside.groups c.install.new.self c.in_ok-file.file.0 c.in_ok-file.ensures.ok facts c.facts-2.ensures.facts c.release.new.self.files c.release.ensures.files c.mark-before.result c.mark-before.ensures number file at).0
 
 pub roll_back-requires-clause-below : goal.roll_back-requires-clause-below
 roll_back-requires-clause-below g c =
     let facts : Facts c.self.inside.groups = subst (λ (r : LiveState). Facts r.table) (sym c.self.view_is) c.facts.ensures.facts in
     λ number file at.
-    (at_mark c.args.plan.now c.self.inside.groups c.install.new.self c.in_ok-file.file.0 c.in_ok-file.ensures.ok facts c.facts-2.ensures c.release.new.self.files c.release.ensures.files c.mark-before.result c.mark-before.ensures number file at).1
+    (at_mark c.args.plan.now c.self.inside.groups c.install.new.self c.in_ok-file.file.0 c.in_ok-file.ensures.ok facts c.facts-2.ensures.facts c.release.new.self.files c.release.ensures.files c.mark-before.result c.mark-before.ensures number file at).1
 
 -- a refused subscription leaves the table of before
 back : (g : Over) (c : goal.After-roll_back g) → c.roll_back.new.self ≡ c.self.inside.groups
 back g c =
     let facts : Facts c.self.inside.groups = subst (λ (r : LiveState). Facts r.table) (sym c.self.view_is) c.facts.ensures.facts in
-    table_back c.args.plan.now c.self.inside.groups c.install.new.self c.in_ok-file.file.0 c.in_ok-file.ensures.ok facts c.facts-2.ensures c.release.new.self.files c.release.ensures.files
+    table_back c.args.plan.now c.self.inside.groups c.install.new.self c.in_ok-file.file.0 c.in_ok-file.ensures.ok facts c.facts-2.ensures.facts c.release.new.self.files c.release.ensures.files
     c.mark-before.result c.roll_back.new.self c.mark-before.ensures c.roll_back.ensures.number c.roll_back.ensures.next_file c.roll_back.ensures.files
 
 pub invariant_of-self-in-Err : goal.invariant_of-self-in-Err

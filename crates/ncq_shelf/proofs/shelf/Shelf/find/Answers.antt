@@ -5,4 +5,4 @@ use Rattle.ncq_shelf.proofs.shelf.Shelf.find.Goals as goal
 
 pub returns : goal.returns
 returns c = subst (λ f. Finds f c.args.expr.now c.copied.result) c.self.view_is
-    (finds c.self.inside.files.entries c.self.inside.numbers.entries c.self.invariant.shelved.indexed c.args.expr.now c.copied.result (c.copied.ensures ∙ c.get.ensures.value))
+    (finds c.self.inside.groups.entries c.self.inside.files.entries c.self.inside.numbers.entries c.self.invariant.shelved.indexed c.args.expr.now c.copied.result (c.copied.ensures ∙ c.get.ensures.value))

@@ -1,0 +1,41 @@
+-- What a file shows once a change is its base: rows of its own, or those of its group as they are.
+use Rattle.std.proofs.Common.{◌≡◌, ◌≤◌, ℕ, List, Some, None, Option, Result, OnOk, OnErr, refl, sym, ap, ◌∙◌, subst}
+use Rattle.std.proofs.lemmas.Result.{on_ok_weaker}
+use Rattle.ncq_plan.specs.declared.expr.Expr.{Expr}
+use Rattle.ncq_row.specs.Embeddings.{Row}
+use Rattle.ncq_midfile.specs.Content.{IsContent}
+use Rattle.ncq_midfile.specs.Files.{FileState}
+use Rattle.ncq_holders.specs.Held.{Held}
+use Rattle.ncq_shelf.specs.Groups.{Groups, HasBase, content_of, group_of}
+use Rattle.ncq_shelf.specs.Keyed.{AreHeld}
+use Rattle.ncq_shelf.specs.declared.group.Group.{Group}
+use Rattle.ncq_shelf.specs.declared.rows.Rows.{Rows}
+use Rattle.ncq_shelf.specs.declared.rows.Rows.TheVariants.{Ranged}
+use Rattle.ncq_shelf.proofs.Grouped.{raised_content}
+use Rattle.ncq_shelf.proofs.KeyedAdded.{compacted_held}
+
+module _ {T E : Type 0} (r : Result T E) (change : ℕ) (gs : Groups) (expr : Expr) (old new : Rows)
+    (own : OnOk r (group_of old ≡ None → (gs : Groups) (expr : Expr) → HasBase change (content_of gs expr old) (content_of gs expr new)))
+    (ranged : (group : Group) → group_of old ≡ Some group → new ≡ Ranged group change) (err : OnErr r (new ≡ old)) where
+  -- the rows of a group are shown as they were, with the change as the base
+  raised : (group : Group) → group_of old ≡ Some group → content_of gs expr new ≡ record { base = change; rows = (content_of gs expr old).rows }
+  raised group of = ap (content_of gs expr) (ranged group of) ∙ raised_content gs expr old group change of
+
+  pub moved_on : OnOk r (((content_of gs expr new).base ≡ change)
+      × ((at : ℕ) (list : List Row) → change ≤ at → IsContent at (content_of gs expr old).rows list → IsContent at (content_of gs expr new).rows list))
+  moved_on = on_ok_weaker r (λ based. by based (group_of old) refl) own
+    where
+      by : (group_of old ≡ None → (gs : Groups) (expr : Expr) → HasBase change (content_of gs expr old) (content_of gs expr new)) → (o : Option Group) → group_of old ≡ o
+          → ((content_of gs expr new).base ≡ change) × ((at : ℕ) (list : List Row) → change ≤ at → IsContent at (content_of gs expr old).rows list → IsContent at (content_of gs expr new).rows list)
+      by based None e = let b = based e gs expr in (b.base, b.stays)
+      by based (Some group) e = (ap (λ (s : FileState). s.base) (raised group e), λ at list later is. subst (λ (s : FileState). IsContent at s.rows list) (sym (raised group e)) is)
+
+  pub moved_rows : (group : Group) → group_of old ≡ Some group → (content_of gs expr new).rows ≡ (content_of gs expr old).rows
+  moved_rows group of = ap (λ (s : FileState). s.rows) (raised group of)
+
+  pub moved_held : (held : Held) (number slot : ℕ) → AreHeld held number slot (content_of gs expr old).rows → AreHeld held number slot (content_of gs expr new).rows
+  moved_held held number slot h = by (group_of old) refl
+    where
+      by : (o : Option Group) → group_of old ≡ o → AreHeld held number slot (content_of gs expr new).rows
+      by None e = compacted_held gs r held number slot change gs expr old new (on_ok_weaker r (λ based. based e) own) err h
+      by (Some group) e = subst (λ (s : FileState). AreHeld held number slot s.rows) (sym (raised group e)) h
