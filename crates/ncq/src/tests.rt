@@ -13,6 +13,7 @@ use std::alloc::{AllocError, Global};
 use std::hash::RandomState;
 use std::io;
 use std::marker::Brand;
+use std::mem::forget;
 use std::process::Abort;
 use std::random::RandomSource;
 use std::sync::ledger::{Blank, Ledger};
@@ -32,6 +33,7 @@ mod limits;
 mod lines;
 mod many;
 mod notices;
+mod ranges;
 mod refused;
 mod reports;
 mod shared;
@@ -163,7 +165,8 @@ fn calls_of(alloc: Global, numbers: &[u64]) -> Result<Calls, AllocError> {
     Ok(all)
 }
 
-/// A run of a new engine over these handlers, whose steps are counted in this ledger.
+/// A run of a new engine over these handlers, whose steps are counted in this ledger. The engine is
+/// forgotten at the end, as the program forgets its own.
 fn counted_run<I: Source, O: Sink, L: Ledger>(
     host: &HostRuntime,
     words: &[&str],
@@ -185,7 +188,7 @@ where
     let Ok(mut engine) = Engine::new(alloc, seed, handlers) else {
         return Status::NoMemory;
     };
-    run(
+    let status = run(
         alloc,
         words,
         input,
@@ -193,7 +196,9 @@ where
         handlers,
         &mut engine,
         &mut steps,
-    )
+    );
+    forget(engine);
+    status
 }
 
 /// A run over these handlers, with a counter of its own.

@@ -105,17 +105,29 @@ fn is_gain_of_95(notice: &Notice) -> bool {
     }
 }
 
-/// The session on this script ends so, with this written, over three handlers of one kind: `print`
-/// finds no memory for any notice, `tell` writes each, and `picky` writes one and finds no memory
-/// for any other. So a notice that another of them is given shows.
-fn expect_told(
+/// The session on this script over these handlers ends so, with this written.
+fn expect_run(
     rt: &impl Abort,
     host: &HostRuntime,
     script: &[&str],
+    handlers: &Handlers,
     status: Status,
     written: &[&str],
 ) -> Result<(), Fail> {
     let alloc = host.alloc();
+    let script = bytes_of(alloc, &joined(alloc, script)?)?;
+    let mut input = memory_source(script, 64, calls_of(alloc, &[])?);
+    let mut output = memory_sink(alloc, 4096, calls_of(alloc, &[])?)?;
+    let got = run_on(host, &["run"], &mut input, &mut output, handlers);
+    assert_eq!(rt; got, status);
+    expect_bytes(rt, output.held(), &joined(alloc, written)?, "");
+    Ok(())
+}
+
+/// Three handlers of one kind: `print` finds no memory for any notice, `tell` writes each, and
+/// `picky` writes one and finds no memory for any other. So a notice that another of them is given
+/// shows.
+fn three_handlers(alloc: Global) -> Result<Handlers, Fail> {
     let wanting: Call = Box::new(
         alloc,
         |argument: &[u8], notice: &Notice, out: &mut Vec<u8>| -> Result<(), AllocError>
@@ -145,13 +157,19 @@ fn expect_told(
     add_handler(alloc, &mut handlers, b"print", Kind::Print, wanting)?;
     add_handler(alloc, &mut handlers, b"tell", Kind::Print, tell)?;
     add_handler(alloc, &mut handlers, b"picky", Kind::Print, picky)?;
-    let script = bytes_of(alloc, &joined(alloc, script)?)?;
-    let mut input = memory_source(script, 64, calls_of(alloc, &[])?);
-    let mut output = memory_sink(alloc, 4096, calls_of(alloc, &[])?)?;
-    let got = run_on(host, &["run"], &mut input, &mut output, &handlers);
-    assert_eq!(rt; got, status);
-    expect_bytes(rt, output.held(), &joined(alloc, written)?, "");
-    Ok(())
+    Ok(handlers)
+}
+
+/// The session on this script over the three handlers ends so, with this written.
+fn expect_told(
+    rt: &impl Abort,
+    host: &HostRuntime,
+    script: &[&str],
+    status: Status,
+    written: &[&str],
+) -> Result<(), Fail> {
+    let handlers = three_handlers(host.alloc())?;
+    expect_run(rt, host, script, &handlers, status, written)
 }
 
 /// What is written where the quote is put at 95.5, and where no memory is found for its notice.
@@ -217,15 +235,9 @@ const TWICE: &[&str] = &["1 ok\n2 ok\n3 ok\n", TOLD_95, "4 ok\n", TOLD_96];
 
 /// The session on the four commands ends so, with this written.
 fn expect_failing(rt: &impl Abort, host: &HostRuntime, row: &Failing<'_>) -> Result<(), Fail> {
-    let alloc = host.alloc();
-    let handlers = failing_handlers(alloc, row.0)?;
-    let script = bytes_of(alloc, &joined(alloc, &[SOURCE, WATCH, PUT_95, PUT_96])?)?;
-    let mut input = memory_source(script, 64, calls_of(alloc, &[])?);
-    let mut output = memory_sink(alloc, 4096, calls_of(alloc, &[])?)?;
-    let got = run_on(host, &["run"], &mut input, &mut output, &handlers);
-    assert_eq!(rt; got, row.1);
-    expect_bytes(rt, output.held(), &joined(alloc, row.2)?, "");
-    Ok(())
+    let handlers = failing_handlers(host.alloc(), row.0)?;
+    let script = [SOURCE, WATCH, PUT_95, PUT_96];
+    expect_run(rt, host, &script, &handlers, row.1, row.2)
 }
 
 /// No clause says that there is a second try: a body that gives up at once has the same contract.

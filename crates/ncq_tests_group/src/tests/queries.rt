@@ -1,11 +1,13 @@
 //! Statements and their normal queries, worked out by hand and shown as `shown` says.
+ghost use Rattle.ncq_xmlql.specs.WellFormed.{IsWellFormed};
 
 use super::shown::add_query;
 use super::{expect_bytes, joined};
 use ncq_base::bytes_of;
 use ncq_bind::{BindError, bind};
+use ncq_plan::NormalQuery;
 use ncq_source::{Key, Store};
-use ncq_xmlql::parse_statement;
+use ncq_xmlql::{Statement, parse_statement};
 use std::alloc::{AllocError, Global};
 use std::hash::RandomState;
 use std::process::Abort;
@@ -28,20 +30,37 @@ pub(super) fn sources(alloc: Global, seed: RandomState) -> Result<Store, Fail> {
     Ok(store)
 }
 
+/// The text of a normal query.
+fn text_of(alloc: Global, query: &NormalQuery) -> Result<Vec<u8>, AllocError> {
+    let mut out = Vec::new(alloc);
+    add_query(&mut out, query)?;
+    Ok(out)
+}
+
+/// Why a statement has no normal query.
+fn refusal(error: BindError) -> Result<&'static str, AllocError> {
+    match error {
+        BindError::NoSource => Ok("no source"),
+        BindError::RootDiffers => Ok("root"),
+        BindError::Unbound => Ok("unbound"),
+        BindError::OutOfMemory => Err(AllocError),
+    }
+}
+
+/// What a statement means, or why it means nothing.
+fn meaning(alloc: Global, store: &Store, statement: &Statement) -> Result<Vec<u8>, AllocError>
+    requires { IsWellFormed statement.now }
+{
+    match bind(alloc, statement, store) {
+        Ok(query) => text_of(alloc, &query),
+        Err(error) => joined(alloc, &[refusal(error)?]),
+    }
+}
+
 /// The normal query of the statement, or why it has none.
 fn answer(alloc: Global, store: &Store, text: &[u8]) -> Result<Vec<u8>, Fail> {
     let statement = parse_statement(alloc, text)?;
-    match bind(alloc, &statement, store) {
-        Ok(query) => {
-            let mut out = Vec::new(alloc);
-            add_query(&mut out, &query)?;
-            Ok(out)
-        }
-        Err(BindError::NoSource) => Ok(joined(alloc, &["no source"])?),
-        Err(BindError::RootDiffers) => Ok(joined(alloc, &["root"])?),
-        Err(BindError::Unbound) => Ok(joined(alloc, &["unbound"])?),
-        Err(BindError::OutOfMemory) => Err(AllocError.into()),
-    }
+    Ok(meaning(alloc, store, &statement)?)
 }
 
 /// The statement of this text has this normal query.

@@ -306,6 +306,37 @@ fn take_turn<L: Ledger>(
 }
 
 /// Takes the turns one after the other.
+fn take_each<L: Ledger>(
+    rt: &impl Abort,
+    alloc: Global,
+    table: &mut GroupTable,
+    store: &mut Store,
+    turns: &[Turn],
+    steps: &mut Steps<L>,
+) -> Result<(), Fail>
+    requires { StandsFor store.old table.old }
+{
+    for turn in turns {
+        take_turn(rt, alloc, table, store, turn, steps)?;
+    }
+    let taken = turns.len() as u64;
+    assert!(rt; store.changes() == taken && table.number() == taken);
+    Ok(())
+}
+
+/// Takes the turns over a new table.
+fn take_all<L: Ledger>(
+    rt: &impl Abort,
+    alloc: Global,
+    store: &mut Store,
+    turns: &[Turn],
+    steps: &mut Steps<L>,
+) -> Result<(), Fail> {
+    let mut table = table_of(rt, alloc, store, JOINED, steps)?;
+    take_each(rt, alloc, &mut table, store, turns, steps)
+}
+
+/// Takes the turns over new sources.
 fn take_turns<L: Ledger>(
     rt: &impl Abort,
     host: &HostRuntime,
@@ -320,13 +351,7 @@ fn take_turns<L: Ledger>(
     let alloc = host.alloc();
     let mut steps = Steps::<L>::new(host, blank);
     let mut store = sources(alloc, seed)?;
-    let mut table = table_of(rt, alloc, &store, JOINED, &mut steps)?;
-    for turn in turns {
-        take_turn(rt, alloc, &mut table, &mut store, turn, &mut steps)?;
-    }
-    let taken = turns.len() as u64;
-    assert!(rt; store.changes() == taken && table.number() == taken);
-    Ok(())
+    take_all(rt, alloc, &mut store, turns, &mut steps)
 }
 
 #[test]

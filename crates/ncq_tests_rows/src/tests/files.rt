@@ -74,7 +74,7 @@ const HISTORIES: [(&[(u8, u64, u64)], [usize; 6], [usize; 6]); 13] = [
 ];
 
 /// Takes away all later rows.
-fn roll(file: &mut MidFile, n: u64)
+pub fn roll(file: &mut MidFile, n: u64)
     requires base { file.old.base ≤ n }
     requires sound { IsSound file.old.rows }
     requires one { AllByRecursion (λ r. length r.row ≡ 1) file.old.rows }
@@ -88,7 +88,7 @@ fn roll(file: &mut MidFile, n: u64)
 }
 
 /// Takes away all later rows, and makes the change the base.
-fn settle(alloc: Global, file: &mut MidFile, n: u64) -> Result<(), AllocError>
+pub fn settle(alloc: Global, file: &mut MidFile, n: u64) -> Result<(), AllocError>
     requires base { file.old.base ≤ n }
     requires sound { IsSound file.old.rows }
     requires one { AllByRecursion (λ r. length r.row ≡ 1) file.old.rows }
@@ -99,10 +99,12 @@ fn settle(alloc: Global, file: &mut MidFile, n: u64) -> Result<(), AllocError>
     file.compact(alloc, n)
 }
 
-/// A row of `a` comes at last.
-fn bring_again<L: Ledger>(
+/// A row of the letter comes at last, and stays.
+pub fn bring_again<L: Ledger>(
     alloc: Global,
     file: &mut MidFile,
+    letter: u8,
+    number: u64,
     steps: &mut Steps<L>,
 ) -> Result<(), AllocError>
     requires sound { IsSound file.old.rows }
@@ -110,11 +112,15 @@ fn bring_again<L: Ledger>(
     ensures sound { OnOk result (IsSound file.new.rows) }
     ensures wide { OnOk result (HaveSlots (0 ∷ []) file.new.rows) }
 {
-    bring(alloc, file, b'a', 6, 0, steps)
+    bring(alloc, file, letter, number, 0, steps)
 }
 
 /// The key of the rows with this letter.
-fn key<L: Ledger>(alloc: Global, letter: u8, steps: &mut Steps<L>) -> Result<RowKey, AllocError> {
+pub fn key<L: Ledger>(
+    alloc: Global,
+    letter: u8,
+    steps: &mut Steps<L>,
+) -> Result<RowKey, AllocError> {
     let mut key = RowKey::new(alloc);
     let rows = value_rows(alloc, &[letter], steps)?;
     if let Some(row) = rows.get(0) {
@@ -222,7 +228,7 @@ fn comes_again<L: Ledger>(
     }
     file.ensure_index(alloc, &[0])?;
     roll(&mut file, n);
-    bring_again(alloc, &mut file, steps)?;
+    bring_again(alloc, &mut file, b'a', 6, steps)?;
     let (_, places) = left(alloc, &file, key, 6)?;
     file.ensure_index(alloc, &[0])?;
     let (_, found) = left(alloc, &file, key, 6)?;

@@ -8,12 +8,14 @@ ghost use Rattle.ncq_plan.specs.Templates.{template_is_within};
 ghost use Rattle.ncq_plan.specs.WellFormed.{arms_width, equals_in, ranges_in, ArmsFit};
 ghost use Rattle.ncq_plan.specs.WellFormed.{IsWellFormed};
 ghost use Rattle.ncq_midfile.specs.Content.{IsSound};
+ghost use Rattle.ncq_midfile.specs.Shown.{shown, rows_below};
 
 use super::histories::file_of;
 use super::making::value_shape;
-use ncq_base::{Op, Steps, atom_of, bytes_of};
+use super::views::{range_of, view_of};
+use ncq_base::{End, Interval, Op, Steps, atom_of, bytes_of};
 use ncq_callback::Entries;
-use ncq_midfile::MidFile;
+use ncq_midfile::View;
 use ncq_news::news;
 use ncq_plan::{
     Arm, Arms, EqualTos, NormalQuery, Pairs, Side, SlotAttributes, SlotTemplate, SlotTemplates,
@@ -63,6 +65,52 @@ const FIRINGS: [(usize, Option<u64>, u64, &[(bool, u64, &str)]); 14] = [
     (2, Some(4), 4, &[]),
     (6, Some(7), 7, &[]),
     (6, Some(u64::MAX), u64::MAX, &[]),
+];
+
+/// Rows with numbers, as `HISTORY` has letters.
+const NUMBERS: [(u8, u64, u64); 6] = [
+    (b'2', 1, 0),
+    (b'3', 2, 4),
+    (b'4', 5, 0),
+    (b'4', 5, 0),
+    (b'5', 6, 0),
+    (b'1', 7, 0),
+];
+
+/// The ends of an interval, the mark, and what is told of the rows with a number of the interval at
+/// 7 changes.
+const PARTS: [(End, End, Option<u64>, &[(bool, u64, &str)]); 6] = [
+    (
+        End::Included(3_000_000),
+        End::Excluded(5_000_000),
+        None,
+        &[(true, 2, "(R\n-4\n)R\n")],
+    ),
+    (
+        End::Included(3_000_000),
+        End::Excluded(5_000_000),
+        Some(3),
+        &[(false, 1, "(R\n-3\n)R\n"), (true, 2, "(R\n-4\n)R\n")],
+    ),
+    (
+        End::Excluded(3_000_000),
+        End::Included(5_000_000),
+        Some(2),
+        &[(true, 2, "(R\n-4\n)R\n"), (true, 1, "(R\n-5\n)R\n")],
+    ),
+    (
+        End::Unbounded,
+        End::Excluded(3_000_000),
+        Some(1),
+        &[(true, 1, "(R\n-1\n)R\n")],
+    ),
+    (
+        End::Unbounded,
+        End::Excluded(3_000_000),
+        None,
+        &[(true, 1, "(R\n-1\n)R\n"), (true, 1, "(R\n-2\n)R\n")],
+    ),
+    (End::Excluded(5_000_000), End::Unbounded, Some(0), &[]),
 ];
 
 /// `<R>$0</>`
@@ -122,16 +170,16 @@ fn query(alloc: Global) -> Result<NormalQuery, AllocError>
     })
 }
 
-/// What is told of the file, where no row of it exceeds the number of changes.
-fn told(alloc: Global, file: &MidFile, mark: Option<u64>, now: u64) -> Result<Entries, AllocError>
-    requires sound { IsSound file.now.rows }
-    requires wide { AllByRecursion (λ r. length r.row ≡ 1) file.now.rows }
+/// What is told of the view, where no row of it exceeds the number of changes.
+fn told(alloc: Global, view: &View<'_>, mark: Option<u64>, now: u64) -> Result<Entries, AllocError>
+    requires sound { IsSound (shown view.now).rows }
+    requires wide { AllByRecursion (λ r. length r.row ≡ 1) (rows_below view.now) }
 {
     let query = query(alloc)?;
-    if file.base() != 0 || !file.rows_since(now).is_empty() {
+    if view.base() != 0 || view.last() > now {
         return Err(AllocError);
     }
-    news(alloc, &query, file, mark, now)
+    news(alloc, &query, view, mark, now)
 }
 
 /// Whether the entries are these, with their sign and count.
@@ -161,11 +209,39 @@ fn right_firings<L: Ledger>(rt: &HostRuntime, blank: Blank) -> Result<usize, All
         let (come, mark, now, want) = FIRINGS[at];
         let history = &HISTORY[..come.min(HISTORY.len())];
         let file = file_of(alloc, history, HISTORY.len(), &mut steps)?;
-        if !are_entries(&told(alloc, &file, mark, now)?, want) {
+        if !are_entries(&told(alloc, &View::Whole(&file), mark, now)?, want) {
             return Ok(at);
         }
     }
     Ok(FIRINGS.len())
+}
+
+/// How many of the parts tell what was worked out, up to the first that does not.
+fn right_parts<L: Ledger>(rt: &HostRuntime, blank: Blank) -> Result<usize, AllocError>
+    requires name { blank.name ≡ L.name }
+    requires parts { blank.parts ≡ L.parts }
+    requires some { 0 < L.parts }
+{
+    let alloc = rt.alloc();
+    let mut steps = Steps::<L>::new(rt, blank);
+    let whole = file_of(alloc, &[], 0, &mut steps)?;
+    let file = range_of(alloc, &NUMBERS, &mut steps)?;
+    for at in 0..PARTS.len() {
+        let (low, high, mark, want) = PARTS[at];
+        let part = Some((Interval { low, high }, 0));
+        let view = view_of(&whole, &file, &part);
+        if !are_entries(&told(alloc, &view, mark, 7)?, want) {
+            return Ok(at);
+        }
+    }
+    Ok(PARTS.len())
+}
+
+#[test]
+fn a_firing_tells_of_the_rows_of_an_interval_alone(rt: HostRuntime) -> Result<(), Fail> {
+    let right = right_parts::<Brand>(&rt, Blank::new(1))?;
+    assert_eq!(rt; right, PARTS.len());
+    Ok(())
 }
 
 #[test]

@@ -16,7 +16,7 @@ use std::alloc::{AllocError, Global};
 use std::sync::ledger::Ledger;
 
 /// Whether a row with this number may be appended.
-fn fits(file: &MidFile, number: u64) -> bool
+pub fn fits(file: &MidFile, number: u64) -> bool
     ensures above { IsTrue result → file.now.base < number }
     ensures last { IsTrue result → AllByRecursion (λ r. r.number ≤ number) file.now.rows }
 {
@@ -24,7 +24,7 @@ fn fits(file: &MidFile, number: u64) -> bool
 }
 
 /// The row with a number and a sign.
-fn signed<L: Ledger>(
+pub fn signed<L: Ledger>(
     alloc: Global,
     number: u64,
     plus: bool,

@@ -1,11 +1,14 @@
 //! Splits of rows with one value each, worked out by hand.
-ghost use Rattle.std.specs.Prelude.{◌≡◌, ◌<◌, length, IsTrue};
-ghost use Rattle.std.specs.List.{All};
+ghost use Rattle.std.specs.Prelude.{◌≡◌, ◌<◌, ◌≤◌, length, IfOk, OnOk};
+ghost use Rattle.std.specs.List.{AllByRecursion};
+ghost use Rattle.ncq_midfile.specs.Shown.{rows_below};
 
+use super::histories::{fits, signed};
 use super::making::value_rows;
 use ncq_base::{End, FileId, Interval, Steps, atom_of};
 use ncq_consttab::{EqTable, RangeTable};
-use ncq_midfile::SignedRow;
+use ncq_midfile::{MidFile, SignedRow, SignedRows, View};
+use ncq_row::Rows;
 use ncq_split::{Parcels, split_equal, split_range};
 use std::alloc::{AllocError, Global};
 use std::marker::Brand;
@@ -31,10 +34,6 @@ const ROWS: [(&str, u64, bool); 12] = [
 /// Constants and their files.
 const CONSTANTS: [(&str, u64); 4] = [("ab", 3), ("2", 5), ("1", 7), ("abc", 8)];
 
-/// The file of each parcel, and its row. A number is met however it is spelled, a text by its very
-/// bytes alone.
-const EQUAL: [(u64, usize); 4] = [(7, 0), (3, 1), (7, 2), (7, 4)];
-
 /// Intervals and their files, in an order that is not the files'. Nothing lies in the last.
 const INTERVALS: [(End, End, u64); 4] = [
     (End::Included(1_000_000), End::Unbounded, 9),
@@ -43,74 +42,124 @@ const INTERVALS: [(End, End, u64); 4] = [
     (End::Excluded(1_000_000), End::Included(1_000_000), 11),
 ];
 
-/// The file of each parcel, and its row. No interval holds a text.
-const RANGE: [(u64, usize); 16] = [
-    (4, 0),
-    (9, 0),
-    (4, 2),
-    (9, 2),
-    // Three intervals hold 3: its files stand by rising number.
-    (2, 3),
-    (4, 3),
-    (9, 3),
-    (4, 4),
-    (9, 4),
-    (2, 5),
-    (4, 5),
-    (9, 5),
-    // The ends: the last that is in, and the first that is not.
-    (4, 6),
-    (9, 6),
-    (9, 7),
-    (4, 8),
+/// The number of a change, the file and the row of each parcel that a constant gets from it on, and
+/// each row that some interval holds. A number is met however it is spelled, a text by its very
+/// bytes alone. A row that three intervals hold stands once, and no interval holds a text.
+const SPLITS: [(u64, &[(u64, usize)], &[usize]); 8] = [
+    (
+        1,
+        &[(7, 0), (3, 1), (7, 2), (7, 4)],
+        &[0, 2, 3, 4, 5, 6, 7, 8],
+    ),
+    (
+        5,
+        &[(7, 0), (3, 1), (7, 2), (7, 4)],
+        &[0, 2, 3, 4, 5, 6, 7, 8],
+    ),
+    (6, &[(7, 2), (7, 4)], &[2, 3, 4, 5, 6, 7, 8]),
+    (7, &[(7, 4)], &[3, 4, 5, 6, 7, 8]),
+    (10, &[], &[6, 7, 8]),
+    (11, &[], &[8]),
+    (12, &[], &[]),
+    (u64::MAX, &[], &[]),
 ];
 
-/// The rows of the table.
-fn signed_rows<L: Ledger>(
-    alloc: Global,
-    steps: &mut Steps<L>,
-) -> Result<Vec<SignedRow>, AllocError> {
-    let mut signed = Vec::new(alloc);
-    for (text, number, plus) in ROWS {
-        for row in value_rows(alloc, text.as_bytes(), steps)?.into_vec() {
-            signed.push(SignedRow { number, plus, row })?;
-        }
-    }
-    Ok(signed)
-}
-
-/// Whether each of the rows has a value.
-fn have_values(rows: &[SignedRow]) -> bool
-    ensures { IsTrue result → All (λ signed. 0 < length signed.row) rows.now }
+/// One row more.
+fn append(file: &mut MidFile, row: SignedRow) -> Result<(), AllocError>
+    requires above { file.old.base < row.number }
+    requires last { AllByRecursion (λ r. r.number ≤ row.number) file.old.rows }
+    requires single { length row.row ≡ 1 }
+    requires one { AllByRecursion (λ r. length r.row ≡ 1) file.old.rows }
+    ensures { OnOk result (AllByRecursion (λ r. length r.row ≡ 1) file.new.rows) }
 {
-    for signed in rows {
-        if signed.row.len() == 0 {
-            return false;
-        }
-    }
-    true
+    file.append(row)
 }
 
-/// Whether the parcels are for these files, and have the numbers, the signs and the values of these
-/// rows.
-fn are_parcels(parcels: &Parcels, rows: &[SignedRow], want: &[(u64, usize)]) -> bool {
+/// The rows of a text.
+fn append_text<L: Ledger>(
+    alloc: Global,
+    file: &mut MidFile,
+    text: &str,
+    number: u64,
+    plus: bool,
+    steps: &mut Steps<L>,
+) -> Result<(), AllocError>
+    requires { AllByRecursion (λ r. length r.row ≡ 1) file.old.rows }
+    ensures { OnOk result (AllByRecursion (λ r. length r.row ≡ 1) file.new.rows) }
+{
+    let rows = value_rows(alloc, text.as_bytes(), steps)?;
+    let Some(row) = rows.get(0) else {
+        return Err(AllocError);
+    };
+    if row.len() != 1 || !fits(file, number) {
+        return Err(AllocError);
+    }
+    append(file, signed(alloc, number, plus, row, steps)?)
+}
+
+/// A file with the rows of the table.
+fn file_of_rows<L: Ledger>(alloc: Global, steps: &mut Steps<L>) -> Result<MidFile, AllocError>
+    ensures { IfOk result (λ f. AllByRecursion (λ r. length r.row ≡ 1) f.rows) }
+{
+    let mut file = MidFile::new(alloc, 0, Rows::new(alloc))?;
+    for (text, number, plus) in ROWS {
+        append_text(alloc, &mut file, text, number, plus, steps)?;
+    }
+    Ok(file)
+}
+
+/// Whether the row has the number, the sign and the value of the row of the table.
+fn is_row<L: Ledger>(
+    alloc: Global,
+    row: &SignedRow,
+    at: usize,
+    steps: &mut Steps<L>,
+) -> Result<bool, AllocError> {
+    let Some((text, number, plus)) = ROWS.get(at) else {
+        return Ok(false);
+    };
+    let rows = value_rows(alloc, text.as_bytes(), steps)?;
+    let Some(given) = rows.get(0) else {
+        return Ok(false);
+    };
+    Ok(row.number == *number && row.plus == *plus && row.row.equal(given))
+}
+
+/// Whether these are the rows of the table at the places.
+fn are_rows<L: Ledger>(
+    alloc: Global,
+    rows: &SignedRows,
+    want: &[usize],
+    steps: &mut Steps<L>,
+) -> Result<bool, AllocError> {
+    for i in 0..want.len() {
+        let Some(row) = rows.get(i) else {
+            return Ok(false);
+        };
+        if !is_row(alloc, row, want[i], steps)? {
+            return Ok(false);
+        }
+    }
+    Ok(rows.len() == want.len())
+}
+
+/// Whether the parcels are for these files, and have the rows of the table at the places.
+fn are_parcels<L: Ledger>(
+    alloc: Global,
+    parcels: &Parcels,
+    want: &[(u64, usize)],
+    steps: &mut Steps<L>,
+) -> Result<bool, AllocError> {
     for i in 0..want.len() {
         let (file, at) = want[i];
-        let (Some(parcel), Some(given)) = (parcels.get(i), rows.get(at)) else {
-            return false;
+        let Some(parcel) = parcels.get(i) else {
+            return Ok(false);
         };
-        let Some((_, number, plus)) = ROWS.get(at) else {
-            return false;
-        };
-        let row = &parcel.row;
-        if parcel.file.0 != file || row.number != *number || row.plus != *plus {
-            return false;
-        }
-        if !row.row.equal(&given.row) {
-            return false;
+        if parcel.file.0 != file || !is_row(alloc, &parcel.row, at, steps)? {
+            return Ok(false);
         }
     }
-    parcels.len() == want.len()
+    Ok(parcels.len() == want.len())
 }
 
 /// The table of the constants.
@@ -137,26 +186,50 @@ fn intervals(alloc: Global) -> Result<RangeTable, AllocError> {
     Ok(table)
 }
 
-/// Whether both splits give the parcels that were worked out.
-fn are_split<L: Ledger>(rt: &HostRuntime, blank: Blank) -> Result<bool, AllocError>
+/// Whether the rows of the change give these parcels, and these rows are held.
+fn is_split<L: Ledger>(
+    alloc: Global,
+    tables: (&EqTable, &RangeTable),
+    input: &View<'_>,
+    number: u64,
+    parcels: &[(u64, usize)],
+    held: &[usize],
+    steps: &mut Steps<L>,
+) -> Result<bool, AllocError>
+    requires { AllByRecursion (λ r. length r.row ≡ 1) (rows_below input.now) }
+{
+    if input.base() >= number {
+        return Ok(false);
+    }
+    let equal = split_equal(alloc, tables.0, 0, input, number, steps)?;
+    let range = split_range(alloc, tables.1, 0, input, number, steps)?;
+    Ok(are_parcels(alloc, &equal, parcels, steps)? && are_rows(alloc, &range, held, steps)?)
+}
+
+/// How many of the splits give what was worked out, up to the first that does not.
+fn right_splits<L: Ledger>(rt: &HostRuntime, blank: Blank) -> Result<usize, AllocError>
     requires name { blank.name ≡ L.name }
     requires parts { blank.parts ≡ L.parts }
     requires some { 0 < L.parts }
 {
     let alloc = rt.alloc();
     let mut steps = Steps::<L>::new(rt, blank);
-    let rows = signed_rows(alloc, &mut steps)?;
-    let rows = rows.as_slice();
-    if !have_values(rows) {
-        return Ok(false);
+    let file = file_of_rows(alloc, &mut steps)?;
+    let (constants, intervals) = (constants(alloc)?, intervals(alloc)?);
+    let tables = (&constants, &intervals);
+    for at in 0..SPLITS.len() {
+        let (number, parcels, held) = SPLITS[at];
+        let view = View::Whole(&file);
+        if !is_split(alloc, tables, &view, number, parcels, held, &mut steps)? {
+            return Ok(at);
+        }
     }
-    let equal = split_equal(alloc, &constants(alloc)?, 0, rows, &mut steps)?;
-    let range = split_range(alloc, &intervals(alloc)?, 0, rows, &mut steps)?;
-    Ok(are_parcels(&equal, rows, &EQUAL) && are_parcels(&range, rows, &RANGE))
+    Ok(SPLITS.len())
 }
 
 #[test]
 fn a_row_goes_to_the_files_whose_constants_it_meets(rt: HostRuntime) -> Result<(), Fail> {
-    assert!(rt; are_split::<Brand>(&rt, Blank::new(1))?);
+    let right = right_splits::<Brand>(&rt, Blank::new(1))?;
+    assert_eq!(rt; right, SPLITS.len());
     Ok(())
 }

@@ -1,7 +1,7 @@
-use Rattle.ncq_tests_group.proofs.tests.tables.take_turns.Goals as goal
+use Rattle.ncq_tests_group.proofs.tests.tables.take_each.Goals as goal
 
 pub loop-turn-init : goal.loop-turn-init
-loop-turn-init g c = c.in_ok-table.ensures
+loop-turn-init g c = c.requires
 
 pub take_turn-requires : goal.take_turn-requires
 take_turn-requires g c = c.loop-turn.invariant

@@ -1,0 +1,360 @@
+//! Tables of intervals and files of range groups, worked out by hand. Each row has one value.
+ghost use Rattle.std.specs.Prelude.{◌≡◌, ◌<◌, ◌≤◌, length, IsTrue};
+ghost use Rattle.std.specs.List.{All, AllByRecursion};
+ghost use Rattle.ncq_midfile.specs.Shown.{rows_below};
+ghost use Rattle.ncq_midfile.specs.Views.{HasNumber};
+
+use super::making::value_rows;
+use ncq_base::{Atom, End, FileId, Interval, Steps, atom_of};
+use ncq_consttab::RangeTable;
+use ncq_midfile::{RangeFile, SignedRow, View};
+use ncq_row::Row;
+use std::alloc::{AllocError, Global};
+use std::marker::Brand;
+use std::sync::ledger::{Blank, Ledger};
+use std::test::Fail;
+
+/// The interval of all numbers.
+pub const ALL: Interval = Interval {
+    low: End::Unbounded,
+    high: End::Unbounded,
+};
+
+/// From 2 on, without 4 and above.
+const TWO_TO_FOUR: Interval = Interval {
+    low: End::Included(2_000_000),
+    high: End::Excluded(4_000_000),
+};
+
+/// Above 3, up to 5.
+const THREE_TO_FIVE: Interval = Interval {
+    low: End::Excluded(3_000_000),
+    high: End::Included(5_000_000),
+};
+
+/// No number lies in it.
+const NONE: Interval = Interval {
+    low: End::Excluded(3_000_000),
+    high: End::Included(3_000_000),
+};
+
+/// Texts, and whether some interval holds them: where there is none, with `TWO_TO_FOUR`, with
+/// `THREE_TO_FIVE` too, and with all three.
+const HELD: [(&str, [bool; 4]); 12] = [
+    ("1.999999", [false, false, false, false]),
+    ("2", [false, true, true, true]),
+    ("3", [false, true, true, true]),
+    ("+3.0", [false, true, true, true]),
+    ("3.000001", [false, true, true, true]),
+    ("3.999999", [false, true, true, true]),
+    ("4", [false, false, true, true]),
+    ("5", [false, false, true, true]),
+    ("5.000001", [false, false, false, false]),
+    ("-3", [false, false, false, false]),
+    ("", [false, false, false, false]),
+    ("three", [false, false, false, false]),
+];
+
+/// What is done to a range file.
+enum Turn {
+    /// A row of the text comes in or goes out with a change.
+    Add(&'static str, u64, bool),
+    /// The rows stay that some of the intervals holds.
+    Keep(&'static [Interval]),
+    /// The interval goes, and these stand.
+    Without(Interval, &'static [Interval]),
+    Cut(u64),
+    Fold(u64),
+    Index,
+    Lose,
+}
+
+/// Turns of a file, and the value, the number and the sign of each row that it then has.
+const TURNS: [(&[Turn], &[(i128, u64, bool)]); 14] = [
+    (&[], &[]),
+    (
+        &[Turn::Index, Turn::Lose, Turn::Cut(0), Turn::Keep(&[])],
+        &[],
+    ),
+    (
+        &[Turn::Add("3", 1, true), Turn::Add("3", 1, true)],
+        &[(3_000_000, 1, true), (3_000_000, 1, true)],
+    ),
+    // A row that went out stays as one that did.
+    (
+        &[
+            Turn::Add("2", 1, true),
+            Turn::Lose,
+            Turn::Add("2", 4, false),
+        ],
+        &[(2_000_000, 1, true), (2_000_000, 4, false)],
+    ),
+    // Of the intervals any holds a row.
+    (
+        &[
+            Turn::Add("2", 1, true),
+            Turn::Add("5", 2, true),
+            Turn::Add("6", 3, false),
+            Turn::Add("3.5", 3, true),
+            Turn::Keep(&[TWO_TO_FOUR, THREE_TO_FIVE]),
+        ],
+        &[
+            (2_000_000, 1, true),
+            (5_000_000, 2, true),
+            (3_500_000, 3, true),
+        ],
+    ),
+    (
+        &[
+            Turn::Add("2", 1, true),
+            Turn::Add("5", 2, true),
+            Turn::Index,
+            Turn::Keep(&[THREE_TO_FIVE, NONE]),
+            Turn::Add("4", 2, true),
+        ],
+        &[(5_000_000, 2, true), (4_000_000, 2, true)],
+    ),
+    (&[Turn::Add("2", 1, true), Turn::Keep(&[])], &[]),
+    // What another interval holds stays.
+    (
+        &[
+            Turn::Add("2", 1, true),
+            Turn::Add("3.5", 2, true),
+            Turn::Add("3.5", 3, false),
+            Turn::Without(TWO_TO_FOUR, &[NONE, THREE_TO_FIVE]),
+        ],
+        &[(3_500_000, 2, true), (3_500_000, 3, false)],
+    ),
+    // What no interval holds goes, if the one that goes has it.
+    (
+        &[
+            Turn::Add("3", 1, true),
+            Turn::Add("7", 1, true),
+            Turn::Index,
+            Turn::Without(TWO_TO_FOUR, &[]),
+        ],
+        &[(7_000_000, 1, true)],
+    ),
+    // The ends: the last that is in, and the first that is not.
+    (
+        &[
+            Turn::Add("2", 1, true),
+            Turn::Add("1.999999", 1, true),
+            Turn::Add("3.999999", 1, true),
+            Turn::Add("4", 1, true),
+            Turn::Without(TWO_TO_FOUR, &[NONE]),
+        ],
+        &[(1_999_999, 1, true), (4_000_000, 1, true)],
+    ),
+    // Later rows go, and others come.
+    (
+        &[
+            Turn::Add("1", 1, true),
+            Turn::Add("2", 2, true),
+            Turn::Index,
+            Turn::Add("3", 3, true),
+            Turn::Cut(2),
+            Turn::Add("4", 2, true),
+        ],
+        &[
+            (1_000_000, 1, true),
+            (2_000_000, 2, true),
+            (4_000_000, 2, true),
+        ],
+    ),
+    (&[Turn::Add("1", 1, true), Turn::Cut(0)], &[]),
+    // Of a pair both go, where both have such a number.
+    (
+        &[
+            Turn::Add("1", 1, true),
+            Turn::Add("2", 1, true),
+            Turn::Add("1", 3, false),
+            Turn::Fold(3),
+        ],
+        &[(2_000_000, 1, true)],
+    ),
+    (
+        &[
+            Turn::Add("1", 1, true),
+            Turn::Add("1", 3, false),
+            Turn::Fold(2),
+        ],
+        &[(1_000_000, 1, true), (1_000_000, 3, false)],
+    ),
+];
+
+/// A table of the intervals, which have the files 0, 1 and so on.
+pub fn table_of(alloc: Global, intervals: &[Interval]) -> Result<RangeTable, AllocError> {
+    let mut table = RangeTable::new(alloc);
+    for at in 0..intervals.len() {
+        if table.find(&intervals[at]).is_none() {
+            table.insert(intervals[at], FileId(at as u64))?;
+        }
+    }
+    Ok(table)
+}
+
+/// Whether a row with this number may be added.
+pub fn fits(file: &RangeFile, number: u64) -> bool
+    ensures { IsTrue result → AllByRecursion (λ r. r.number ≤ number) file.now.rows }
+{
+    let slot = file.slot();
+    let view = View::Ranged {
+        file,
+        interval: &ALL,
+        base: 0,
+    };
+    slot == 0 && view.last() <= number
+}
+
+/// Whether the row has a number in the slot.
+pub fn has_number(row: &Row, slot: usize) -> bool
+    ensures { IsTrue result → HasNumber slot row.now }
+{
+    if slot >= row.len() {
+        return false;
+    }
+    match row.atom(slot) {
+        Atom::Num(_) => true,
+        Atom::Text(_) => false,
+    }
+}
+
+/// A row of the text comes in or goes out.
+pub fn add<L: Ledger>(
+    alloc: Global,
+    file: &mut RangeFile,
+    text: &str,
+    number: u64,
+    plus: bool,
+    steps: &mut Steps<L>,
+) -> Result<(), AllocError> {
+    for row in value_rows(alloc, text.as_bytes(), steps)?.into_vec() {
+        if !has_number(&row, file.slot()) || !fits(file, number) {
+            return Err(AllocError);
+        }
+        file.add(SignedRow { number, plus, row })?;
+    }
+    Ok(())
+}
+
+/// Rows are found by their number from now on.
+pub fn keep_index(alloc: Global, file: &mut RangeFile) -> Result<(), AllocError>
+    ensures { file.new ≡ file.old }
+{
+    let slot = file.slot();
+    file.ensure_index(alloc, &[slot])
+}
+
+/// The turn is taken.
+fn take_turn<L: Ledger>(
+    alloc: Global,
+    file: &mut RangeFile,
+    turn: &Turn,
+    steps: &mut Steps<L>,
+) -> Result<(), AllocError> {
+    match turn {
+        Turn::Add(text, number, plus) => add(alloc, file, text, *number, *plus, steps)?,
+        Turn::Keep(intervals) => file.keep(intervals),
+        Turn::Without(gone, standing) => {
+            let table = table_of(alloc, standing)?;
+            file.keep_without(gone, &table);
+        }
+        Turn::Cut(number) => file.cut(*number),
+        Turn::Fold(number) => file.fold(alloc, *number)?,
+        Turn::Index => keep_index(alloc, file)?,
+        Turn::Lose => file.drop_index(&[0]),
+    }
+    Ok(())
+}
+
+/// The value of the row, which is -1 where it has no number, with its number and its sign.
+pub fn told(signed: &SignedRow) -> (i128, u64, bool) {
+    let mut value = -1;
+    if signed.row.len() == 1 {
+        if let Atom::Num(number) = signed.row.atom(0) {
+            value = *number;
+        }
+    }
+    (value, signed.number, signed.plus)
+}
+
+/// Whether these are the values, the numbers and the signs of the rows at the places.
+fn are_rows(
+    alloc: Global,
+    view: &View<'_>,
+    places: &[usize],
+    want: &[(i128, u64, bool)],
+) -> Result<bool, AllocError>
+    requires { All (λ place. place < length (rows_below view.now)) places.now }
+{
+    let mut seen = Vec::new(alloc);
+    for place in places {
+        seen.push(told(view.signed(*place)))?;
+    }
+    Ok(seen.as_slice() == want)
+}
+
+/// Whether the turns leave these rows.
+fn leave<L: Ledger>(
+    alloc: Global,
+    turns: &[Turn],
+    want: &[(i128, u64, bool)],
+    steps: &mut Steps<L>,
+) -> Result<bool, AllocError> {
+    let mut file = RangeFile::new(alloc, 0);
+    for turn in turns {
+        take_turn(alloc, &mut file, turn, steps)?;
+    }
+    let view = View::Ranged {
+        file: &file,
+        interval: &ALL,
+        base: 0,
+    };
+    let places = view.places(alloc)?;
+    are_rows(alloc, &view, places.as_slice(), want)
+}
+
+/// How many of the turns leave what was worked out, up to the first that do not.
+fn right_turns<L: Ledger>(rt: &HostRuntime, blank: Blank) -> Result<usize, AllocError>
+    requires name { blank.name ≡ L.name }
+    requires parts { blank.parts ≡ L.parts }
+    requires some { 0 < L.parts }
+{
+    let alloc = rt.alloc();
+    let mut steps = Steps::<L>::new(rt, blank);
+    for at in 0..TURNS.len() {
+        let (turns, want) = &TURNS[at];
+        if !leave(alloc, turns, want, &mut steps)? {
+            return Ok(at);
+        }
+    }
+    Ok(TURNS.len())
+}
+
+#[test]
+fn a_range_file_keeps_what_some_interval_holds(rt: HostRuntime) -> Result<(), Fail> {
+    let right = right_turns::<Brand>(&rt, Blank::new(1))?;
+    assert_eq!(rt; right, TURNS.len());
+    Ok(())
+}
+
+#[test]
+fn a_table_holds_what_some_interval_holds(rt: HostRuntime) -> Result<(), Fail> {
+    let alloc = rt.alloc();
+    let intervals = [TWO_TO_FOUR, THREE_TO_FIVE, NONE];
+    for count in 0..4usize {
+        let table = table_of(alloc, &intervals[..count])?;
+        assert_eq!(rt; table.intervals(), &intervals[..count]);
+        for (text, held) in HELD {
+            let atom = atom_of(alloc, text.as_bytes())?;
+            assert_eq!(rt; table.holds(&atom), held[count], "{text} of {count}");
+        }
+    }
+    let mut table = table_of(alloc, &intervals)?;
+    table.remove(&TWO_TO_FOUR);
+    assert_eq!(rt; table.intervals(), [NONE, THREE_TO_FIVE].as_slice());
+    assert!(rt; !table.holds(&Atom::Num(3_000_000)));
+    assert!(rt; table.holds(&Atom::Num(3_000_001)));
+    Ok(())
+}
