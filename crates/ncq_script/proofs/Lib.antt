@@ -16,3 +16,5 @@ mod Following
 mod SpellLaws
 mod ScriptLaws
 mod TextLaws
+mod Written
+mod ReadLaws

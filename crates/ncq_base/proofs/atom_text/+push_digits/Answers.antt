@@ -1,8 +1,8 @@
-use Rattle.std.proofs.Common.{◌≢◌, ◌-◌, ◌*◌, ◌%◌, ◌++◌, [], ◌∷◌, sym, ap, ◌∙◌, append_assoc, arith}
+use Rattle.std.proofs.Common.{◌≢◌, ◌-◌, ◌*◌, ◌%◌, ◌++◌, [], ◌∷◌, sym, ap, ◌∙◌, arith}
 use Rattle.std.proofs.lemmas.Result.{on_ok_weaker}
 use Rattle.ncq_base.specs.AtomTexts.{fraction_digits}
 use Rattle.ncq_base.proofs.FractionLaws.{digits_next}
-use Rattle.ncq_base.proofs.Written.{front_still}
+use Rattle.ncq_base.proofs.Written.{front_still, two_written}
 use Rattle.ncq_base.proofs.atom_text.+push_digits.Goals as goal
 
 pub returns-clause-ok : goal.returns-clause-ok
@@ -13,8 +13,7 @@ returns-clause-ok t c =
     let left : c.args.fraction ≢ 0 = omega arith in
     on_ok_weaker c.push_digits.result
     (λ h.
-    h ∙ ap (λ xs. xs ++ rest) c.in_ok-push.ensures.items
-    ∙ append_assoc out (c.first_digit.result ∷ []) rest
+    two_written out (c.first_digit.result ∷ []) rest c.push.new.self.items c.push_digits.new.out.items c.in_ok-push.ensures.items h
     ∙ ap (λ d. out ++ d ∷ rest) c.first_digit.ensures
     ∙ ap (λ xs. out ++ xs) (sym (digits_next c.args.most c.args.fraction some left)))
     c.push_digits.ensures.ok
