@@ -12,7 +12,7 @@ use Rattle.ncq_plan.specs.declared.expr.Expr.TheOpen.Expr-F.{Scan as ScanLayer, 
 use Rattle.ncq_plan.specs.Exprs.{expr_width}
 use Rattle.ncq_row.specs.Embeddings.{Row}
 use Rattle.ncq_midfile.specs.Content.{gains, losses, rows_of, up_to}
-use Rattle.ncq_midfile.specs.Made.{gained_at}
+use Rattle.ncq_midfile.specs.Files.{IsThere}
 use Rattle.ncq_midfile.specs.declared.signed.SignedRow.{SignedRow}
 use Rattle.ncq_fill.proofs.FileLaws.{wide_same}
 use Rattle.ncq_shelf.specs.KeptFiles.{KeptFile, Files}
@@ -20,7 +20,6 @@ use Rattle.ncq_shelf.specs.Contents.{IsUpTo, IsWide, HoldsItsContent, IsCompacte
 use Rattle.ncq_shelf.specs.Ranges.{IsRange}
 use Rattle.ncq_shelf.proofs.CallerLemmas.{put_same, put_other, one_value}
 use Rattle.ncq_group.specs.Tables.{TableState, Facts}
-use Rattle.ncq_group.proofs.Fresh.{fresh_wide}
 use Rattle.ncq_group.proofs.SameTable.{HaveLike, facts_like, wide_up_to}
 
 gains_wide : (width : ℕ) (rows : List SignedRow) → AllByRecursion (λ r. length r.row ≡ width) rows → AllByRecursion (λ row. length row ≡ width) (gains rows)
@@ -35,9 +34,14 @@ front_wide : (width : ℕ) (rows more : List Row) → AllByRecursion (λ row. le
 front_wide width [] more all = tt
 front_wide width (row ∷ rows) more all = (all.0, front_wide width rows more all.1)
 
-made_last : (change : ℕ) (rows : List Row) → AllByRecursion (λ r. r.number ≤ change) (map (gained_at change) rows)
-made_last change [] = tt
-made_last change (row ∷ rows) = (omega arith, made_last change rows)
+there_last : (change : ℕ) (rows : List SignedRow) → AllByRecursion (IsThere change) rows → AllByRecursion (λ r. r.number ≤ change) rows
+there_last change [] all = tt
+there_last change (r ∷ rows) all = (all.0.0, there_last change rows all.1)
+
+-- rows are as wide as what they are rows of
+rows_wide : (width : ℕ) (rows : List SignedRow) → AllByRecursion (λ row. length row ≡ width) (rows_of rows) → AllByRecursion (λ r. length r.row ≡ width) rows
+rows_wide width [] all = tt
+rows_wide width (r ∷ rows) all = (all.0, rows_wide width rows all.1)
 
 -- an expression selects by an interval, or it doesn't
 range_layer : (inner : Expr) (slot : ℕ) (interval : Interval) → out-Expr (RangeSel inner slot interval) ≡ RangeLayer inner slot interval
@@ -63,13 +67,13 @@ module _ (change now : ℕ) (old new : KeptFile) (is : IsCompacted change old ne
       let width = expr_width old.expr in
       let list = rows_of new.content.rows in
       let all = wide_same width (list ++ losses (up_to change old.content.rows)) (gains (up_to change old.content.rows)) holds.content (gains_wide width (up_to change old.content.rows) (wide_up_to change width old.content.rows wide)) in
-      let made = fresh_wide change width list (front_wide width list (losses (up_to change old.content.rows)) all) in
-      subst (λ e. AllByRecursion (λ r. length r.row ≡ expr_width e) new.content.rows) (sym is.expr) (subst (λ rows. AllByRecursion (λ r. length r.row ≡ width) rows) (sym holds.gains) made)
+      let made = rows_wide width new.content.rows (front_wide width list (losses (up_to change old.content.rows)) all) in
+      subst (λ e. AllByRecursion (λ r. length r.row ≡ expr_width e) new.content.rows) (sym is.expr) made
 
   own_last : change ≤ now → IsUpTo now new.content
   own_last less = record {
     base = let b = is.base in omega arith;
-    last = at_most change now new.content.rows (subst (λ rows. AllByRecursion (λ r. r.number ≤ change) rows) (sym holds.gains) (made_last change (rows_of new.content.rows))) less;
+    last = at_most change now new.content.rows (there_last change new.content.rows holds.there) less;
   }
 
 -- any file: one that selects by an interval keeps its rows

@@ -1,6 +1,6 @@
 //! The table of shared files.
 ghost use Rattle.std.specs.Prelude.{◌≡◌, ℕ, ◌+◌, ◌-◌, ◌<◌, ◌≤◌, ◌^◌, List};
-ghost use Rattle.std.specs.Prelude.{length, IfOk, IfSome, IfNone, OnOk, OnErr};
+ghost use Rattle.std.specs.Prelude.{◌↔◌, length, IfOk, IfSome, IfNone, IsTrue, OnOk, OnErr};
 ghost use Rattle.std.specs.FinMap.{empty, get, insert, len};
 ghost use Rattle.std.specs.List.{AllByRecursion};
 ghost use Rattle.std.specs.Option.{option_map};
@@ -105,6 +105,13 @@ impl GroupTable {
         ensures { result ≡ len self.now.files }
     {
         self.filed.shelf.len()
+    }
+
+    /// Whether there is a file of this number. It takes no memory.
+    pub fn has(&self, file: FileId) -> bool
+        ensures { IsTrue result ↔ IsThere self.now.files file.0 }
+    {
+        self.filed.shelf.has(file.0)
     }
 
     /// The rows of a file, which may be a part of others. Each row below it has a value for each

@@ -1,24 +1,35 @@
 -- The rows of an interval up to a number, from one place on.
-use Rattle.std.proofs.Common.{◌≡◌, ℕ, zero, suc, ◌+◌, ◌-◌, ◌≤◌, inl, inr, Bool, List, [], ◌∷◌, ◌++◌, filter, length, take, drop, nat_le, max, sym, ◌∙◌, ap, arith}
+use Rattle.std.proofs.Common.{◌≡◌, ℕ, zero, suc, ◌+◌, ◌-◌, ◌≤◌, inl, inr, Bool, true, false, ◌&&◌, List, [], ◌∷◌, ◌++◌, filter, length, take, drop, nat_le, max, refl, sym, ◌∙◌, ap, arith}
 use Rattle.std.specs.List.{AllByRecursion}
 use Rattle.std.proofs.lemmas.Bool.{cases_lt}
 use Rattle.std.proofs.lemmas.List.{drop_all, drop-take, drop-drop, length-take}
 use Rattle.ncq_base.specs.declared.interval.Interval.{Interval}
 use Rattle.ncq_midfile.specs.Content.{up_to, since, signed_at}
 use Rattle.ncq_midfile.specs.Matching.{places_where}
-use Rattle.ncq_midfile.specs.Ranged.{is_early}
+use Rattle.ncq_midfile.specs.Ranged.{is_early, is_early_of_both}
 use Rattle.ncq_midfile.specs.Views.{is_within, of_rows}
 use Rattle.ncq_midfile.specs.declared.signed.SignedRow.{SignedRow}
 use Rattle.ncq_midfile.proofs.Foldeds.{up_all}
 use Rattle.ncq_midfile.proofs.IndexLaws.{places_split}
-use Rattle.ncq_midfile.proofs.Withins.{filter_both, filter_swap, early_of, from_signed, since_of}
+use Rattle.ncq_midfile.proofs.Withins.{filter_both, both_signed, early_of, from_signed, since_of}
 
--- the rows of two intervals up to a number
-pub early_both : (slot outer_slot : ℕ) (interval outer : Interval) (n : ℕ) (rows : List SignedRow)
-    → filter (is_early outer_slot outer n) (of_rows (is_within slot interval) rows) ≡ up_to n (of_rows (is_within slot interval) (of_rows (is_within outer_slot outer) rows))
-early_both slot outer_slot interval outer n rows =
-    early_of outer_slot outer n (of_rows (is_within slot interval) rows)
-    ∙ ap (up_to n) (filter_swap (λ r. is_within outer_slot outer r.row) (λ r. is_within slot interval r.row) rows)
+module _ (slot outer_slot : ℕ) (interval outer : Interval) (n : ℕ) (rows : List SignedRow) where
+  -- the rows of two intervals up to a number
+  pub both_signed_at : signed_at (places_where (is_early_of_both slot interval outer_slot outer n) 0 rows) rows ≡ up_to n (of_rows (is_within slot interval) (of_rows (is_within outer_slot outer) rows))
+  both_signed_at =
+      both_signed (is_early slot interval n) (λ r. is_within outer_slot outer r.row) rows
+      ∙ early_of slot interval n (of_rows (is_within outer_slot outer) rows)
+
+  -- it is the same whichever interval comes first
+  pub both_turned : places_where (λ r. is_early outer_slot outer n r && is_within slot interval r.row) 0 rows ≡ places_where (is_early_of_both slot interval outer_slot outer n) 0 rows
+  both_turned = λ i. places_where (λ r. turned (nat_le r.number n) (is_within outer_slot outer r.row) (is_within slot interval r.row) i) 0 rows
+    where
+      turned : (a b c : Bool) → (a && b && c) ≡ (a && c && b)
+      turned true true true = refl
+      turned true true false = refl
+      turned true false true = refl
+      turned true false false = refl
+      turned false b c = refl
 
 pub all_drop : {A : Type 0} (P : A → Type 0) (n : ℕ) (xs : List A) → AllByRecursion P xs → AllByRecursion P (drop n xs)
 all_drop P zero xs a = a

@@ -1,5 +1,4 @@
 pub mod ByValue
-pub mod ChainKeeps
 pub mod ChainLaws
 pub mod Compacts
 pub mod Counted
@@ -8,6 +7,8 @@ pub mod Contents
 pub mod Cuts
 pub mod Early
 pub mod FedLaws
+pub mod FileLaws
+pub mod FinderLaws
 pub mod FoldLaws
 pub mod Foldeds
 pub mod Gathers
@@ -16,11 +17,13 @@ pub mod Kept
 pub mod Left
 pub mod Matches
 pub mod OrderLaws
+pub mod PairLaws
 pub mod Parts
 pub mod Rangeds
 pub mod SameAtoms
 pub mod Strikes
 pub mod Sounds
+pub mod Takens
 pub mod Views
 pub mod ViewLaws
 pub mod Wide

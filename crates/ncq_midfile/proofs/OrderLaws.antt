@@ -1,21 +1,23 @@
 -- What an order keeps when rows come behind those it has, or go.
-use Rattle.std.proofs.Common.{◌≡◌, true, false, Bool, cond, ℕ, ◌+◌, ◌<◌, ◌≤◌, List, [], ◌∷◌, ◌++◌, map, length, get_or, take, drop, take-append-drop, refl, sym, ◌∙◌, ap, subst, arith}
+use Rattle.std.proofs.Common.{◌≡◌, true, false, Bool, cond, ℕ, ◌+◌, ◌<◌, ◌≤◌, List, [], ◌∷◌, ◌++◌, length, get_or, take, refl, sym, ◌∙◌, ap, subst, arith}
 use Rattle.std.specs.Prelude.{ℤ}
 use Rattle.std.specs.List.{list_any}
 use Rattle.std.specs.List.Sorted.{IsStrictlySortedBy}
+use Rattle.std.specs.BTreeSet.{BTreeSet}
 use Rattle.std.specs.Ordering.{int_cmp, int_eq}
-use Rattle.std.proofs.lemmas.List.{length-take, take-take, take-append-le, take_more}
-use Rattle.std.proofs.lemmas.List.Elements.{All-map, All-weaker}
+use Rattle.std.proofs.lemmas.List.{length-map, length-take, take-take, take-append-le, take_all, take_more}
 use Rattle.ncq_base.specs.declared.atom.Atom.{Atom}
 use Rattle.ncq_base.specs.declared.atom.Atom.TheVariants.{Num, Text}
 use Rattle.ncq_row.specs.Values.{atom_at}
-use Rattle.ncq_midfile.specs.Indexes.{Covers}
-use Rattle.ncq_midfile.specs.Orders.{is_known, AreValued, IsOrder, AreOrders, cut_order}
+use Rattle.ncq_midfile.specs.Indexes.{Covers, row_hash}
+use Rattle.ncq_midfile.specs.Pairs.{IsFull, taken_out}
+use Rattle.ncq_midfile.specs.Orders.{is_known, AreValued, IsOrder, cut_order}
 use Rattle.ncq_midfile.specs.declared.index.Index.{Index}
 use Rattle.ncq_midfile.specs.declared.order.Order.{Order}
 use Rattle.ncq_midfile.specs.declared.signed.SignedRow.{SignedRow}
 use Rattle.ncq_midfile.proofs.IndexLaws.{covers_append, covers_cut}
 use Rattle.ncq_midfile.proofs.Parts.{all_push, all_take}
+use Rattle.ncq_midfile.proofs.Takens.{taken_each}
 
 -- the numbers of the rows in front are known where those of all rows are
 pub valued_take : (slot n : ℕ) (values : List ℤ) (rows : List SignedRow) → AreValued slot values rows → AreValued slot values (take n rows)
@@ -57,7 +59,7 @@ order_wider old new rows at o slot index ordered h valued =
           (subst (AreValued old.slot new.values.keys) (take-take n at rows (omega arith)) (valued_take old.slot n new.values.keys (take at rows) valued));
     }
 
-order_append : (order : Order) (rows more : List SignedRow) → IsOrder order rows → IsOrder order (rows ++ more)
+pub order_append : (order : Order) (rows more : List SignedRow) → IsOrder order rows → IsOrder order (rows ++ more)
 order_append order rows more o = record {
   covers = covers_append order.index rows more o.covers;
   slots = o.slots;
@@ -67,11 +69,7 @@ order_append order rows more o = record {
       subst (AreValued order.slot order.values.keys) (sym (take-append-le (length order.index.hashes) rows more within)) o.valued;
 }
 
--- orders have the first rows, whatever comes behind them
-pub orders_append : (orders : List Order) (rows more : List SignedRow) → AreOrders orders rows → AreOrders orders (rows ++ more)
-orders_append orders rows more all k d h = order_append (get_or orders k d) rows more (all k d h)
-
-order_cut : (order : Order) (rows : List SignedRow) (kept : ℕ) → IsOrder order rows → IsOrder (cut_order kept order) (take kept rows)
+pub order_cut : (order : Order) (rows : List SignedRow) (kept : ℕ) → IsOrder order rows → IsOrder (cut_order kept order) (take kept rows)
 order_cut order rows kept o =
     let k = length order.index.hashes in
     let n = length (take kept order.index.hashes) in
@@ -85,18 +83,18 @@ order_cut order rows kept o =
       valued = subst (AreValued order.slot order.values.keys) (outer ∙ sym inner) (valued_take order.slot n order.values.keys (take k rows) o.valued);
     }
 
-pub orders_cut : (orders : List Order) (rows : List SignedRow) (kept : ℕ) → AreOrders orders rows → AreOrders (map (cut_order kept) orders) (take kept rows)
-orders_cut orders rows kept all =
-    All-map (λ order. IsOrder order (take kept rows)) (cut_order kept) orders
-    (All-weaker (λ order. IsOrder order rows) (λ order. IsOrder (cut_order kept order) (take kept rows)) (λ order o. order_cut order rows kept o) orders all)
-
--- orders of the rows in front, where the same rows are in front
-pub orders_front : (orders : List Order) (old new : List SignedRow) (k : ℕ) → AreOrders orders old → take k new ≡ take k old → AreOrders (map (cut_order k) orders) new
-orders_front orders old new k all same =
-    subst (AreOrders (map (cut_order k) orders)) (take-append-drop k new)
-    (orders_append (map (cut_order k) orders) (take k new) (drop k new)
-    (subst (AreOrders (map (cut_order k) orders)) (sym same) (orders_cut orders old k all)))
-
--- there are no orders
-pub orders_none : (orders : List Order) (rows : List SignedRow) → orders ≡ [] → AreOrders orders rows
-orders_none orders rows none k d h = let e = ap length none in absurd (omega arith)
+-- an order of all rows is one after some are taken out
+pub order_taken : (old new : Order) (places : List ℕ) (rows : List SignedRow) → IsOrder old rows → IsFull rows old.index → new.slot ≡ old.slot → new.values ≡ old.values → new.index.slots ≡ old.index.slots
+    → Covers new.index (taken_out places rows) → IsOrder new (taken_out places rows)
+order_taken old new places rows o full slot values slots covers =
+    let left = taken_out places rows in
+    let long : length old.index.hashes ≡ length rows = ap length full ∙ length-map rows (row_hash old.index.slots) in
+    let known : AreValued old.slot old.values.keys rows = subst (AreValued old.slot old.values.keys) (take_all (length old.index.hashes) rows (omega arith)) o.valued in
+    let same : AreValued old.slot old.values.keys left = taken_each (λ (r : SignedRow). is_known (atom_at r.row old.slot) old.values.keys ≡ true) places rows known in
+    record {
+      covers = covers;
+      slots = slots ∙ o.slots ∙ ap (λ s. s ∷ []) (sym slot);
+      ordered = subst (λ (v : BTreeSet ℤ). IsStrictlySortedBy int_cmp v.keys) (sym values) o.ordered;
+      valued = subst (λ (v : BTreeSet ℤ). AreValued new.slot v.keys (take (length new.index.hashes) left)) (sym values)
+          (subst (λ s. AreValued s old.values.keys (take (length new.index.hashes) left)) (sym slot) (valued_take old.slot (length new.index.hashes) old.values.keys left same));
+    }

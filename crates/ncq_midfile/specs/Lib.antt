@@ -1,12 +1,14 @@
 pub mod Chains
 pub mod Content
 pub mod Files
+pub mod Finders
 pub mod Folds
 pub mod Indexes
 pub mod LossCounts
 pub mod Made
 pub mod Matching
 pub mod Orders
+pub mod Pairs
 pub mod Ranged
 pub mod Rows
 pub mod Shown

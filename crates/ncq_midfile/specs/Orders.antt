@@ -1,6 +1,6 @@
 -- Rows in the order of the numbers in a slot. Only the crate's private clauses cite it.
 use Rattle.std.specs.Prelude.{◌≡◌, ℕ, ℤ, Bool, true, cond, List, [], ◌∷◌, length, take}
-use Rattle.std.specs.List.{All, AllByRecursion, list_any}
+use Rattle.std.specs.List.{AllByRecursion, list_any}
 use Rattle.std.specs.List.Sorted.{IsStrictlySortedBy}
 use Rattle.std.specs.Ordering.{int_cmp, int_eq}
 use Rattle.ncq_base.specs.Intervals.{in_interval}
@@ -34,10 +34,6 @@ pub record IsOrder (order : Order) (rows : List SignedRow) : Type 0 where
   pub slots : order.index.slots ≡ order.slot ∷ []
   pub ordered : IsStrictlySortedBy int_cmp order.values.keys
   pub valued : AreValued order.slot order.values.keys (take (length order.index.hashes) rows)
-
--- each of the orders is one of the first rows
-abbrev pub AreOrders : List Order → List SignedRow → Type 0
-AreOrders orders rows = All (λ order. IsOrder order rows) orders
 
 -- the order of fewer rows
 abbrev pub cut_order : ℕ → Order → Order

@@ -1,42 +1,41 @@
 //! A list of numbers in which all places of a number are found.
 ghost use Rattle.std.specs.Prelude.{◌≡◌, ◌++◌, ◌∷◌, [], ◌-◌, ◌<◌, length, take, drop, nat_eq};
 ghost use Rattle.std.specs.Prelude.{IfOk, OnOk, OnErr};
-ghost use Rattle.ncq_midfile.specs.Chains.{last_end, numbers, AreLinked};
+ghost use Rattle.std.specs.List.{swap_remove, slice_set};
 ghost use Rattle.ncq_midfile.specs.Matching.{places_where};
 
 use crate::signed::Places;
-use indexmap::IndexMap;
 use std::alloc::{AllocError, Global};
+use std::collections::BTreeSet;
 use std::marker::Model;
 
-/// A number, and how many items there are up to the one before that is equal; 0 where there is
-/// none.
-#[derive(Drop)]
-pub(crate) struct Link {
-    number: u64,
-    behind: usize,
+/// That a number stands at a place. The derived order is by number, then by place.
+#[derive(Clone, Copy, PartialEq, Eq, PartialOrd, Ord)]
+pub(crate) struct Spot {
+    pub number: u64,
+    pub place: usize,
 }
 
-/// Numbers in order. The places of equal numbers are chained, the last one first. A number that
-/// was taken away keeps its head, which then tells of no place.
+/// Numbers in order, and a set of where each stands. What is put or taken costs the same wherever
+/// it stands.
 #[derive(Drop)]
 pub(crate) struct Chains {
-    heads: IndexMap<u64, usize>,
-    links: Vec<Link>,
+    numbers: Vec<u64>,
+    spots: BTreeSet<Spot>,
 }
 
 impl Model for Chains {
     ghost use Rattle.std.specs.Prelude.{List, ℕ};
     ghost use Rattle.std.specs.Coded.{coded_list, coded_ℕ};
-    ghost use Rattle.ncq_midfile.specs.Chains.{numbers, AreChained};
+    ghost use Rattle.ncq_midfile.specs.Chains.{AreSpotted};
 
     ghost Value = { List ℕ };
 
     ghost coded = { coded_list coded_ℕ };
 
-    ghost view = { λ c. numbers c.links.items };
+    ghost view = { λ c. c.numbers.items };
 
-    ghost invariant = { λ c. AreChained c.heads.entries c.links.items };
+    ghost invariant = { λ c. AreSpotted c.numbers.items c.spots.keys };
 }
 
 impl Chains {
@@ -45,15 +44,20 @@ impl Chains {
         ensures { result ≡ [] }
     {
         Chains {
-            heads: IndexMap::new(alloc),
-            links: Vec::new(alloc),
+            numbers: Vec::new(alloc),
+            spots: BTreeSet::new(alloc),
         }
     }
 
     pub(crate) fn len(&self) -> usize
         ensures { result ≡ length self.now }
     {
-        self.links.len()
+        self.numbers.len()
+    }
+
+    /// Which number stands where.
+    pub(crate) fn spots(&self) -> &BTreeSet<Spot> {
+        &self.spots
     }
 
     /// One number more.
@@ -61,10 +65,10 @@ impl Chains {
         ensures ok { OnOk result (self.new ≡ self.old ++ number ∷ []) }
         ensures err { OnErr result (self.new ≡ self.old) }
     {
-        self.links.reserve(1)?;
-        let behind = self.heads.get(&number).copied().unwrap_or(0);
-        self.heads.insert(number, self.links.len() + 1)?;
-        self.links.push(Link { number, behind }).unwrap();
+        self.numbers.reserve(1)?;
+        let place = self.numbers.len();
+        self.spots.insert(Spot { number, place })?;
+        self.numbers.push(number).unwrap();
         Ok(())
     }
 
@@ -73,16 +77,45 @@ impl Chains {
         requires { 0 < length self.old }
         ensures { self.new ≡ take (length self.old - 1) self.old }
     {
-        let Some(Link { number, behind }) = self.links.pop() else {
+        let Some(number) = self.numbers.pop() else {
             unreachable!()
         };
-        match self.heads.insert(number, behind) {
-            Ok(_) => {}
-            Err(_) => unreachable!(),
-        }
+        let place = self.numbers.len();
+        self.spots.remove(&Spot { number, place });
     }
 
-    /// The places of the number from one on, rising. No place before it is looked at but one.
+    /// Puts a number in the place of another.
+    fn put(&mut self, at: usize, number: u64) -> Result<(), AllocError>
+        requires { at < length self.old }
+        ensures ok { OnOk result (self.new ≡ slice_set self.old at number) }
+        ensures err { OnErr result (self.new ≡ self.old) }
+    {
+        let gone = self.numbers[at];
+        if gone == number {
+            return Ok(());
+        }
+        self.spots.insert(Spot { number, place: at })?;
+        self.spots.remove(&Spot {
+            number: gone,
+            place: at,
+        });
+        self.numbers[at] = number;
+        Ok(())
+    }
+
+    /// Takes the number at a place away, and puts the last one there.
+    pub(crate) fn swap_remove(&mut self, at: usize) -> Result<(), AllocError>
+        requires { at < length self.old }
+        ensures ok { OnOk result (self.new ≡ swap_remove self.old at 0) }
+        ensures err { OnErr result (self.new ≡ self.old) }
+    {
+        let last = self.numbers[self.numbers.len() - 1];
+        self.put(at, last)?;
+        self.pop();
+        Ok(())
+    }
+
+    /// The places of the number from one on, rising. No other places are looked at.
     pub(crate) fn places_of(
         &self,
         alloc: Global,
@@ -92,8 +125,17 @@ impl Chains {
         ensures { IfOk result (λ places.
             places ≡ places_where (nat_eq number) from (drop from self.now)) }
     {
-        let head = self.heads.get(&number).copied().unwrap_or(0);
-        chain_from(alloc, self.links.as_slice(), number, head, from)
+        let first = Spot {
+            number,
+            place: from,
+        };
+        let last = Spot {
+            number,
+            place: usize::MAX,
+        };
+        let mut places = Vec::new(alloc);
+        places.extend(self.spots.range(first..=last).map(|spot| spot.place))?;
+        Ok(Places::from_vec(places))
     }
 
     /// Takes away the numbers from this place on. It takes no memory.
@@ -104,27 +146,4 @@ impl Chains {
             self.pop();
         }
     }
-}
-
-/// The places of a chain from one on, rising.
-fn chain_from(
-    alloc: Global,
-    links: &[Link],
-    number: u64,
-    head: usize,
-    from: usize,
-) -> Result<Places, AllocError>
-    requires links { AreLinked links.now }
-    requires head { head ≡ last_end number (numbers links.now) }
-    ensures { IfOk result (λ places.
-        places ≡ places_where (nat_eq number) from (drop from (numbers links.now))) }
-{
-    let mut places = Vec::new(alloc);
-    let mut at = head;
-    while at > from {
-        places.push(at - 1)?;
-        at = links[at - 1].behind;
-    }
-    places.reverse();
-    Ok(Places::from_vec(places))
 }

@@ -4,7 +4,7 @@ ghost use Rattle.std.specs.Prelude.{drop, IfOk, OnOk, cond, false, ◌&&◌};
 ghost use Rattle.std.specs.List.{range_with_len, All};
 ghost use Rattle.ncq_midfile.specs.Content.{up_to, since, IsBalanced, signed_at, IsPart};
 ghost use Rattle.ncq_midfile.specs.Content.{IsLeft, AreGains};
-ghost use Rattle.ncq_midfile.specs.Files.{AreNumbered};
+ghost use Rattle.ncq_midfile.specs.Files.{AreParted};
 ghost use Rattle.ncq_midfile.specs.LossCounts.{is_row, loss_count, has_sign, CountsOf, IsStrike};
 
 use crate::signed::{Places, SignedRow};
@@ -18,7 +18,7 @@ const NEAR: usize = 16;
 /// How many of the rows have numbers up to `n`: the last ones are looked at one by one, and where
 /// there are many behind them the place is found by halves.
 pub(crate) fn count_up_to(rows: &[SignedRow], n: u64) -> usize
-    requires { AreNumbered 0 rows.now }
+    requires { AreParted n rows.now }
     ensures within { result ≤ length rows.now }
     ensures front { up_to n rows.now ≡ take result rows.now }
     ensures back { since n rows.now ≡ drop result rows.now }

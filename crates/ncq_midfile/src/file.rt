@@ -5,7 +5,7 @@ ghost use Rattle.std.specs.List.{AllByRecursion, All};
 ghost use Rattle.ncq_row.specs.Embeddings.{Row as a_row};
 ghost use Rattle.ncq_midfile.specs.Content.{up_to, since, IsContent, IsSoundAt, rows_of, rows_at};
 ghost use Rattle.ncq_midfile.specs.Content.{AreRising, AreGains, signed_at};
-ghost use Rattle.ncq_midfile.specs.Files.{AreNumbered, IsFile};
+ghost use Rattle.ncq_midfile.specs.Files.{AreParted, IsFile, IsThere};
 ghost use Rattle.ncq_midfile.specs.Made.{gained_at};
 ghost use Rattle.ncq_midfile.specs.Matching.{HaveSlots, has_key};
 ghost use Rattle.ncq_midfile.specs.Views.{IsContentOf, is_within};
@@ -13,27 +13,31 @@ ghost use Rattle.ncq_base.specs.Counts.{SameCounts};
 
 use crate::compact::gather;
 use crate::content::{count_up_to, first_places, left_over, places_from};
-use crate::index::{Index, cut_all, keep_index, lose_index};
+use crate::finder::{Finder, cut_all, forget_all, keep_index, keep_order, lose_index, lose_order};
 use crate::key::{KeyAtom, atoms_of};
 use crate::matching::matching_in;
+use crate::pairs::pairs;
 use crate::signed::{Places, SignedRow};
+use crate::taken::take_out;
+use crate::whole::{fill_whole, grow_whole};
 use crate::within::interval_in;
 use ncq_base::{Atom, Interval};
 use ncq_row::{Row, RowKey, Rows};
 use std::alloc::{AllocError, Global};
 use std::marker::Model;
 
-/// The signed rows of one expression, and indexes of the first of them.
+/// The signed rows of one expression, and what finds the first of them.
 #[derive(Drop)]
 pub struct MidFile {
     base: u64,
     rows: Vec<SignedRow>,
-    indexes: Vec<Index>,
+    finders: Vec<Finder>,
+    alloc: Global,
 }
 
 impl Model for MidFile {
     ghost use Rattle.ncq_midfile.specs.Files.{FileState, file_code};
-    ghost use Rattle.ncq_midfile.specs.Indexes.{IsIndexed};
+    ghost use Rattle.ncq_midfile.specs.Finders.{IsFound};
 
     ghost Value = { FileState };
 
@@ -41,7 +45,7 @@ impl Model for MidFile {
 
     ghost view = { λ f. record { base = f.base; rows = f.rows.items } };
 
-    ghost invariant = { λ f. IsIndexed f.base f.rows.items f.indexes.items };
+    ghost invariant = { λ f. IsFound f.base f.rows.items f.finders.items };
 }
 
 impl MidFile {
@@ -51,15 +55,18 @@ impl MidFile {
         ensures rows { IfOk result (λ file. file.rows ≡ map (gained_at base) rows) }
     {
         let rows = all_gained(alloc, base, rows)?;
+        let mut finders = Vec::new(alloc);
+        fill_whole(alloc, &mut finders, rows.as_slice())?;
         Ok(MidFile {
             base,
             rows,
-            indexes: Vec::new(alloc),
+            finders,
+            alloc,
         })
     }
 
-    /// The change from which on the file tells its content. Numbers never fall, and the rows with
-    /// the number of the base came in.
+    /// The change from which on the file tells its content. The rows with numbers up to it stand in
+    /// front and came in; behind them numbers never fall.
     pub fn base(&self) -> u64
         ensures base { result ≡ self.now.base }
         ensures file { IsFile self.now.base self.now.rows }
@@ -75,6 +82,7 @@ impl MidFile {
         ensures ok { OnOk result (self.new.rows ≡ self.old.rows ++ row ∷ []) }
         ensures err { OnErr result (self.new ≡ self.old) }
     {
+        grow_whole(self.alloc, &mut self.finders, self.rows.as_slice())?;
         self.rows.push(row)?;
         Ok(())
     }
@@ -90,6 +98,7 @@ impl MidFile {
 
     /// The places of the signed rows with numbers above `n`.
     pub(crate) fn since(&self, alloc: Global, n: u64) -> Result<Places, AllocError>
+        requires { self.now.base ≤ n }
         ensures rising { IfOk result (λ places. AreRising 0 places) }
         ensures within { IfOk result (λ places.
             All (λ place. place < length self.now.rows) places) }
@@ -166,7 +175,7 @@ impl MidFile {
         matching_in(
             alloc,
             self.rows.as_slice(),
-            self.indexes.as_slice(),
+            self.finders.as_slice(),
             slots,
             atoms.as_slice(),
             n,
@@ -196,7 +205,7 @@ impl MidFile {
         matching_in(
             alloc,
             self.rows.as_slice(),
-            self.indexes.as_slice(),
+            self.finders.as_slice(),
             &[slot],
             &[KeyAtom::new(atom)],
             n,
@@ -221,7 +230,14 @@ impl MidFile {
         ensures content { IfOk result (λ places. IsContentOf (is_within slot interval.now) n
             self.now.rows (rows_at places self.now.rows)) }
     {
-        interval_in(alloc, self.rows.as_slice(), slot, interval, n)
+        interval_in(
+            alloc,
+            self.rows.as_slice(),
+            self.finders.as_slice(),
+            slot,
+            interval,
+            n,
+        )
     }
 
     /// Makes sure that rows are found by the atoms at these slots. It changes no answer and costs
@@ -230,7 +246,7 @@ impl MidFile {
         requires { HaveSlots slots.now self.old.rows }
         ensures { self.new ≡ self.old }
     {
-        keep_index(alloc, &mut self.indexes, self.rows.as_slice(), slots)
+        keep_index(alloc, &mut self.finders, self.rows.as_slice(), slots)
     }
 
     /// Gives up what finds rows by the atoms at these slots. It changes no answer and takes no
@@ -238,18 +254,56 @@ impl MidFile {
     pub fn drop_index(&mut self, slots: &[usize])
         ensures { self.new ≡ self.old }
     {
-        lose_index(&mut self.indexes, slots);
+        lose_index(&mut self.finders, slots);
     }
 
-    /// Makes `n` the base: the file has then the rows that are left at `n`, each as one that is
-    /// there from the base on. No row is made, and no index is kept. After an error the file is as
-    /// it was.
+    /// Makes sure that rows are found by the number in a slot. It changes no answer and costs the
+    /// rows that came since the last call. After an error, too, the file is as it was.
+    pub fn ensure_order(&mut self, alloc: Global, slot: usize) -> Result<(), AllocError>
+        requires { HaveSlots (slot ∷ []) self.old.rows }
+        ensures { self.new ≡ self.old }
+    {
+        keep_order(alloc, &mut self.finders, self.rows.as_slice(), slot)
+    }
+
+    /// Gives up what finds rows by the number in a slot. It changes no answer and takes no memory.
+    pub fn drop_order(&mut self, slot: usize)
+        ensures { self.new ≡ self.old }
+    {
+        lose_order(&mut self.finders, slot);
+    }
+
+    /// Makes `n` the base: the file has then the rows that are left at `n`, in any order. Rows that
+    /// stay keep their numbers. It costs the rows since the base where the file is large and all
+    /// rows are as wide as the first, else all rows. After an error the file is as it was.
     pub fn compact(&mut self, alloc: Global, n: u64) -> Result<(), AllocError>
         requires base { self.old.base ≤ n }
         requires last { AllByRecursion (λ r. r.number ≤ n) self.old.rows }
         requires sound { IsSoundAt n self.old.rows }
         ensures base { OnOk result (self.new.base ≡ n) }
-        ensures gains { OnOk result (self.new.rows ≡ map (gained_at n) (rows_of self.new.rows)) }
+        ensures there { OnOk result (AllByRecursion (IsThere n) self.new.rows) }
+        ensures content { OnOk result (IsContent n self.old.rows (rows_of self.new.rows)) }
+        ensures stays { OnOk result ((list : List a_row)
+            → IsContent n self.old.rows list → IsContent n self.new.rows list) }
+        ensures err { OnErr result (self.new ≡ self.old) }
+    {
+        let rows = self.rows.as_slice();
+        let Some(places) = pairs(alloc, rows, &mut self.finders, self.base)? else {
+            return self.gather(alloc, n);
+        };
+        forget_all(&mut self.finders, rows, places.as_slice());
+        take_out(&mut self.rows, places.as_slice());
+        self.base = n;
+        Ok(())
+    }
+
+    /// Makes `n` the base by going through all rows. No finder is kept.
+    fn gather(&mut self, alloc: Global, n: u64) -> Result<(), AllocError>
+        requires base { self.old.base ≤ n }
+        requires last { AllByRecursion (λ r. r.number ≤ n) self.old.rows }
+        requires sound { IsSoundAt n self.old.rows }
+        ensures base { OnOk result (self.new.base ≡ n) }
+        ensures there { OnOk result (AllByRecursion (IsThere n) self.new.rows) }
         ensures content { OnOk result (IsContent n self.old.rows (rows_of self.new.rows)) }
         ensures stays { OnOk result ((list : List a_row)
             → IsContent n self.old.rows list → IsContent n self.new.rows list) }
@@ -257,7 +311,7 @@ impl MidFile {
     {
         let places = content_of(alloc, self.rows.as_slice(), n)?;
         gather(&mut self.rows, places.as_slice(), n);
-        self.indexes.clear();
+        self.finders.clear();
         self.base = n;
         Ok(())
     }
@@ -269,7 +323,7 @@ impl MidFile {
         ensures rows { self.new.rows ≡ up_to n self.old.rows }
     {
         let kept = count_up_to(self.rows.as_slice(), n);
-        cut_all(&mut self.indexes, kept);
+        cut_all(&mut self.finders, kept);
         self.rows.truncate(kept);
     }
 }
@@ -291,7 +345,7 @@ fn all_gained(alloc: Global, number: u64, rows: Rows) -> Result<Vec<SignedRow>, 
 
 /// The places of the rows that are left at `n`.
 fn content_of(alloc: Global, rows: &[SignedRow], n: u64) -> Result<Places, AllocError>
-    requires numbered { AreNumbered 0 rows.now }
+    requires parted { AreParted n rows.now }
     requires sound { IsSoundAt n rows.now }
     ensures rising { IfOk result (λ places. AreRising 0 places) }
     ensures gains { IfOk result (λ places. AreGains rows.now places) }

@@ -3,21 +3,24 @@
 //! An index has the hashes of the atoms of the first rows, chained by equal hashes. The hash is
 //! std's with a fixed start, and no seed: whoever chooses atoms can make hashes meet. Atoms are
 //! always compared as well, so that this costs time and changes no answer.
-ghost use Rattle.std.specs.Prelude.{◌≡◌, ◌++◌, ◌<◌, ◌≤◌, [], length, take, drop, map, slice_index_or};
-ghost use Rattle.std.specs.Prelude.{IfOk, IfSome, OnOk, List};
+ghost use Rattle.std.specs.Prelude.{◌≡◌, ◌++◌, ◌<◌, ◌≤◌, [], length, take, drop};
+ghost use Rattle.std.specs.Prelude.{IfOk, OnOk, IsTrue};
 ghost use Rattle.std.specs.List.{All};
-ghost use Rattle.ncq_midfile.specs.Indexes.{atoms_at, key_hash, Covers, CoverAll, cut_index};
+ghost use Rattle.ncq_midfile.specs.Content.{AreRising};
+ghost use Rattle.ncq_midfile.specs.Finders.{AreFinders};
+ghost use Rattle.ncq_midfile.specs.Indexes.{atoms_at, key_hash, Covers, cut_index};
 ghost use Rattle.ncq_midfile.specs.Matching.{HaveSlots, is_wanted, places_where, chosen};
-ghost use Rattle.ncq_midfile.specs.declared.index.Index.{Index as an_index};
-ghost use Rattle.ncq_midfile.specs.declared.signed.SignedRow.{SignedRow as a_signed_row};
+ghost use Rattle.ncq_midfile.specs.Pairs.{IsFull, taken_out};
 
-use crate::chain::Chains;
+use crate::chain::{Chains, Spot};
 use crate::content::push_where;
+use crate::finder::{Finder, find_index};
 use crate::key::KeyAtom;
 use crate::matching::is_wanted;
 use crate::signed::{Places, SignedRow};
 use ncq_row::Row;
 use std::alloc::{AllocError, Global};
+use std::collections::BTreeSet;
 use std::hash::{FoldHasher, Hash, Hasher};
 
 /// The hashes of the first rows' atoms in some slots.
@@ -46,52 +49,73 @@ impl Index {
         self.hashes.len()
     }
 
+    /// Whether it is on just these slots.
+    pub(crate) fn is_on(&self, slots: &[usize]) -> bool
+        ensures { IsTrue result → self.now.slots ≡ slots.now }
+    {
+        self.slots.as_slice() == slots
+    }
+
+    /// The slots whose atoms are hashed.
+    pub(crate) fn slots(&self) -> &[usize]
+        ensures { result.now ≡ self.now.slots }
+    {
+        self.slots.as_slice()
+    }
+
+    /// The hash of the row's atoms in the slots.
+    pub(crate) fn hash(&self, row: &Row) -> u64
+        requires { All (λ slot. slot < length row.now) self.now.slots }
+    {
+        hash_at(row, self.slots.as_slice())
+    }
+
+    /// Which hash stands where.
+    pub(crate) fn spots(&self) -> &BTreeSet<Spot> {
+        self.hashes.spots()
+    }
+
+    /// Takes in the rows that it has not yet, up to the first that has not its slots; where there
+    /// is such a row, the answer is no. After an error it has some of them.
+    pub(crate) fn fill(&mut self, rows: &[SignedRow]) -> Result<bool, AllocError>
+        requires { Covers self.old rows.now }
+        ensures slots { self.new.slots ≡ self.old.slots }
+        ensures covers { Covers self.new rows.now }
+        ensures full { IfOk result (λ all. IsTrue all → IsFull rows.now self.new) }
+    {
+        for at in self.hashes.len()..rows.len() {
+            let row = &rows[at].row;
+            if !fits(row, self.slots.as_slice()) {
+                return Ok(false);
+            }
+            self.hashes.push(hash_at(row, self.slots.as_slice()))?;
+        }
+        Ok(true)
+    }
+
+    /// Takes the hashes of the rows at the places out. Where memory runs out, it forgets all.
+    pub(crate) fn forget(&mut self, rows: &[SignedRow], places: &[usize])
+        requires rising { AreRising 0 places.now }
+        requires within { All (λ place. place < length rows.now) places.now }
+        requires full { IsFull rows.now self.old }
+        ensures slots { self.new.slots ≡ self.old.slots }
+        ensures covers { Covers self.new (taken_out places.now rows.now) }
+    {
+        let mut left = places.len();
+        while left > 0 {
+            left -= 1;
+            if self.hashes.swap_remove(places[left]).is_err() {
+                self.hashes.cut(0);
+                return;
+            }
+        }
+    }
+
     /// Leaves the first rows. It takes no memory.
     pub(crate) fn cut(&mut self, kept: usize)
         ensures { self.new ≡ cut_index kept self.old }
     {
         self.hashes.cut(kept);
-    }
-}
-
-/// Makes the index on the slots, if there is none, and takes all rows into it. After an error each
-/// index has the hashes of fewer rows.
-pub(crate) fn keep_index(
-    alloc: Global,
-    indexes: &mut Vec<Index>,
-    rows: &[SignedRow],
-    slots: &[usize],
-) -> Result<(), AllocError>
-    requires covers { CoverAll indexes.old.items rows.now }
-    requires slots { HaveSlots slots.now rows.now }
-    ensures { CoverAll indexes.new.items rows.now }
-{
-    if let Some(at) = find_index(indexes.as_slice(), slots) {
-        let index = &mut indexes[at];
-        return catch_up(index, rows);
-    }
-    let mut index = Index::new(alloc, slots)?;
-    catch_up(&mut index, rows)?;
-    indexes.push(index)?;
-    Ok(())
-}
-
-/// Gives up the index on the slots, if there is one. It takes no memory.
-pub(crate) fn lose_index(indexes: &mut Vec<Index>, slots: &[usize])
-    ensures { (rows : List a_signed_row)
-        → CoverAll indexes.old.items rows → CoverAll indexes.new.items rows }
-{
-    if let Some(at) = find_index(indexes.as_slice(), slots) {
-        indexes.swap_remove(at);
-    }
-}
-
-/// Leaves in each index the first rows. It takes no memory.
-pub(crate) fn cut_all(indexes: &mut [Index], kept: usize)
-    ensures { indexes.new ≡ map (cut_index kept) indexes.old }
-{
-    for index in indexes.iter_mut() {
-        index.cut(kept);
     }
 }
 
@@ -101,51 +125,22 @@ pub(crate) fn push_from_index(
     alloc: Global,
     places: &mut Places,
     rows: &[SignedRow],
-    indexes: &[Index],
+    finders: &[Finder],
     slots: &[usize],
     key: &[KeyAtom<'_>],
     n: u64,
 ) -> Result<usize, AllocError>
-    requires covers { CoverAll indexes.now rows.now }
+    requires finders { AreFinders finders.now rows.now }
     requires slots { HaveSlots slots.now rows.now }
     ensures within { IfOk result (λ from. from ≤ length rows.now) }
     ensures places { IfOk result (λ from. places.new ≡ places.old
         ++ places_where (is_wanted slots.now key.now n) 0 (take from rows.now)) }
 {
-    let Some(at) = find_index(indexes, slots) else {
+    let Some(index) = find_index(finders, slots) else {
         return Ok(0);
     };
-    let index = &indexes[at];
     push_indexed(alloc, places, rows, index, key, 0, n)?;
     Ok(index.hashes.len())
-}
-
-/// The place of the index on just these slots.
-pub(crate) fn find_index(indexes: &[Index], slots: &[usize]) -> Option<usize>
-    ensures within { IfSome result (λ at. at < length indexes.now) }
-    ensures slots { IfSome result (λ at. (d : an_index)
-        → (slice_index_or indexes.now at d).slots ≡ slots.now) }
-{
-    for at in 0..indexes.len() {
-        if indexes[at].slots.as_slice() == slots {
-            return Some(at);
-        }
-    }
-    None
-}
-
-/// Takes the rows into the index that are not in it yet.
-pub(crate) fn catch_up(index: &mut Index, rows: &[SignedRow]) -> Result<(), AllocError>
-    requires slots { HaveSlots index.old.slots rows.now }
-    requires covers { Covers index.old rows.now }
-    ensures slots { index.new.slots ≡ index.old.slots }
-    ensures covers { Covers index.new rows.now }
-{
-    for at in index.hashes.len()..rows.len() {
-        let hash = hash_at(&rows[at].row, index.slots.as_slice());
-        index.hashes.push(hash)?;
-    }
-    Ok(())
 }
 
 /// Adds the places, from one on, of the indexed rows with these atoms and numbers up to `n`.
@@ -218,4 +213,16 @@ fn hash_at(row: &Row, slots: &[usize]) -> u64
         row.atom(*slot).hash(&mut state);
     }
     state.finish()
+}
+
+/// Whether the row has each of the slots.
+pub(crate) fn fits(row: &Row, slots: &[usize]) -> bool
+    ensures { IsTrue result → All (λ slot. slot < length row.now) slots.now }
+{
+    for slot in slots {
+        if *slot >= row.len() {
+            return false;
+        }
+    }
+    true
 }

@@ -5,12 +5,14 @@
 //! bytes, and nothing on the heap.
 #![tactic(auto)]
 
+mod both;
 mod bounds;
 mod chain;
 mod compact;
 mod content;
 mod counts;
 mod file;
+mod finder;
 mod fold;
 mod index;
 mod keep;
@@ -18,9 +20,12 @@ mod key;
 mod laws;
 mod matching;
 mod order;
+mod pairs;
 mod range;
 mod signed;
+mod taken;
 mod view;
+mod whole;
 mod within;
 
 pub use file::MidFile;

@@ -3,26 +3,28 @@
 //! An order has an index of the first rows on its slot, and the numbers that they have there. Rows
 //! with a text there are in the index alone. A number stays when its last row goes, and then leads
 //! to no row.
-ghost use Rattle.std.specs.Prelude.{◌≡◌, ◌++◌, ◌∷◌, [], ◌<◌, true, List, length, take, drop, map};
-ghost use Rattle.std.specs.Prelude.{slice_index_or, IfSome, OnOk};
-ghost use Rattle.std.specs.List.{flat_map};
+ghost use Rattle.std.specs.Prelude.{◌≡◌, ◌++◌, ◌∷◌, [], ◌<◌, true, List, length, take, drop};
+ghost use Rattle.std.specs.Prelude.{IfOk, OnOk, IsTrue};
+ghost use Rattle.std.specs.List.{flat_map, All};
 ghost use Rattle.std.specs.List.Sorted.{IsStrictlySortedBy};
 ghost use Rattle.std.specs.Ordering.{int_cmp};
 ghost use Rattle.ncq_base.specs.declared.atom.Atom.{Atom as an_atom};
 ghost use Rattle.ncq_row.specs.Values.{atom_at};
+ghost use Rattle.ncq_midfile.specs.Content.{AreRising};
 ghost use Rattle.ncq_midfile.specs.Matching.{HaveSlots};
-ghost use Rattle.ncq_midfile.specs.Orders.{AreOrders, IsOrder, cut_order, is_known, with_value};
-ghost use Rattle.ncq_midfile.specs.declared.order.Order.{Order as an_order};
+ghost use Rattle.ncq_midfile.specs.Orders.{IsOrder, cut_order, is_known, with_value};
+ghost use Rattle.ncq_midfile.specs.Pairs.{IsFull, taken_out};
 ghost use Rattle.ncq_midfile.specs.declared.signed.SignedRow.{SignedRow as a_signed_row};
 
 use crate::bounds::{from_low, is_forward, to_high};
-use crate::index::{Index, catch_up, push_indexed};
+use crate::index::{Index, push_indexed};
 use crate::key::KeyAtom;
 use crate::signed::{Places, SignedRow};
 use ncq_base::{Atom, Interval, in_interval};
 use ncq_row::Row;
 use std::alloc::{AllocError, Global};
 use std::collections::BTreeSet;
+use std::collections::btree_set::Range;
 
 /// How many rows can be gone through while one number is looked up.
 const ROWS_OF_A_LOOK_UP: usize = 8;
@@ -36,6 +38,25 @@ pub(crate) struct Order {
 }
 
 impl Order {
+    /// An order by the slot that has no row yet.
+    pub(crate) fn new(alloc: Global, slot: usize) -> Result<Order, AllocError>
+        ensures slot { IfOk result (λ order. order.slot ≡ slot) }
+        ensures order { IfOk result (λ order. (rows : List a_signed_row) → IsOrder order rows) }
+    {
+        Ok(Order {
+            slot,
+            index: Index::new(alloc, &[slot])?,
+            values: BTreeSet::new(alloc),
+        })
+    }
+
+    /// The slot whose numbers it has.
+    pub(crate) fn slot(&self) -> usize
+        ensures { result ≡ self.now.slot }
+    {
+        self.slot
+    }
+
     /// How many of the rows it has.
     pub(crate) fn len(&self) -> usize
         ensures { result ≡ length self.now.index.hashes }
@@ -50,12 +71,10 @@ impl Order {
         if left == 0 {
             return false;
         }
-        let low = from_low(interval.low);
-        let high = to_high(interval.high);
-        if !is_forward(&low, &high) {
+        let Some(numbers) = self.numbers(interval) else {
             return true;
-        }
-        for _value in self.values.range((low, high)) {
+        };
+        for _number in numbers {
             if left == 0 {
                 return false;
             }
@@ -63,48 +82,69 @@ impl Order {
         }
         true
     }
-}
 
-/// Makes the order by the slot, if there is none, and takes all rows into it. After an error each
-/// order has fewer rows.
-pub(crate) fn keep_order(
-    alloc: Global,
-    orders: &mut Vec<Order>,
-    rows: &[SignedRow],
-    slot: usize,
-) -> Result<(), AllocError>
-    requires orders { AreOrders orders.old.items rows.now }
-    requires slots { HaveSlots (slot ∷ []) rows.now }
-    ensures { AreOrders orders.new.items rows.now }
-{
-    if let Some(at) = place_of(orders.as_slice(), slot) {
-        return take_in(&mut orders[at], rows);
+    /// Whether it has fewer numbers of the interval than another order has of another one. No more
+    /// of each are looked at than the fewer are.
+    pub(crate) fn has_fewer(&self, interval: &Interval, other: &Order, outer: &Interval) -> bool {
+        let Some(mut those) = other.numbers(outer) else {
+            return false;
+        };
+        let Some(these) = self.numbers(interval) else {
+            return true;
+        };
+        for _number in these {
+            if those.next().is_none() {
+                return false;
+            }
+        }
+        those.next().is_some()
     }
-    let mut order = Order {
-        slot,
-        index: Index::new(alloc, &[slot])?,
-        values: BTreeSet::new(alloc),
-    };
-    take_in(&mut order, rows)?;
-    orders.push(order)?;
-    Ok(())
-}
 
-/// The order by the slot.
-pub(crate) fn find_order(orders: &[Order], slot: usize) -> Option<&Order>
-    ensures slot { IfSome result (λ order. order.now.slot ≡ slot) }
-    ensures order { IfSome result (λ order. (rows : List a_signed_row)
-        → AreOrders orders.now rows → IsOrder order.now rows) }
-{
-    orders.iter().find(|order| order.slot == slot)
-}
+    /// Its numbers of the interval, where there may be any.
+    fn numbers(&self, interval: &Interval) -> Option<Range<'_, i128>> {
+        let low = from_low(interval.low);
+        let high = to_high(interval.high);
+        if !is_forward(&low, &high) {
+            return None;
+        }
+        Some(self.values.range((low, high)))
+    }
 
-/// Leaves in each order the first rows. It takes no memory.
-pub(crate) fn cut_orders(orders: &mut [Order], kept: usize)
-    ensures { orders.new ≡ map (cut_order kept) orders.old }
-{
-    for order in orders.iter_mut() {
-        order.index.cut(kept);
+    /// Takes in the rows that it has not yet; where one of them has not its slot, it takes none,
+    /// and the answer is no. Numbers come first, so that none is wanting where memory runs out.
+    /// After an error it has some of the rows.
+    pub(crate) fn fill(&mut self, rows: &[SignedRow]) -> Result<bool, AllocError>
+        requires { IsOrder self.old rows.now }
+        ensures slot { self.new.slot ≡ self.old.slot }
+        ensures order { IsOrder self.new rows.now }
+        ensures full { IfOk result (λ all. IsTrue all → IsFull rows.now self.new.index) }
+    {
+        for at in self.index.len()..rows.len() {
+            let row = &rows[at].row;
+            if self.slot >= row.len() {
+                return Ok(false);
+            }
+            note_number(&mut self.values, row, self.slot)?;
+        }
+        self.index.fill(rows)
+    }
+
+    /// Takes the rows at the places out. Where memory runs out, it forgets all.
+    pub(crate) fn forget(&mut self, rows: &[SignedRow], places: &[usize])
+        requires rising { AreRising 0 places.now }
+        requires within { All (λ place. place < length rows.now) places.now }
+        requires full { IsFull rows.now self.old.index }
+        requires order { IsOrder self.old rows.now }
+        ensures { IsOrder self.new (taken_out places.now rows.now) }
+    {
+        self.index.forget(rows, places);
+    }
+
+    /// Leaves the first rows. It takes no memory.
+    pub(crate) fn cut(&mut self, kept: usize)
+        ensures { self.new ≡ cut_order kept self.old }
+    {
+        self.index.cut(kept);
     }
 }
 
@@ -160,34 +200,6 @@ fn push_value(
     }
     let key = [KeyAtom::new(&atom)];
     push_indexed(alloc, found, rows, &order.index, &key, from, n)
-}
-
-/// The place of the order by the slot.
-fn place_of(orders: &[Order], slot: usize) -> Option<usize>
-    ensures within { IfSome result (λ at. at < length orders.now) }
-    ensures slot { IfSome result (λ at. (d : an_order)
-        → (slice_index_or orders.now at d).slot ≡ slot) }
-{
-    for at in 0..orders.len() {
-        if orders[at].slot == slot {
-            return Some(at);
-        }
-    }
-    None
-}
-
-/// Takes the rows into the order that are not in it yet: their numbers first, so that none is
-/// wanting where memory runs out.
-fn take_in(order: &mut Order, rows: &[SignedRow]) -> Result<(), AllocError>
-    requires order { IsOrder order.old rows.now }
-    requires slots { HaveSlots (order.old.slot ∷ []) rows.now }
-    ensures slot { order.new.slot ≡ order.old.slot }
-    ensures order { IsOrder order.new rows.now }
-{
-    for at in order.index.len()..rows.len() {
-        note_number(&mut order.values, &rows[at].row, order.slot)?;
-    }
-    catch_up(&mut order.index, rows)
 }
 
 /// Takes in the number of the row in the slot, if it has one there.

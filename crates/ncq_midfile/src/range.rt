@@ -4,18 +4,16 @@ ghost use Rattle.std.specs.List.{AllByRecursion};
 ghost use Rattle.std.specs.Map.{keys_of};
 ghost use Rattle.ncq_midfile.specs.Content.{up_to};
 ghost use Rattle.ncq_midfile.specs.Files.{AreNumbered};
+ghost use Rattle.ncq_midfile.specs.Finders.{AreFinders};
 ghost use Rattle.ncq_midfile.specs.Folds.{IsFolded};
-ghost use Rattle.ncq_midfile.specs.Indexes.{CoverAll};
 ghost use Rattle.ncq_midfile.specs.Matching.{HaveSlots};
-ghost use Rattle.ncq_midfile.specs.Orders.{AreOrders};
 ghost use Rattle.ncq_midfile.specs.Ranged.{HaveNumbers};
 ghost use Rattle.ncq_midfile.specs.Views.{HasNumber, of_rows, is_held, is_kept};
 
 use crate::content::count_up_to;
+use crate::finder::{Finder, cut_all, keep_index, keep_order, lose_index, lose_order};
 use crate::fold::{folded, keep_at};
-use crate::index::{Index, cut_all, keep_index, lose_index};
 use crate::keep::{count_held, count_kept, keep_held, keep_without};
-use crate::order::{Order, cut_orders, keep_order};
 use crate::signed::SignedRow;
 use ncq_base::Interval;
 use ncq_consttab::RangeTable;
@@ -28,8 +26,7 @@ use std::marker::Model;
 pub struct RangeFile {
     slot: usize,
     rows: Vec<SignedRow>,
-    indexes: Vec<Index>,
-    orders: Vec<Order>,
+    finders: Vec<Finder>,
     alloc: Global,
 }
 
@@ -43,7 +40,7 @@ impl Model for RangeFile {
 
     ghost view = { λ f. record { slot = f.slot; rows = f.rows.items } };
 
-    ghost invariant = { λ f. IsRanged f.slot f.rows.items f.indexes.items f.orders.items };
+    ghost invariant = { λ f. IsRanged f.slot f.rows.items f.finders.items };
 }
 
 impl RangeFile {
@@ -54,8 +51,7 @@ impl RangeFile {
         RangeFile {
             slot,
             rows: Vec::new(alloc),
-            indexes: Vec::new(alloc),
-            orders: Vec::new(alloc),
+            finders: Vec::new(alloc),
             alloc,
         }
     }
@@ -78,7 +74,7 @@ impl RangeFile {
         ensures err { OnErr result (self.new ≡ self.old) }
     {
         let rows = self.rows.as_slice();
-        keep_order(self.alloc, &mut self.orders, rows, self.slot)?;
+        keep_order(self.alloc, &mut self.finders, rows, self.slot)?;
         self.rows.push(row)?;
         Ok(())
     }
@@ -89,8 +85,7 @@ impl RangeFile {
         ensures rows { self.new.rows ≡ of_rows (is_held self.old.slot intervals.now) self.old.rows }
     {
         let front = count_held(self.rows.as_slice(), self.slot, intervals);
-        cut_all(&mut self.indexes, front);
-        cut_orders(&mut self.orders, front);
+        cut_all(&mut self.finders, front);
         keep_held(&mut self.rows, self.slot, intervals);
     }
 
@@ -105,8 +100,7 @@ impl RangeFile {
         if front == self.rows.len() {
             return;
         }
-        cut_all(&mut self.indexes, front);
-        cut_orders(&mut self.orders, front);
+        cut_all(&mut self.finders, front);
         keep_without(&mut self.rows, self.slot, gone, table);
     }
 
@@ -116,8 +110,7 @@ impl RangeFile {
         ensures rows { self.new.rows ≡ up_to n self.old.rows }
     {
         let kept = count_up_to(self.rows.as_slice(), n);
-        cut_all(&mut self.indexes, kept);
-        cut_orders(&mut self.orders, kept);
+        cut_all(&mut self.finders, kept);
         self.rows.truncate(kept);
     }
 
@@ -129,8 +122,7 @@ impl RangeFile {
         ensures err { OnErr result (self.new ≡ self.old) }
     {
         let places = folded(alloc, self.rows.as_slice(), m)?;
-        cut_all(&mut self.indexes, 0);
-        cut_orders(&mut self.orders, 0);
+        cut_all(&mut self.finders, 0);
         keep_at(&mut self.rows, places.as_slice());
         Ok(())
     }
@@ -141,7 +133,7 @@ impl RangeFile {
         requires { HaveSlots slots.now self.old.rows }
         ensures { self.new ≡ self.old }
     {
-        keep_index(alloc, &mut self.indexes, self.rows.as_slice(), slots)
+        keep_index(alloc, &mut self.finders, self.rows.as_slice(), slots)
     }
 
     /// Gives up what finds rows by the atoms at these slots. It changes no answer and takes no
@@ -149,7 +141,23 @@ impl RangeFile {
     pub fn drop_index(&mut self, slots: &[usize])
         ensures { self.new ≡ self.old }
     {
-        lose_index(&mut self.indexes, slots);
+        lose_index(&mut self.finders, slots);
+    }
+
+    /// Makes sure that rows are found by the number in a slot. It changes no answer and costs the
+    /// rows that came since the last call. After an error, too, the file is as it was.
+    pub fn ensure_order(&mut self, alloc: Global, slot: usize) -> Result<(), AllocError>
+        requires { HaveSlots (slot ∷ []) self.old.rows }
+        ensures { self.new ≡ self.old }
+    {
+        keep_order(alloc, &mut self.finders, self.rows.as_slice(), slot)
+    }
+
+    /// Gives up what finds rows by the number in a slot. It changes no answer and takes no memory.
+    pub fn drop_order(&mut self, slot: usize)
+        ensures { self.new ≡ self.old }
+    {
+        lose_order(&mut self.finders, slot);
     }
 
     pub(crate) fn rows(&self) -> &[SignedRow]
@@ -160,15 +168,9 @@ impl RangeFile {
         self.rows.as_slice()
     }
 
-    pub(crate) fn orders(&self) -> &[Order]
-        ensures { AreOrders result.now self.now.rows }
+    pub(crate) fn finders(&self) -> &[Finder]
+        ensures { AreFinders result.now self.now.rows }
     {
-        self.orders.as_slice()
-    }
-
-    pub(crate) fn indexes(&self) -> &[Index]
-        ensures { CoverAll result.now self.now.rows }
-    {
-        self.indexes.as_slice()
+        self.finders.as_slice()
     }
 }

@@ -7,17 +7,18 @@ ghost use Rattle.ncq_base.specs.Counts.{SameCounts};
 ghost use Rattle.ncq_row.specs.Embeddings.{Row as a_row};
 ghost use Rattle.ncq_midfile.specs.Content.{since, IsContent, IsSoundAt, rows_at, signed_at};
 ghost use Rattle.ncq_midfile.specs.Content.{AreRising, AreGains};
-ghost use Rattle.ncq_midfile.specs.Files.{AreNumbered};
+ghost use Rattle.ncq_midfile.specs.Files.{AreOrdered};
 ghost use Rattle.ncq_midfile.specs.Matching.{HaveSlots, has_key};
 ghost use Rattle.ncq_midfile.specs.Shown.{rows_below, shown};
 ghost use Rattle.ncq_midfile.specs.Views.{losses_above, is_within, IsContentOf, IsLast};
 
+use crate::both::interval_within;
 use crate::counts::{count_losses, count_losses_within, last_number, last_within};
 use crate::file::MidFile;
 use crate::key::{KeyAtom, atoms_of};
 use crate::range::RangeFile;
 use crate::signed::{Places, SignedRow};
-use crate::within::{all_within, content_within, interval_within, matching_within, since_within};
+use crate::within::{all_within, content_within, matching_within, since_within};
 use ncq_base::{Atom, Interval};
 use ncq_row::{Row, RowKey};
 use std::alloc::{AllocError, Global};
@@ -35,10 +36,11 @@ pub enum View<'a> {
 }
 
 impl View<'_> {
-    /// The change from which on the view tells its content. Numbers never fall.
+    /// The change from which on the view tells its content. The rows with numbers up to it stand in
+    /// front; behind them numbers never fall.
     pub fn base(&self) -> u64
         ensures base { result ≡ (shown self.now).base }
-        ensures numbered { AreNumbered 0 (shown self.now).rows }
+        ensures ordered { AreOrdered (shown self.now).base (shown self.now).rows }
     {
         match self {
             View::Whole(file) => file.base(),
@@ -63,7 +65,7 @@ impl View<'_> {
             View::Ranged { file, interval, .. } => all_within(
                 alloc,
                 file.rows(),
-                file.orders(),
+                file.finders(),
                 file.slot(),
                 interval,
             ),
@@ -85,7 +87,7 @@ impl View<'_> {
             View::Ranged { file, interval, .. } => since_within(
                 alloc,
                 file.rows(),
-                file.orders(),
+                file.finders(),
                 file.slot(),
                 interval,
                 n,
@@ -132,7 +134,7 @@ impl View<'_> {
             View::Ranged { file, interval, .. } => content_within(
                 alloc,
                 file.rows(),
-                file.orders(),
+                file.finders(),
                 file.slot(),
                 interval,
                 n,
@@ -167,7 +169,7 @@ impl View<'_> {
                 matching_within(
                     alloc,
                     file.rows(),
-                    file.indexes(),
+                    file.finders(),
                     slots,
                     atoms.as_slice(),
                     n,
@@ -203,7 +205,7 @@ impl View<'_> {
             View::Ranged { file, interval, .. } => matching_within(
                 alloc,
                 file.rows(),
-                file.indexes(),
+                file.finders(),
                 &[slot],
                 &[KeyAtom::new(atom)],
                 n,
@@ -240,7 +242,7 @@ impl View<'_> {
             } => interval_within(
                 alloc,
                 file.rows(),
-                file.orders(),
+                file.finders(),
                 slot,
                 interval,
                 n,

@@ -7,18 +7,18 @@ ghost use Rattle.ncq_row.specs.Embeddings.{Row as a_row};
 ghost use Rattle.ncq_midfile.specs.Content.{IsContent, IsSoundAt, rows_at, AreRising, AreGains};
 ghost use Rattle.ncq_midfile.specs.Content.{since, signed_at};
 ghost use Rattle.ncq_midfile.specs.Files.{AreNumbered};
-ghost use Rattle.ncq_midfile.specs.Indexes.{CoverAll};
+ghost use Rattle.ncq_midfile.specs.Finders.{AreFinders};
 ghost use Rattle.ncq_midfile.specs.Matching.{HaveSlots, has_key, places_where, chosen};
-ghost use Rattle.ncq_midfile.specs.Orders.{AreOrders, IsOrder};
+ghost use Rattle.ncq_midfile.specs.Orders.{IsOrder};
 ghost use Rattle.ncq_midfile.specs.Ranged.{is_early};
 ghost use Rattle.ncq_midfile.specs.Views.{is_within, of_rows, IsContentOf};
 
 use crate::content::{count_up_to, left_over, push_where};
 use crate::counts::last_number;
-use crate::index::Index;
+use crate::finder::{Finder, find_order};
 use crate::key::KeyAtom;
 use crate::matching::wanted_places;
-use crate::order::{Order, find_order, push_ordered};
+use crate::order::{Order, push_ordered};
 use crate::signed::{Places, SignedRow};
 use ncq_base::{Interval, in_interval};
 use ncq_row::Row;
@@ -36,13 +36,13 @@ pub(crate) fn is_within(row: &Row, slot: usize, interval: &Interval) -> bool
 pub(crate) fn since_within(
     alloc: Global,
     rows: &[SignedRow],
-    orders: &[Order],
+    finders: &[Finder],
     slot: usize,
     interval: &Interval,
     n: u64,
 ) -> Result<Places, AllocError>
     requires numbered { AreNumbered 0 rows.now }
-    requires orders { AreOrders orders.now rows.now }
+    requires finders { AreFinders finders.now rows.now }
     requires slots { HaveSlots (slot ∷ []) rows.now }
     ensures rising { IfOk result (λ places. AreRising 0 places) }
     ensures within { IfOk result (λ places. All (λ place. place < length rows.now) places) }
@@ -51,19 +51,19 @@ pub(crate) fn since_within(
 {
     let from = count_up_to(rows, n);
     let last = last_number(rows, 0);
-    early_within(alloc, rows, orders, slot, interval, from, last)
+    early_within(alloc, rows, finders, slot, interval, from, last)
 }
 
 /// The places of all rows of the interval.
 pub(crate) fn all_within(
     alloc: Global,
     rows: &[SignedRow],
-    orders: &[Order],
+    finders: &[Finder],
     slot: usize,
     interval: &Interval,
 ) -> Result<Places, AllocError>
     requires numbered { AreNumbered 0 rows.now }
-    requires orders { AreOrders orders.now rows.now }
+    requires finders { AreFinders finders.now rows.now }
     requires slots { HaveSlots (slot ∷ []) rows.now }
     ensures rising { IfOk result (λ places. AreRising 0 places) }
     ensures within { IfOk result (λ places. All (λ place. place < length rows.now) places) }
@@ -71,19 +71,19 @@ pub(crate) fn all_within(
         signed_at places rows.now ≡ of_rows (is_within slot interval.now) rows.now) }
 {
     let last = last_number(rows, 0);
-    early_within(alloc, rows, orders, slot, interval, 0, last)
+    early_within(alloc, rows, finders, slot, interval, 0, last)
 }
 
 /// The places of the rows of the interval that are left at `n`.
 pub(crate) fn content_within(
     alloc: Global,
     rows: &[SignedRow],
-    orders: &[Order],
+    finders: &[Finder],
     slot: usize,
     interval: &Interval,
     n: u64,
 ) -> Result<Places, AllocError>
-    requires orders { AreOrders orders.now rows.now }
+    requires finders { AreFinders finders.now rows.now }
     requires slots { HaveSlots (slot ∷ []) rows.now }
     requires sound { IsSoundAt n (of_rows (is_within slot interval.now) rows.now) }
     ensures rising { IfOk result (λ places. AreRising 0 places) }
@@ -92,7 +92,7 @@ pub(crate) fn content_within(
     ensures content { IfOk result (λ places.
         IsContent n (of_rows (is_within slot interval.now) rows.now) (rows_at places rows.now)) }
 {
-    let all = early_within(alloc, rows, orders, slot, interval, 0, n)?;
+    let all = early_within(alloc, rows, finders, slot, interval, 0, n)?;
     let left = left_over(alloc, rows, all.as_slice())?;
     Ok(left)
 }
@@ -101,14 +101,14 @@ pub(crate) fn content_within(
 pub(crate) fn matching_within(
     alloc: Global,
     rows: &[SignedRow],
-    indexes: &[Index],
+    finders: &[Finder],
     slots: &[usize],
     key: &[KeyAtom<'_>],
     n: u64,
     slot: usize,
     interval: &Interval,
 ) -> Result<Places, AllocError>
-    requires covers { CoverAll indexes.now rows.now }
+    requires finders { AreFinders finders.now rows.now }
     requires sound { IsSoundAt n (of_rows (is_within slot interval.now) rows.now) }
     requires slots { HaveSlots slots.now rows.now }
     ensures rising { IfOk result (λ places. AreRising 0 places) }
@@ -118,14 +118,14 @@ pub(crate) fn matching_within(
         → IsContent n (of_rows (is_within slot interval.now) rows.now) list
         → SameCounts (rows_at places rows.now) (filter (has_key slots.now key.now) list)) }
 {
-    let wanted = wanted_places(alloc, rows, indexes, slots, key, n)?;
+    let wanted = wanted_places(alloc, rows, finders, slots, key, n)?;
     let within = only_within(alloc, rows, wanted.as_slice(), slot, interval)?;
     let left = left_over(alloc, rows, within.as_slice())?;
     Ok(left)
 }
 
 /// Those of the places whose rows are of the interval.
-fn only_within(
+pub(crate) fn only_within(
     alloc: Global,
     rows: &[SignedRow],
     places: &[usize],
@@ -149,10 +149,12 @@ fn only_within(
 pub(crate) fn interval_in(
     alloc: Global,
     rows: &[SignedRow],
+    finders: &[Finder],
     slot: usize,
     interval: &Interval,
     n: u64,
 ) -> Result<Places, AllocError>
+    requires finders { AreFinders finders.now rows.now }
     requires sound { IsSoundAt n rows.now }
     requires slots { HaveSlots (slot ∷ []) rows.now }
     ensures rising { IfOk result (λ places. AreRising 0 places) }
@@ -161,59 +163,31 @@ pub(crate) fn interval_in(
     ensures content { IfOk result (λ places. IsContentOf (is_within slot interval.now) n rows.now
         (rows_at places rows.now)) }
 {
-    let all = early_within(alloc, rows, &[], slot, interval, 0, n)?;
+    let all = early_within(alloc, rows, finders, slot, interval, 0, n)?;
     let left = left_over(alloc, rows, all.as_slice())?;
-    Ok(left)
-}
-
-/// The places of the rows with numbers of two intervals, each in its slot, that are left at `n`:
-/// `outer` has the rows of which those of `interval` are wanted.
-pub(crate) fn interval_within(
-    alloc: Global,
-    rows: &[SignedRow],
-    orders: &[Order],
-    slot: usize,
-    interval: &Interval,
-    n: u64,
-    outer_slot: usize,
-    outer: &Interval,
-) -> Result<Places, AllocError>
-    requires orders { AreOrders orders.now rows.now }
-    requires sound { IsSoundAt n (of_rows (is_within outer_slot outer.now) rows.now) }
-    requires slots { HaveSlots (slot ∷ []) rows.now }
-    requires outer { HaveSlots (outer_slot ∷ []) rows.now }
-    ensures rising { IfOk result (λ places. AreRising 0 places) }
-    ensures gains { IfOk result (λ places. AreGains rows.now places) }
-    ensures within { IfOk result (λ places. All (λ place. place < length rows.now) places) }
-    ensures content { IfOk result (λ places. IsContentOf (is_within slot interval.now) n
-        (of_rows (is_within outer_slot outer.now) rows.now) (rows_at places rows.now)) }
-{
-    let all = early_within(alloc, rows, orders, outer_slot, outer, 0, n)?;
-    let within = only_within(alloc, rows, all.as_slice(), slot, interval)?;
-    let left = left_over(alloc, rows, within.as_slice())?;
     Ok(left)
 }
 
 /// The places, from one on, of the rows of the interval with numbers up to `n`: by their values in
 /// the slot, where an order is kept and the interval has few, and those that it has not yet by
 /// going through them.
-fn early_within(
+pub(crate) fn early_within(
     alloc: Global,
     rows: &[SignedRow],
-    orders: &[Order],
+    finders: &[Finder],
     slot: usize,
     interval: &Interval,
     from: usize,
     n: u64,
 ) -> Result<Places, AllocError>
-    requires orders { AreOrders orders.now rows.now }
+    requires finders { AreFinders finders.now rows.now }
     requires slots { HaveSlots (slot ∷ []) rows.now }
     requires from { from ≤ length rows.now }
     ensures { IfOk result (λ places. places
         ≡ places_where (is_early slot interval.now n) from (drop from rows.now)) }
 {
     let behind = rows.len() - from;
-    let found = find_order(orders, slot);
+    let found = find_order(finders, slot);
     let Some(order) = found.filter(|order| order.has_few(interval, behind)) else {
         let mut places = Places::new(alloc);
         push_early(&mut places, rows, from, slot, interval, n)?;

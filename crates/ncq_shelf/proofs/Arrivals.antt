@@ -48,7 +48,7 @@ use Rattle.ncq_shelf.proofs.ShownFiles.{get_shown}
 use Rattle.ncq_shelf.proofs.Widths.{wide_below}
 
 -- the input of a selection stands
-input_told : (m : Files) (whole of : Expr) (slot : ℕ) (interval : Interval) (inputs : Inputs) (input : ℕ) → whole ≡ RangeSel of slot interval → AreInputs m whole inputs → inputs ≡ One input → Stands m of input
+pub input_told : (m : Files) (whole of : Expr) (slot : ℕ) (interval : Interval) (inputs : Inputs) (input : ℕ) → whole ≡ RangeSel of slot interval → AreInputs m whole inputs → inputs ≡ One input → Stands m of input
 input_told m whole of slot interval inputs input is are one =
     only_told m whole input (subst (AreInputs m whole) one are) of (subst (Rattle.ncq_shelf.specs.Parts.IsInput of) (sym is) (range-input_of of slot interval))
 

@@ -5,8 +5,7 @@ use Rattle.std.specs.List.{AllByRecursion}
 use Rattle.std.specs.declared.result.Result.{Result}
 use Rattle.ncq_base.specs.Counts.{SameCounts}
 use Rattle.ncq_midfile.specs.Content.{Row, IsContent, gains, losses, rows_of, up_to}
-use Rattle.ncq_midfile.specs.Files.{FileState}
-use Rattle.ncq_midfile.specs.Made.{gained_at}
+use Rattle.ncq_midfile.specs.Files.{FileState, IsThere}
 use Rattle.ncq_midfile.specs.declared.signed.SignedRow.{SignedRow}
 use Rattle.ncq_shelf.specs.Groups.{HasBase}
 
@@ -17,9 +16,9 @@ all_up n at later (r ∷ rows) all =
     let under : r.number ≤ at = let a = all.0 in omega arith in
     λ i. cond (le-leb r.number at under i) (r ∷ all_up n at later rows all.1 i) (all_up n at later rows all.1 i)
 
-gained_up : (n : ℕ) (rows : List Row) → AllByRecursion (λ r. r.number ≤ n) (map (gained_at n) rows)
-gained_up n [] = tt
-gained_up n (row ∷ rows) = (omega arith, gained_up n rows)
+there_up : (n : ℕ) (rows : List SignedRow) → AllByRecursion (IsThere n) rows → AllByRecursion (λ r. r.number ≤ n) rows
+there_up n [] all = tt
+there_up n (r ∷ rows) all = (all.0.0, there_up n rows all.1)
 
 module _ (change at : ℕ) (later : change ≤ at) (rows : List SignedRow) (last : AllByRecursion (λ r. r.number ≤ change) rows) (list : List Row) where
   same_up : up_to at rows ≡ up_to change rows
@@ -33,9 +32,9 @@ module _ (change at : ℕ) (later : change ≤ at) (rows : List SignedRow) (last
   on = subst (λ up. SameCounts (list ++ losses up) (gains up)) (sym same_up)
 
 pub compacted : {T E P : Type 0} (r : Result T E) (change : ℕ) (old new : FileState) → AllByRecursion (λ r. r.number ≤ change) old.rows → OnOk r (new.base ≡ change)
-    → OnOk r (new.rows ≡ map (gained_at change) (rows_of new.rows)) → OnOk r (IsContent change old.rows (rows_of new.rows)) → OnOk r ((list : List Row) → IsContent change old.rows list → IsContent change new.rows list)
+    → OnOk r (AllByRecursion (IsThere change) new.rows) → OnOk r (IsContent change old.rows (rows_of new.rows)) → OnOk r ((list : List Row) → IsContent change old.rows list → IsContent change new.rows list)
     → (HasBase change old new → P) → OnOk r P
-compacted (Ok x) change old new last base gains content stays f =
-    let last_new = subst (λ rows. AllByRecursion (λ r. r.number ≤ change) rows) (sym gains) (gained_up change (rows_of new.rows)) in
-    f (record { base = base; gains = gains; content = content; stays = λ at list later is. on change at later new.rows last_new list (stays list (back change at later old.rows last list is)) })
-compacted (Err e) change old new last base gains content stays f = tt
+compacted (Ok x) change old new last base there content stays f =
+    let last_new = there_up change new.rows there in
+    f (record { base = base; there = there; content = content; stays = λ at list later is. on change at later new.rows last_new list (stays list (back change at later old.rows last list is)) })
+compacted (Err e) change old new last base there content stays f = tt

@@ -39,6 +39,7 @@ pub mod GroupGains
 pub mod GroupEntries
 pub mod GroupShown
 pub mod NewViews
+pub mod Admitted
 pub mod Installed
 pub mod Arrivals
 pub mod Released

@@ -1,5 +1,6 @@
 -- Files whose readers change, file by file.
 use Rattle.std.proofs.Common.{◌≡◌, ◌≢◌, ◌⊎◌, ◌↔◌, ℕ, cond, List, Some, None, Ok, Err, Result, OnOk, OnErr, nat_eq, inl, inr, refl, sym, ap, ◌∙◌, subst}
+use Rattle.std.specs.Result.{result_and}
 use Rattle.std.specs.Map.{lookup}
 use Rattle.std.proofs.lemmas.Bool.{cases_eq, eq-eqb, ne_eqb}
 use Rattle.ncq_readers.specs.Readings.{Reading}
@@ -22,6 +23,15 @@ err_more (Err e) f p = f p
 pub any_err : {T E P : Type 0} (r : Result T E) → P → OnErr r P
 any_err (Ok x) p = tt
 any_err (Err e) p = p
+
+-- of two results the first fails, or the second is the answer
+pub ok_and : {T U E : Type 0} (P : Type 0) (r : Result T E) (s t : Result U E) → t ≡ result_and r s → OnOk r P → OnOk t P
+ok_and P r s t is p = subst (λ x. OnOk x P) (sym is) (by r s p)
+  where
+    by : {T U E : Type 0} (r : Result T E) (s : Result U E) → OnOk r P → OnOk (result_and r s) P
+    by (Ok x) (Ok y) p = p
+    by (Ok x) (Err e) p = tt
+    by (Err e) s p = tt
 
 pub others_itself : (f : File) → HasOthers f f
 others_itself f = record { expr = refl; uses = refl; content = refl; inputs = refl }

@@ -1,5 +1,5 @@
 -- The rows of files: against the sources, by a change, and in all.
-use Rattle.std.specs.Prelude.{◌≡◌, ℕ, ◌≤◌, List, ◌++◌, map, length}
+use Rattle.std.specs.Prelude.{◌≡◌, ℕ, ◌≤◌, List, ◌++◌, length}
 use Rattle.std.specs.List.{AllByRecursion}
 use Rattle.std.specs.FinMap.{entries}
 use Rattle.ncq_base.specs.Counts.{total_by}
@@ -8,8 +8,7 @@ use Rattle.ncq_plan.specs.declared.expr.Expr.{Expr}
 use Rattle.ncq_plan.specs.Exprs.{World, rows_in, expr_width}
 use Rattle.ncq_plan.specs.WellFormed.{IsWellFormedExpr}
 use Rattle.ncq_midfile.specs.Content.{IsContent, rows_of, up_to}
-use Rattle.ncq_midfile.specs.Files.{FileState}
-use Rattle.ncq_midfile.specs.Made.{gained_at}
+use Rattle.ncq_midfile.specs.Files.{FileState, IsThere}
 use Rattle.ncq_midfile.specs.declared.signed.SignedRow.{SignedRow}
 use Rattle.ncq_shelf.specs.KeptFiles.{EachFile, Files, KeptFile}
 
@@ -73,5 +72,5 @@ pub record IsCompacted (n : ℕ) (old new : KeptFile) : Type 0 where
 
 -- the file's rows are the content that it had at n, each there from n on
 pub record HoldsItsContent (n : ℕ) (old new : KeptFile) : Type 0 where
-  pub gains : new.content.rows ≡ map (gained_at n) (rows_of new.content.rows)
+  pub there : AllByRecursion (IsThere n) new.content.rows
   pub content : IsContent n old.content.rows (rows_of new.content.rows)

@@ -1,7 +1,7 @@
 -- The files of range groups, and what a file shows of them. Only the crate's private clauses cite
 -- it.
 use Rattle.std.specs.Prelude.{◌≡◌, ℕ, ◌≤◌, ◌++◌, List, [], ◌∷◌}
-use Rattle.std.specs.Prelude.{map, nat_eq, Bool, Option, Some, None, true, false}
+use Rattle.std.specs.Prelude.{nat_eq, Bool, Option, Some, None, true, false}
 use Rattle.std.specs.List.{AllByRecursion}
 use Rattle.std.specs.Map.{lookup, keys_of}
 use Rattle.std.specs.Option.{option_map_or}
@@ -17,8 +17,7 @@ use Rattle.ncq_plan.specs.declared.expr.Expr.TheVariants.{RangeSel}
 use Rattle.ncq_plan.specs.declared.expr.Expr.TheViews.{out-Expr}
 use Rattle.ncq_plan.specs.Meets.{is_within}
 use Rattle.ncq_midfile.specs.Content.{IsContent, rows_of as all_rows}
-use Rattle.ncq_midfile.specs.Made.{gained_at}
-use Rattle.ncq_midfile.specs.Files.{FileState}
+use Rattle.ncq_midfile.specs.Files.{FileState, IsThere}
 use Rattle.ncq_midfile.specs.Views.{RangeState, AreHeld, of_rows, is_held, is_missing}
 use Rattle.ncq_midfile.specs.declared.signed.SignedRow.{SignedRow}
 use Rattle.ncq_readers.specs.ReaderTables.{ReaderTables}
@@ -102,10 +101,10 @@ pub record IsGrouped (files : List (ℕ × File)) (groups : Groups) : Type 0 whe
   pub taken : (group : Group) (held : RangeState) → lookup (is_group group) groups ≡ Some held
       → AllByRecursion (λ r. IsTaken files group r.row) held.rows
 
--- the rows are those left at the change, there from the base on
+-- the rows are those left at the change, each there from the base on
 pub record HasBase (change : ℕ) (old new : FileState) : Type 0 where
   pub base : new.base ≡ change
-  pub gains : new.rows ≡ map (gained_at change) (all_rows new.rows)
+  pub there : AllByRecursion (IsThere change) new.rows
   pub content : IsContent change old.rows (all_rows new.rows)
   pub stays : (at : ℕ) (list : List Row) → change ≤ at → IsContent at old.rows list
       → IsContent at new.rows list

@@ -6,6 +6,7 @@
 //! its rows may meet without a look at the others.
 #![tactic(auto)]
 
+mod admit;
 mod cut;
 mod enroll;
 mod file;

@@ -93,3 +93,42 @@ pub(crate) fn index_rows(
         }
     }
 }
+
+/// Makes sure that rows are found by the number in a slot: those of a file that has its own, or
+/// those of a virtual file's group.
+pub(crate) fn order_rows(
+    alloc: Global,
+    groups: &mut IndexMap<Group, RangeFile>,
+    rows: &mut Rows,
+    slot: usize,
+) -> Result<(), AllocError>
+    requires own { (file : FileState) → rows.old ≡ Whole file → HaveSlots (slot ∷ []) file.rows }
+    requires there { (group : a_group) → group_of rows.old ≡ Some group
+        → HasGroup groups.old.entries group }
+    requires ranged { (group : a_group) → group_of rows.old ≡ Some group
+        → HaveSlots (slot ∷ []) (rows_of_group groups.old.entries group) }
+    ensures groups { groups.new.entries ≡ groups.old.entries }
+    ensures rows { rows.new ≡ rows.old }
+{
+    match rows {
+        Rows::Whole(content) => content.ensure_order(alloc, slot),
+        Rows::Ranged { group, .. } => {
+            let group = *group;
+            let Some(held) = groups.get_mut(&group) else {
+                unreachable!()
+            };
+            held.ensure_order(alloc, slot)
+        }
+    }
+}
+
+/// Gives up what finds rows by the number in a slot, if the file has its own: those of a virtual
+/// file are its group's. It takes no memory.
+pub(crate) fn unorder_rows(rows: &mut Rows, slot: usize)
+    ensures { rows.new ≡ rows.old }
+{
+    match rows {
+        Rows::Whole(content) => content.drop_order(slot),
+        Rows::Ranged { .. } => {}
+    }
+}

@@ -1,6 +1,7 @@
 //! Files by their numbers, and what finds them.
 ghost use Rattle.std.specs.Prelude.{◌≡◌, ◌↔◌, ◌+◌, ◌-◌, ◌<◌, ◌≤◌, ◌∷◌, [], ℕ, List, Some, None};
 ghost use Rattle.std.specs.Prelude.{nat_eq, length, map, filter, IfOk, OnOk, OnErr, IfSome, IfNone};
+ghost use Rattle.std.specs.Prelude.{IsTrue};
 ghost use Rattle.std.specs.FinMap.{empty, get, insert, remove, len};
 ghost use Rattle.std.specs.List.{AllByRecursion, IsDistinct};
 ghost use Rattle.std.specs.Option.{option_map};
@@ -21,20 +22,20 @@ ghost use Rattle.ncq_shelf.specs.Ranges.{IsRange, IsNoRange, SelectsRange, Takes
 ghost use Rattle.ncq_shelf.specs.Ranges.{IsHeldBy, AppendsHeld, AreHeldOf, IsRangeFile, ShareRows};
 ghost use Rattle.ncq_shelf.specs.Stands.{Finds, IsGrounded, IsIdle, IsThere, Stands, TellsIdle};
 
+use crate::admit::{admit, make_room};
 use crate::cut::{cut_all, cut_groups};
-use crate::enroll::{enroll, strike};
+use crate::enroll::strike;
 use crate::file::File;
 use crate::group::{Group, view_of};
 use crate::inputs::Inputs;
 use crate::install::{install, missing_at, put_file};
-use crate::keyed::key_join;
 use crate::keys::Keys;
 use crate::met::joins_in;
 use crate::ranged::{note_takers, release_of};
-use crate::rows::{Rows, append_own, compact_rows, index_rows};
-use crate::scans::{enroll_scan, strike_scan};
+use crate::rows::{Rows, append_own, compact_rows, index_rows, order_rows, unorder_rows};
+use crate::scans::strike_scan;
 use indexmap::IndexMap;
-use ncq_base::{Atom, Bytes, Copied, FileId, Sequence, Steps};
+use ncq_base::{Atom, Bytes, FileId, Sequence, Steps};
 use ncq_midfile::{MidFile, RangeFile, SignedRow, View};
 use ncq_plan::Expr;
 use ncq_readers::{HeldRows, Readers};
@@ -90,6 +91,13 @@ impl Shelf {
         ensures { result ≡ len self.now }
     {
         self.files.len()
+    }
+
+    /// Whether there is a file of this number.
+    pub fn has(&self, number: u64) -> bool
+        ensures { IsTrue result ↔ IsThere self.now number }
+    {
+        self.files.contains_key(&number)
     }
 
     /// The expression of a file.
@@ -196,6 +204,41 @@ impl Shelf {
         ensures gone { self.new ≡ remove self.old number }
         ensures inputs { AtFile self.old number (λ file. AreInputs self.old file.expr result) }
     {
+        let group = self.group_at(number);
+        let inputs = self.take_out(number);
+        if let Some(group) = group {
+            self.drop_order(group);
+        }
+        inputs
+    }
+
+    /// The group of a file that selects by an interval.
+    fn group_at(&self, number: u64) -> Option<Group> {
+        match self.files.get(&number)?.content {
+            Rows::Ranged { group, .. } => Some(group),
+            Rows::Whole(_) => None,
+        }
+    }
+
+    /// Where a group has gone, its input keeps no order of the slot any more. It takes no memory.
+    fn drop_order(&mut self, group: Group)
+        ensures { self.new ≡ self.old }
+    {
+        if self.groups.contains_key(&group) {
+            return;
+        }
+        let Some(file) = self.files.get_mut(&group.input) else {
+            return;
+        };
+        unorder_rows(&mut file.content, group.slot);
+    }
+
+    /// Takes an idle file away, and tells what it read.
+    fn take_out(&mut self, number: u64) -> Inputs
+        requires { IsIdle self.old number }
+        ensures gone { self.new ≡ remove self.old number }
+        ensures inputs { AtFile self.old number (λ file. AreInputs self.old file.expr result) }
+    {
         let Some(file) = self.files.swap_remove(&number) else {
             return Inputs::Nothing;
         };
@@ -225,20 +268,17 @@ impl Shelf {
             (record { expr = expr.now; uses = 0; content = content })) }
         ensures err { OnErr result (self.new ≡ self.old) }
     {
-        let key = expr.copy(alloc)?;
-        let copy = expr.copy(alloc)?;
-        self.numbers.reserve(1)?;
-        self.files.reserve(1)?;
-        key_join(
-            &mut self.keys,
-            &self.files,
+        let (key, copy) = admit(
+            alloc,
+            &mut self.files,
             &self.groups,
+            &mut self.numbers,
+            &mut self.scans,
+            &mut self.keys,
             expr,
             inputs,
             number,
         )?;
-        enroll(alloc, &mut self.files, expr, inputs, number)?;
-        enroll_scan(alloc, &mut self.scans, expr, number)?;
         let file = File {
             expr: copy,
             uses: 0,
@@ -246,8 +286,7 @@ impl Shelf {
             inputs,
             readers: Readers::new(alloc),
         };
-        let _none = self.files.insert(number, file).unwrap();
-        let _old = self.numbers.insert(key, number).unwrap();
+        put_file(&mut self.files, &mut self.numbers, number, key, file);
         Ok(())
     }
 
@@ -256,6 +295,58 @@ impl Shelf {
     /// selects by an interval of the slot: all of these hold their rows once. It takes at most one
     /// step for each row that the new file has at the change. After an error all is as before.
     pub fn add_ranged<L: Ledger>(
+        &mut self,
+        alloc: Global,
+        number: u64,
+        expr: &Expr,
+        inputs: Inputs,
+        change: u64,
+        steps: &mut Steps<L>,
+    ) -> Result<(), AllocError>
+        requires absent { get self.old number ≡ None }
+        requires new { (other : ℕ) → Stands self.old expr.now other → ⊥ }
+        requires inputs { AreInputs self.old expr.now inputs }
+        requires range { IsRange expr.now }
+        requires formed { IsWellFormedExpr expr.now }
+        requires grounded { IsGrounded self.old }
+        requires wide { AreWide self.old }
+        requires up_to { AreUpTo change self.old }
+        requires sound { EachFile self.old (λ other file. IsSoundAt change file.content.rows) }
+        ensures ok { OnOk result ((kept : KeptFile) × (self.new ≡ insert self.old number kept)
+            × IsNewAt change expr.now kept) }
+
+        // `world` is any whose rows the files have at the change.
+        ensures fits { OnOk result ((world : World)
+            → Fits change world self.old → Fits change world self.new) }
+        ensures cost { (world : World) → Fits change world self.old
+            → steps.new ≤ steps.old + length (rows_in expr.now world) }
+        ensures err { OnErr result (self.new ≡ self.old) }
+    {
+        let Expr::RangeSel { slot, .. } = expr else {
+            unreachable!()
+        };
+        let Inputs::One(input) = inputs else {
+            unreachable!()
+        };
+        self.ensure_order(alloc, input, *slot)?;
+        self.put_ranged(alloc, number, expr, inputs, change, steps)
+    }
+
+    /// Makes sure that rows of a file are found by the number in a slot.
+    fn ensure_order(&mut self, alloc: Global, number: u64, slot: usize) -> Result<(), AllocError>
+        requires there { IsThere self.old number }
+        requires wide { AreWide self.old }
+        requires slot { AtFile self.old number (λ file. slot < expr_width file.expr) }
+        ensures { self.new ≡ self.old }
+    {
+        let Some(file) = self.files.get_mut(&number) else {
+            unreachable!()
+        };
+        order_rows(alloc, &mut self.groups, &mut file.content, slot)
+    }
+
+    /// A new file for a selection by an interval, and the rows that it brings to its group.
+    fn put_ranged<L: Ledger>(
         &mut self,
         alloc: Global,
         number: u64,
@@ -295,10 +386,7 @@ impl Shelf {
         let group = Group { input, slot: *slot };
         let view = view_of(&self.groups, inner);
         let missing = missing_at(alloc, &inner.readers, interval, *slot, &view, change, steps)?;
-        let key = expr.copy(alloc)?;
-        let copy = expr.copy(alloc)?;
-        self.numbers.reserve(1)?;
-        self.files.reserve(1)?;
+        let (key, copy) = make_room(alloc, &mut self.files, &mut self.numbers, expr)?;
         install(
             alloc,
             &mut self.groups,

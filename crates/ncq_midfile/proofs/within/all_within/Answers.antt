@@ -3,6 +3,7 @@ use Rattle.std.specs.List.{All}
 use Rattle.std.proofs.lemmas.List.Elements.{All-from_recursion}
 use Rattle.ncq_midfile.specs.Content.{AreRising, signed_at}
 use Rattle.ncq_midfile.specs.Ranged.{is_early}
+use Rattle.ncq_midfile.proofs.Cuts.{ordered_numbered}
 use Rattle.ncq_midfile.proofs.Early.{early_all}
 use Rattle.ncq_midfile.proofs.Matches.{wanted_rising, wanted_within, wanted_signed}
 use Rattle.ncq_midfile.proofs.Withins.{if_ok}
@@ -25,3 +26,6 @@ returns-clause-rows c = if_ok c.early_within.result _ _ c.early_within.ensures (
     ap (λ ps. signed_at ps rows) all
     ∙ wanted_signed (is_early c.args.slot c.args.interval.now last) rows
     ∙ early_all c.args.slot c.args.interval.now last rows c.last_number-last.ensures.rows)
+
+pub last_number-last-requires : goal.last_number-last-requires
+last_number-last-requires c = ordered_numbered 0 0 c.args.rows.now c.requires.numbered

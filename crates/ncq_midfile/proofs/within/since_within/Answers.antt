@@ -4,6 +4,7 @@ use Rattle.std.proofs.lemmas.List.{length-drop}
 use Rattle.std.proofs.lemmas.List.Elements.{All-from_recursion}
 use Rattle.ncq_midfile.specs.Content.{AreRising, signed_at}
 use Rattle.ncq_midfile.specs.Ranged.{is_early}
+use Rattle.ncq_midfile.proofs.Cuts.{ordered_numbered, parted_numbered}
 use Rattle.ncq_midfile.proofs.Early.{since_early}
 use Rattle.ncq_midfile.proofs.Matches.{wanted_rising, wanted_within}
 use Rattle.ncq_midfile.proofs.Parts.{rising_from}
@@ -31,3 +32,9 @@ returns-clause-rows c = if_ok c.early_within.result _ _ c.early_within.ensures (
     let cut = c.count_up_to-from.ensures in
     ap (λ ps. signed_at ps c.args.rows.now) all
     ∙ since_early c.args.slot c.args.interval.now c.last_number-last.result c.args.n c.count_up_to-from.result c.args.rows.now cut.within cut.back c.last_number-last.ensures.rows)
+
+pub count_up_to-from-requires : goal.count_up_to-from-requires
+count_up_to-from-requires c = parted_numbered c.args.n 0 c.args.rows.now c.requires.numbered
+
+pub last_number-last-requires : goal.last_number-last-requires
+last_number-last-requires c = ordered_numbered 0 0 c.args.rows.now c.requires.numbered

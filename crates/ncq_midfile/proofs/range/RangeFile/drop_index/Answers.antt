@@ -1,4 +1,5 @@
+use Rattle.ncq_midfile.proofs.Rangeds.{ranged_by}
 use Rattle.ncq_midfile.proofs.range.RangeFile.drop_index.Goals as goal
 
 pub invariant_of-self : goal.invariant_of-self
-invariant_of-self c = record { numbered = c.self.invariant.numbered; numbers = c.self.invariant.numbers; covers = c.lose_index.ensures _ c.self.invariant.covers; ordered = c.self.invariant.ordered }
+invariant_of-self c = ranged_by c.self.inside.slot c.self.inside.rows.items _ c.self.invariant c.lose_index.new.finders.items (c.lose_index.ensures _ c.self.invariant.covers)

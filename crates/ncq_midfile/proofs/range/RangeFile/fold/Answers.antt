@@ -3,8 +3,7 @@ use Rattle.std.specs.List.{All, range_with_len}
 use Rattle.std.proofs.lemmas.List.Elements.{All-from_recursion}
 use Rattle.ncq_midfile.specs.Content.{AreRising, IsPart, signed_at}
 use Rattle.ncq_midfile.specs.Folds.{IsFolded}
-use Rattle.ncq_midfile.specs.Indexes.{cut_index}
-use Rattle.ncq_midfile.specs.Orders.{cut_order}
+use Rattle.ncq_midfile.specs.Finders.{cut_finder}
 use Rattle.ncq_midfile.specs.Views.{RangeState}
 use Rattle.ncq_midfile.specs.declared.signed.SignedRow.{SignedRow}
 use Rattle.ncq_midfile.proofs.Parts.{range_below, range_rises, part_all, part_rising}
@@ -28,14 +27,11 @@ invariant_of-self c =
     let slot = c.self.inside.slot in
     let rows = c.self.inside.rows.items in
     let part = subst (λ (rs : List SignedRow). IsPart c.in_ok-places.places (range_with_len 0 (length rs))) c.as_slice.ensures.value c.in_ok-places.ensures.part in
-    let indexes = c.self.inside.indexes.items in
-    let orders = c.self.inside.orders.items in
-    let len = c.self.inside.indexes.ok.0 in
-    let len_orders = c.self.inside.orders.ok.0 in
-    let whole = cut_whole (cut_index 0) indexes c.cut_all.new.indexes c.self.inside.indexes.len (c.cut_all.ensures ∙ ap (map (cut_index 0)) c.deref_mut.ensures.value) (omega arith) in
-    let whole_orders = cut_whole (cut_order 0) orders c.cut_orders.new.orders c.self.inside.orders.len (c.cut_orders.ensures ∙ ap (map (cut_order 0)) c.deref_mut-2.ensures.value) (omega arith) in
-    ranged_as slot _ _ _ _ _ _ (sym (c.keep_at.ensures ∙ ap (λ ps. signed_at ps rows) c.as_slice-2.ensures)) (sym whole) (sym whole_orders)
-    (ranged_at slot rows indexes orders c.self.invariant c.in_ok-places.places part)
+    let finders = c.self.inside.finders.items in
+    let len = c.self.inside.finders.ok.0 in
+    let whole = cut_whole (cut_finder 0) finders c.cut_all.new.finders c.self.inside.finders.len (c.cut_all.ensures ∙ ap (map (cut_finder 0)) c.deref_mut.ensures.value) (omega arith) in
+    ranged_as slot _ _ _ _ (sym (c.keep_at.ensures ∙ ap (λ ps. signed_at ps rows) c.as_slice-2.ensures)) (sym whole)
+    (ranged_at slot rows finders c.self.invariant c.in_ok-places.places part)
 
 pub returns-clause-ok : goal.returns-clause-ok
 returns-clause-ok c =

@@ -89,7 +89,7 @@ returns-clause-rows c =
     let own : group_of file.content ≡ None = no_group c.self.inside.groups.entries c.self.inside.files.entries c.args.self.now c.self.view_is c.self.invariant.grouped c.args.number c.in-Some.file.now (sym c.in-Some.ensures.value) (λ other there. subst (λ (s : KeptFile). IsRange s.expr → ⊥) (one_value here there) is_no_range) in
     let is = based own c.self.inside.groups.entries file.expr in
     subst (λ (k : KeptFile). HoldsItsContent c.args.change state k) kept_is
-    (subst (λ (s : KeptFile). HoldsItsContent c.args.change s (state_of c.self.inside.groups.entries w)) (same state here) (record { gains = is.gains; content = is.content }))) c.compact_rows.ensures.own
+    (subst (λ (s : KeptFile). HoldsItsContent c.args.change s (state_of c.self.inside.groups.entries w)) (same state here) (record { there = is.there; content = is.content }))) c.compact_rows.ensures.own
 
 pub returns-clause-ranged : goal.returns-clause-ranged
 returns-clause-ranged c =

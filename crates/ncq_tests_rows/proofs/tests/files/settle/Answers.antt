@@ -1,7 +1,6 @@
-use Rattle.std.proofs.Common.{◌∷◌, [], sym, subst}
+use Rattle.std.proofs.Common.{◌∷◌, []}
 use Rattle.std.proofs.lemmas.Result.{on_ok_weaker}
-use Rattle.ncq_midfile.specs.Content.{IsSound, rows_of}
-use Rattle.ncq_midfile.proofs.Sounds.{sound_made}
+use Rattle.ncq_midfile.proofs.Sounds.{sound_there}
 use Rattle.ncq_midfile.proofs.Wide.{wide_content}
 use Rattle.ncq_tests_rows.proofs.tests.files.settle.Goals as goal
 
@@ -10,9 +9,7 @@ compact-requires-clause-sound c = c.roll.ensures.sound c.args.n
 
 pub returns-clause-sound : goal.returns-clause-sound
 returns-clause-sound c =
-    on_ok_weaker c.compact.result
-    (λ gains. subst IsSound (sym gains) (sound_made c.args.n (rows_of c.compact.new.self.rows)))
-    c.compact.ensures.gains
+    on_ok_weaker c.compact.result (sound_there c.args.n c.compact.new.self.rows) c.compact.ensures.there
 
 pub returns-clause-wide : goal.returns-clause-wide
 returns-clause-wide c =

@@ -1,0 +1,9 @@
+use Rattle.std.proofs.Common.{get_or, sym, ap, ◌∙◌}
+use Rattle.ncq_midfile.proofs.FinderLaws.{no_index}
+use Rattle.ncq_midfile.proofs.finder.keep_order.Goals as goal
+
+pub unreachable-requires : goal.unreachable-requires
+unreachable-requires c =
+    let it = c.index_mut.result.now in
+    no_index c.args.slot _ (c.in-Some.ensures.order it) c.in_default-index_mut.field-0
+    (sym (c.index_mut.ensures.value ∙ ap (λ finders. get_or finders c.in-Some.at it) (sym c.as_slice.ensures.value)) ∙ c.in_default-index_mut.is)

@@ -1,0 +1,102 @@
+//! A file that has rows of its own on its way in: all that may fail, before it is put in.
+ghost use Rattle.std.specs.Prelude.{◌≡◌, ◌<◌, [], IfOk, OnOk, OnErr};
+ghost use Rattle.indexmap.specs.IndexMap.{spare};
+ghost use Rattle.ncq_shelf.specs.Enrolled.{GainsScan, IsUnread, OneEach, SameScans, ScansSource};
+ghost use Rattle.ncq_shelf.specs.Groups.{IsGrouped};
+ghost use Rattle.ncq_shelf.specs.Inputs.{AreInputs};
+ghost use Rattle.ncq_shelf.specs.Keyed.{AreNotedIn, Grows, IsJoinFound};
+ghost use Rattle.ncq_shelf.specs.Shown.{shown};
+ghost use Rattle.ncq_shelf.specs.Wired.{AreAlike, IsEnrolled};
+
+use crate::enroll::enroll;
+use crate::file::File;
+use crate::group::Group;
+use crate::inputs::Inputs;
+use crate::keyed::key_join;
+use crate::keys::Keys;
+use crate::scans::enroll_scan;
+use indexmap::IndexMap;
+use ncq_base::{Bytes, Copied};
+use ncq_midfile::RangeFile;
+use ncq_plan::Expr;
+use ncq_readers::Readers;
+use std::alloc::{AllocError, Global};
+
+/// All that may fail before a new file that has rows of its own is put in: there is room for it, and
+/// what it reads knows it. The answer is two copies of its expression. After an error all know what
+/// they knew; rows may be noted at more slots.
+pub(crate) fn admit(
+    alloc: Global,
+    files: &mut IndexMap<u64, File>,
+    groups: &IndexMap<Group, RangeFile>,
+    numbers: &mut IndexMap<Expr, u64>,
+    scans: &mut IndexMap<Bytes, Readers>,
+    keys: &mut Keys,
+    expr: &Expr,
+    inputs: Inputs,
+    number: u64,
+) -> Result<(Expr, Expr), AllocError>
+    requires inputs { AreInputs (shown groups.now.entries files.old.entries) expr.now inputs }
+    requires one { OneEach files.old.entries }
+    requires unread { IsUnread files.old.entries expr.now number }
+    requires grouped { IsGrouped files.old.entries groups.now.entries }
+    ensures copies { IfOk result (λ copies. (copies.0 ≡ expr.now) × (copies.1 ≡ expr.now)) }
+    ensures known { OnOk result (IsEnrolled files.old.entries expr.now number files.new.entries) }
+    ensures scan { OnOk result (GainsScan scans.old.entries (λ source. ScansSource source expr.now)
+        number scans.new.entries) }
+    ensures found { OnOk result (IsJoinFound keys.new number expr.now inputs) }
+    ensures room { OnOk result (0 < spare files.new) }
+    ensures spare { OnOk result (0 < spare numbers.new) }
+    ensures alike { OnErr result (AreAlike files.old.entries files.new.entries) }
+    ensures scans { OnErr result (SameScans scans.old.entries scans.new.entries) }
+    ensures numbers { numbers.new.entries ≡ numbers.old.entries }
+    ensures grows { Grows (AreNotedIn groups.now.entries files.old.entries keys.new.holders)
+        keys.old keys.new }
+{
+    key_join(keys, files, groups, expr, inputs, number)?;
+    let copies = make_room(alloc, files, numbers, expr)?;
+    announce(alloc, files, scans, expr, inputs, number).and(Ok(copies))
+}
+
+/// The files that the expression reads, and its source if it is a scan, know the number from now on.
+/// After an error all know what they knew.
+fn announce(
+    alloc: Global,
+    files: &mut IndexMap<u64, File>,
+    scans: &mut IndexMap<Bytes, Readers>,
+    expr: &Expr,
+    inputs: Inputs,
+    number: u64,
+) -> Result<(), AllocError>
+    requires inputs { AreInputs (shown [] files.old.entries) expr.now inputs }
+    requires one { OneEach files.old.entries }
+    requires unread { IsUnread files.old.entries expr.now number }
+    ensures known { OnOk result (IsEnrolled files.old.entries expr.now number files.new.entries) }
+    ensures scan { OnOk result (GainsScan scans.old.entries (λ source. ScansSource source expr.now)
+        number scans.new.entries) }
+    ensures alike { OnErr result (AreAlike files.old.entries files.new.entries) }
+    ensures scans { OnErr result (SameScans scans.old.entries scans.new.entries) }
+    ensures room { spare files.new ≡ spare files.old }
+{
+    enroll(alloc, files, expr, inputs, number)?;
+    enroll_scan(alloc, scans, expr, number)
+}
+
+/// Room for one more file, and two copies of its expression: one finds it, the other is its own.
+/// The files and their numbers stay as they are.
+pub(crate) fn make_room(
+    alloc: Global,
+    files: &mut IndexMap<u64, File>,
+    numbers: &mut IndexMap<Expr, u64>,
+    expr: &Expr,
+) -> Result<(Expr, Expr), AllocError>
+    ensures copies { IfOk result (λ copies. (copies.0 ≡ expr.now) × (copies.1 ≡ expr.now)) }
+    ensures files { files.new.entries ≡ files.old.entries }
+    ensures numbers { numbers.new.entries ≡ numbers.old.entries }
+    ensures room { OnOk result (0 < spare files.new) }
+    ensures spare { OnOk result (0 < spare numbers.new) }
+{
+    files.reserve(1)?;
+    numbers.reserve(1)?;
+    Ok((expr.copy(alloc)?, expr.copy(alloc)?))
+}
