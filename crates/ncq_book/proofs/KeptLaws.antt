@@ -1,5 +1,5 @@
 -- What a book keeps, with one subscription more, with one less, and with one changed.
-use Rattle.std.proofs.Common.{◌≡◌, ℕ, ◌<◌, ◌&&◌, ◌||◌, not, false, List, [], ◌∷◌, ◌++◌, map, refl, sym, ◌∙◌, ap, cond, subst}
+use Rattle.std.proofs.Common.{◌≡◌, ℕ, ◌<◌, ◌==◌, ◌&&◌, ◌||◌, not, Bool, false, List, [], ◌∷◌, ◌++◌, map, refl, sym, ◌∙◌, ap, cond, subst}
 use Rattle.std.specs.Prelude.{Some, None, nat_eq}
 use Rattle.std.specs.List.{filter, find, list_any, AllByRecursion}
 use Rattle.std.specs.List.Sorted.{IsStrictlySortedBy}
@@ -10,11 +10,19 @@ use Rattle.std.specs.Str.{bytes_eq}
 use Rattle.std.proofs.lemmas.Bool.{eqb-true}
 use Rattle.ncq_book.specs.declared.finders.Finders.{Finders}
 use Rattle.ncq_book.specs.declared.subscription.Subscription.{Subscription}
-use Rattle.ncq_book.specs.Books.{is_named, is_of, timing_of, watches, watchers_of}
+use Rattle.ncq_book.specs.declared.watchers.Watch.{Watch}
+use Rattle.ncq_book.specs.Books.{is_named, is_of, timing_of, timers_of, watchers_of}
 use Rattle.ncq_book.specs.Watches.{is_watch, is_watched}
-use Rattle.ncq_book.specs.Kept.{Placed, subscriptions_in, placed_of, is_watch_of, IsEnrolled, IsStruck, FindsAlike, IsKept}
+use Rattle.ncq_book.specs.Kept.{Placed, subscriptions_in, placed_of, is_timer_at, is_watch_of, IsEnrolled, IsStruck, FindsAlike, IsKept}
 use Rattle.ncq_book.proofs.Lists.{found_passes, same_rising, any_agree}
-use Rattle.ncq_book.proofs.SubscriptionLaws.{subscriptions_back, pairs_pushed, remove_pair, insert_pair, get_is, others_pushed, found_pushed, rise_more, differ_more, named_more, watched_more, rise_less, differ_less, named_less, watched_less, nobody_found, keys_below, subscriptions_rise, subscription_at}
+use Rattle.ncq_book.proofs.SubscriptionLaws.{subscriptions_back, pairs_pushed, remove_pair, insert_pair, get_is, others_pushed, found_pushed, rise_more, differ_more, named_more, noted_more, rise_less, differ_less, named_less, noted_less, nobody_found, keys_below, subscriptions_rise, noted_at, has_file, installs_of, install_at}
+
+-- whether the subscription fires at changes, and whether at instants
+abbrev pub at_changes : Subscription → Bool
+at_changes m = m.timing.every == 0
+
+abbrev pub at_instants : Subscription → Bool
+at_instants m = not (m.timing.every == 0)
 
 -- subscriptions that stand under their numbers are those of the list
 pub shown : (placed : List Placed) (ms : List Subscription) → placed ≡ map placed_of ms → subscriptions_in placed ≡ ms
@@ -31,6 +39,7 @@ kept_alike placed ms old new kept alike = record {
   named = λ name. alike.names name ∙ kept.named name;
   timed = (λ i. (alike.calendar i).entries) ∙ kept.timed;
   watched = λ w. ap (list_any (is_watch w)) alike.watchers ∙ kept.watched w;
+  timers = λ w. ap (list_any (is_watch w)) alike.timers ∙ kept.timers w;
 }
 
 module _ (placed : List Placed) (ms : List Subscription) (old new : Finders) (kept : IsKept ms placed old) (m : Subscription) where
@@ -42,7 +51,8 @@ module _ (placed : List Placed) (ms : List Subscription) (old new : Finders) (ke
     differ = differ_more ms m kept.differ free;
     named = λ name. more.names name ∙ ap (cond (bytes_eq m.name name) (Some m.install)) (kept.named name) ∙ named_more ms m name free;
     timed = (λ i. (more.calendar i).entries) ∙ ap (λ es. es ++ timing_of m ∷ []) kept.timed ∙ sym (pairs_pushed (λ n. n.timing) ms m);
-    watched = λ w. more.watchers w ∙ ap (λ b. b || is_watch_of w m) (kept.watched w) ∙ sym (watched_more ms m w);
+    watched = λ w. more.watchers w ∙ ap (λ b. b || is_watch_of w m) (kept.watched w) ∙ sym (noted_more at_changes ms m w);
+    timers = λ w. more.timers w ∙ ap (λ b. b || is_timer_at w m) (kept.timers w) ∙ sym (noted_more at_instants ms m w);
   }
 
   pub kept_less : (i : ℕ) (after : List Placed) → find (is_of i) ms ≡ Some m → IsStruck m old new → after ≡ map placed_of (filter (λ n. not (is_of i n)) ms)
@@ -55,7 +65,8 @@ module _ (placed : List Placed) (ms : List Subscription) (old new : Finders) (ke
         differ = differ_less (λ n. not (is_of i n)) ms kept.differ;
         named = λ name. less.names name ∙ ap (cond (bytes_eq m.name name) None) (kept.named name) ∙ named_less i ms m name kept.rise kept.differ found;
         timed = (λ j. (less.calendar j).entries) ∙ (λ j. remove_entry (is_at (nat_cmp (same j))) (kept.timed j)) ∙ remove_pair (λ n. n.timing) i ms kept.rise;
-        watched = λ w. less.watchers w ∙ ap (λ b. b && not (is_watch_of w m)) (kept.watched w) ∙ watched_less i ms m w kept.rise found;
+        watched = λ w. less.watchers w ∙ ap (λ b. b && not (is_watch_of w m)) (kept.watched w) ∙ noted_less at_changes i ms m w kept.rise found;
+        timers = λ w. less.timers w ∙ ap (λ b. b && not (is_timer_at w m)) (kept.timers w) ∙ noted_less at_instants i ms m w kept.rise found;
       }
 
 -- the subscription of a number is taken
@@ -104,11 +115,18 @@ module _ (placed : List Placed) (ms : List Subscription) (finders : Finders) (ke
   pub free_name : (name : List ℕ) → list_any (is_named name) ms ≡ false → lookup (bytes_eq name) finders.names ≡ None
   free_name name free = kept.named name ∙ nobody_found name ms free
 
-  -- those that watch some files
-  pub watchers_are : (files installs : List ℕ) → IsStrictlySortedBy nat_cmp installs → ((n : ℕ) → list_any (nat_eq n) installs ≡ is_watched finders.watchers files n) → installs ≡ watchers_of files ms
-  watchers_are files installs rising are =
-      same_rising installs (watchers_of files ms) rising (subscriptions_rise (watches files) ms kept.rise)
+  -- those of a kind that have one of these files
+  installs_are : (kind : Subscription → Bool) (noted : List Watch) → ((w : Watch) → list_any (is_watch w) noted ≡ list_any (noted_at kind w) ms)
+      → (files installs : List ℕ) → IsStrictlySortedBy nat_cmp installs → ((n : ℕ) → list_any (nat_eq n) installs ≡ is_watched noted files n) → installs ≡ installs_of kind files ms
+  installs_are kind noted are_noted files installs rising are =
+      same_rising installs (installs_of kind files ms) rising (subscriptions_rise (has_file kind files) ms kept.rise)
       (λ n. are n
-      ∙ any_agree (λ f. list_any (is_watch (record { file = f; install = n })) finders.watchers) (λ f. list_any (is_watch_of (record { file = f; install = n })) ms)
-      (λ f. kept.watched (record { file = f; install = n })) files
-      ∙ sym (subscription_at files n ms))
+      ∙ any_agree (λ f. list_any (is_watch (record { file = f; install = n })) noted) (λ f. list_any (noted_at kind (record { file = f; install = n })) ms)
+      (λ f. are_noted (record { file = f; install = n })) files
+      ∙ sym (install_at kind files n ms))
+
+  pub watchers_are : (files installs : List ℕ) → IsStrictlySortedBy nat_cmp installs → ((n : ℕ) → list_any (nat_eq n) installs ≡ is_watched finders.watchers files n) → installs ≡ watchers_of files ms
+  watchers_are = installs_are at_changes finders.watchers kept.watched
+
+  pub timers_are : (files installs : List ℕ) → IsStrictlySortedBy nat_cmp installs → ((n : ℕ) → list_any (nat_eq n) installs ≡ is_watched finders.timers files n) → installs ≡ timers_of files ms
+  timers_are = installs_are at_instants finders.timers kept.timers

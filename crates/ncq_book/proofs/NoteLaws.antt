@@ -1,5 +1,5 @@
 -- Subscriptions of whom one is noted to have fired: they are found as before.
-use Rattle.std.proofs.Common.{◌≡◌, ℕ, ◌<◌, ◌==◌, ◌&&◌, ◌||◌, true, false, List, [], ◌∷◌, map, refl, sym, ◌∙◌, ap, cond, subst}
+use Rattle.std.proofs.Common.{◌≡◌, ℕ, ◌<◌, ◌==◌, ◌&&◌, ◌||◌, not, Bool, true, false, List, [], ◌∷◌, map, refl, sym, ◌∙◌, ap, cond, subst}
 use Rattle.std.specs.Prelude.{Some, None}
 use Rattle.std.specs.List.{find, list_any, AllByRecursion}
 use Rattle.std.specs.Option.{option_map}
@@ -7,13 +7,14 @@ use Rattle.std.specs.Map.{lookup, set_value}
 use Rattle.std.specs.BTreeMap.{is_at}
 use Rattle.std.specs.Ordering.{nat_cmp}
 use Rattle.std.specs.Str.{bytes_eq}
+use Rattle.ncq_event.specs.declared.timing.Timing.{Timing}
 use Rattle.ncq_book.specs.declared.finders.Finders.{Finders}
 use Rattle.ncq_book.specs.declared.subscription.Subscription.{Subscription}
 use Rattle.ncq_book.specs.declared.watchers.Watch.{Watch}
 use Rattle.ncq_book.specs.Books.{is_named, is_of, timing_of, with_note, InstallsRise, NamesDiffer}
-use Rattle.ncq_book.specs.Kept.{Placed, subscriptions_in, placed_of, install_of, is_watch_of, IsKept}
+use Rattle.ncq_book.specs.Kept.{Placed, subscriptions_in, placed_of, install_of, IsKept}
 use Rattle.ncq_book.proofs.Lists.{number_at}
-use Rattle.ncq_book.proofs.SubscriptionLaws.{NoneOf, none_above, get_is}
+use Rattle.ncq_book.proofs.SubscriptionLaws.{NoneOf, none_above, get_is, noted_at}
 use Rattle.ncq_book.proofs.KeptLaws.{shown, kept_at}
 use Rattle.std.proofs.Common.{arith}
 
@@ -48,9 +49,10 @@ module _ (g : Subscription → Subscription) (names : (m : Subscription) → (g 
   timed_mapped [] = refl
   timed_mapped (m ∷ ms) = λ i. (sym (installs m) i, sym (timings m) i) ∷ timed_mapped ms i
 
-  watched_mapped : (w : Watch) (ms : List Subscription) → list_any (is_watch_of w) ms ≡ list_any (is_watch_of w) (map g ms)
-  watched_mapped w [] = refl
-  watched_mapped w (m ∷ ms) = λ i. ((sym (timings m) i).every == 0 && (w.file == (sym (files m) i).0 && w.install == sym (installs m) i)) || watched_mapped w ms i
+  -- those whose timing passes a test are found by their files as before
+  noted_mapped : (of_kind : Timing → Bool) (w : Watch) (ms : List Subscription) → list_any (noted_at (λ m. of_kind m.timing) w) ms ≡ list_any (noted_at (λ m. of_kind m.timing) w) (map g ms)
+  noted_mapped of_kind w [] = refl
+  noted_mapped of_kind w (m ∷ ms) = λ i. (of_kind (sym (timings m) i) && (w.file == (sym (files m) i).0 && w.install == sym (installs m) i)) || noted_mapped of_kind w ms i
 
   pub kept_mapped : (placed after : List Placed) (ms : List Subscription) (finders : Finders) → IsKept ms placed finders → after ≡ map placed_of (map g ms) → IsKept (map g ms) after finders
   kept_mapped placed after ms finders kept numbered = record {
@@ -59,7 +61,8 @@ module _ (g : Subscription → Subscription) (names : (m : Subscription) → (g 
     differ = differ_mapped ms kept.differ;
     named = λ name. kept.named name ∙ named_mapped name ms;
     timed = kept.timed ∙ timed_mapped ms;
-    watched = λ w. kept.watched w ∙ watched_mapped w ms;
+    watched = λ w. kept.watched w ∙ noted_mapped (λ t. t.every == 0) w ms;
+    timers = λ w. kept.timers w ∙ noted_mapped (λ t. not (t.every == 0)) w ms;
   }
 
 -- a number is noted for the subscription of an install number

@@ -14,8 +14,8 @@ use Rattle.std.proofs.lemmas.Bool.Decides.{nat_tests}
 use Rattle.std.proofs.lemmas.Slice.Eq.{bytes_eq-Decides}
 use Rattle.ncq_book.specs.declared.subscription.Subscription.{Subscription}
 use Rattle.ncq_book.specs.declared.watchers.Watch.{Watch}
-use Rattle.ncq_book.specs.Books.{is_named, is_of, subscription_of, watches, watchers_of, InstallsRise, NamesDiffer}
-use Rattle.ncq_book.specs.Kept.{Placed, subscriptions_in, placed_of, install_of, watch_of, is_watch_of}
+use Rattle.ncq_book.specs.Books.{is_named, is_of, subscription_of, InstallsRise, NamesDiffer}
+use Rattle.ncq_book.specs.Kept.{Placed, subscriptions_in, placed_of, install_of, watch_of}
 use Rattle.ncq_book.specs.Watches.{is_watch}
 use Rattle.ncq_book.proofs.Lists.{number_at, found_has, each_leads, each_filtered, each_pushed, none_is_found, none_passes, all_pass, or_left, or_right, cond_map, map_itself, NumbersRise, any_mapped, any_agree, any_swap}
 
@@ -126,22 +126,83 @@ named_more (n ∷ ms) m name free =
       | false ↦ λ h. named_more ms m name f
     ] refl
 
-pub watched_more : (ms : List Subscription) (m : Subscription) (w : Watch) → list_any (is_watch_of w) (ms ++ m ∷ []) ≡ (list_any (is_watch_of w) ms || is_watch_of w m)
-watched_more ms m w = list_any-append (is_watch_of w) ms (m ∷ []) ∙ ap (λ b. list_any (is_watch_of w) ms || b) (or-false (is_watch_of w m))
+step_of : (e a x i : Bool) → ((e && (a || x)) && i) ≡ ((e && (a && i)) || ((e && x) && i))
+step_of false a x i = refl
+step_of true true x true = refl
+step_of true true x false = elim x as (λ x. false ≡ (x && false)) [ true ↦ refl | false ↦ refl ]
+step_of true false x i = refl
 
--- a watch of another install number is not the subscription's
-other_install : (w : Watch) (m : Subscription) → w.install ≢ m.install → is_watch_of w m ≡ false
-other_install w m other =
-    (λ i. m.timing.every == 0 && (w.file == m.file.0 && ne_eqb w.install m.install other i))
-    ∙ (λ i. m.timing.every == 0 && and-false (w.file == m.file.0) i)
-    ∙ and-false (m.timing.every == 0)
+-- whether a subscription of a kind has one of the files, asked at each of them
+one_by_one : (e i : Bool) (file : ℕ) (files : List ℕ) → ((e && list_any (nat_eq file) files) && i) ≡ list_any (λ f. e && (f == file && i)) files
+one_by_one e i file [] = elim e as (λ e. ((e && false) && i) ≡ false) [ true ↦ refl | false ↦ refl ]
+one_by_one e i file (f ∷ files) =
+    let turned : nat_eq file f ≡ (f == file) = grind (arith, nat_tests) in
+    step_of e (nat_eq file f) (list_any (nat_eq file) files) i
+    ∙ (λ j. (e && (turned j && i)) || one_by_one e i file files j)
 
--- behind the subscription that watches, nobody has its install number
-no_watch : (w : Watch) (n : Subscription) (ms : List Subscription) → is_watch_of w n ≡ true → AllByRecursion (λ k. n.install < k.install) ms → AllByRecursion (λ k. is_watch_of w k ≡ false) ms
-no_watch w n ms h above =
-    let is = (and_parts (n.timing.every == 0) (is_watch w (watch_of n)) h).1 in
-    let here : w.install ≡ n.install = eqb-true w.install n.install (and_parts (w.file == n.file.0) (w.install == n.install) is).1 in
-    each_leads (λ k. n.install < k.install) (λ k. is_watch_of w k ≡ false) (λ k up. other_install w k (λ e. omega (arith, e, here, up))) ms above
+-- subscriptions of a kind, found by their files
+module _ (kind : Subscription → Bool) where
+  -- whether the subscription is of the kind, and this is its watch
+  abbrev pub noted_at : Watch → Subscription → Bool
+  noted_at w m = kind m && is_watch w (watch_of m)
+
+  -- whether the subscription is of the kind, and the file of its plan is one of these
+  abbrev pub has_file : List ℕ → Subscription → Bool
+  has_file files m = kind m && list_any (nat_eq m.file.0) files
+
+  -- the install numbers of those of the kind that have one of these files
+  abbrev pub installs_of : List ℕ → List Subscription → List ℕ
+  installs_of files ms = map (λ m. m.install) (filter (has_file files) ms)
+
+  -- one more
+  pub noted_more : (ms : List Subscription) (m : Subscription) (w : Watch) → list_any (noted_at w) (ms ++ m ∷ []) ≡ (list_any (noted_at w) ms || noted_at w m)
+  noted_more ms m w = list_any-append (noted_at w) ms (m ∷ []) ∙ ap (λ b. list_any (noted_at w) ms || b) (or-false (noted_at w m))
+
+  -- a watch of another install number is not the subscription's
+  other_install : (w : Watch) (m : Subscription) → w.install ≢ m.install → noted_at w m ≡ false
+  other_install w m other =
+      (λ i. kind m && (w.file == m.file.0 && ne_eqb w.install m.install other i))
+      ∙ (λ i. kind m && and-false (w.file == m.file.0) i)
+      ∙ and-false (kind m)
+
+  -- behind the subscription whose watch it is, nobody has its install number
+  none_noted : (w : Watch) (n : Subscription) (ms : List Subscription) → noted_at w n ≡ true → AllByRecursion (λ k. n.install < k.install) ms → AllByRecursion (λ k. noted_at w k ≡ false) ms
+  none_noted w n ms h above =
+      let is = (and_parts (kind n) (is_watch w (watch_of n)) h).1 in
+      let here : w.install ≡ n.install = eqb-true w.install n.install (and_parts (w.file == n.file.0) (w.install == n.install) is).1 in
+      each_leads (λ k. n.install < k.install) (λ k. noted_at w k ≡ false) (λ k up. other_install w k (λ e. omega (arith, e, here, up))) ms above
+
+  -- one less
+  pub noted_less : (i : ℕ) (ms : List Subscription) (m : Subscription) (w : Watch) → InstallsRise ms → find (is_of i) ms ≡ Some m
+      → (list_any (noted_at w) ms && not (noted_at w m)) ≡ list_any (noted_at w) (filter (λ m. not (is_of i m)) ms)
+  noted_less i [] m w rise found = cc
+  noted_less i (n ∷ ms) m w rise found =
+      let rest : List Subscription = filter (λ m. not (is_of i m)) ms in
+      elim (is_of i n) as (λ t. is_of i n ≡ t → cond t (Some n) (find (is_of i) ms) ≡ Some m → (list_any (noted_at w) (n ∷ ms) && not (noted_at w m)) ≡ list_any (noted_at w) (cond (not t) (n ∷ rest) rest)) [
+        | true ↦ λ h q.
+            let same : n ≡ m = grind arith in
+            let all : rest ≡ ms = others_all i ms (none_above i n ms h rise.0) in
+            (λ j. list_any (noted_at w) (n ∷ ms) && not (noted_at w (sym same j)))
+            ∙ elim (noted_at w n) as (λ t. noted_at w n ≡ t → ((t || list_any (noted_at w) ms) && not t) ≡ list_any (noted_at w) ms) [
+              | true ↦ λ g. sym (none_passes (noted_at w) ms (none_noted w n ms g rise.0))
+              | false ↦ λ g. and-true (list_any (noted_at w) ms)
+            ] refl
+            ∙ ap (list_any (noted_at w)) (sym all)
+        | false ↦ λ h q.
+            let less = noted_less i ms m w rise.1 q in
+            elim (noted_at w n) as (λ t. noted_at w n ≡ t → ((t || list_any (noted_at w) ms) && not (noted_at w m)) ≡ (t || list_any (noted_at w) rest)) [
+              | true ↦ λ g. ap not (found_has (is_of i) (λ k. noted_at w k ≡ false) ms m (none_noted w n ms g rise.0) q)
+              | false ↦ λ g. less
+            ] refl
+      ] refl found
+
+  -- whether an install number is among those of some files
+  pub install_at : (files : List ℕ) (n : ℕ) (ms : List Subscription) → list_any (nat_eq n) (installs_of files ms) ≡ list_any (λ file. list_any (noted_at (record { file = file; install = n })) ms) files
+  install_at files n ms =
+      any_mapped (nat_eq n) (λ (m : Subscription). m.install) (has_file files) ms
+      ∙ any_agree (λ m. has_file files m && nat_eq n m.install) (λ m. list_any (λ f. noted_at (record { file = f; install = n }) m) files)
+      (λ m. one_by_one (kind m) (nat_eq n m.install) m.file.0 files) ms
+      ∙ any_swap (λ f m. noted_at (record { file = f; install = n }) m) files ms
 
 -- one less
 pub rise_less : (test : Subscription → Bool) (ms : List Subscription) → InstallsRise ms → InstallsRise (filter test ms)
@@ -195,28 +256,6 @@ module _ (i : ℕ) where
             ] refl
       ] refl found
 
-  pub watched_less : (ms : List Subscription) (m : Subscription) (w : Watch) → InstallsRise ms → find (is_of i) ms ≡ Some m
-      → (list_any (is_watch_of w) ms && not (is_watch_of w m)) ≡ list_any (is_watch_of w) (filter (λ m. not (is_of i m)) ms)
-  watched_less [] m w rise found = cc
-  watched_less (n ∷ ms) m w rise found =
-      elim (is_of i n) as (λ t. is_of i n ≡ t → cond t (Some n) (find (is_of i) ms) ≡ Some m → (list_any (is_watch_of w) (n ∷ ms) && not (is_watch_of w m)) ≡ list_any (is_watch_of w) (cond (not t) (n ∷ rest ms) (rest ms))) [
-        | true ↦ λ h q.
-            let same : n ≡ m = grind arith in
-            let all : rest ms ≡ ms = others_all i ms (none_above i n ms h rise.0) in
-            (λ j. list_any (is_watch_of w) (n ∷ ms) && not (is_watch_of w (sym same j)))
-            ∙ elim (is_watch_of w n) as (λ t. is_watch_of w n ≡ t → ((t || list_any (is_watch_of w) ms) && not t) ≡ list_any (is_watch_of w) ms) [
-              | true ↦ λ g. sym (none_passes (is_watch_of w) ms (no_watch w n ms g rise.0))
-              | false ↦ λ g. and-true (list_any (is_watch_of w) ms)
-            ] refl
-            ∙ ap (list_any (is_watch_of w)) (sym all)
-        | false ↦ λ h q.
-            let less = watched_less ms m w rise.1 q in
-            elim (is_watch_of w n) as (λ t. is_watch_of w n ≡ t → ((t || list_any (is_watch_of w) ms) && not (is_watch_of w m)) ≡ (t || list_any (is_watch_of w) (rest ms))) [
-              | true ↦ λ g. ap not (found_has (is_of i) (λ k. is_watch_of w k ≡ false) ms m (no_watch w n ms g rise.0) q)
-              | false ↦ λ g. less
-            ] refl
-      ] refl found
-
 -- nobody of a name is found
 pub nobody_found : (name : List ℕ) (ms : List Subscription) → list_any (is_named name) ms ≡ false → install_of name ms ≡ None
 nobody_found name ms free = ap (option_map (λ (m : Subscription). m.install)) (none_is_found (is_named name) ms (nobody_named name ms free))
@@ -232,28 +271,6 @@ installs_rise (m ∷ ms) rise = (numbers_above m.install ms rise.0, installs_ris
 -- the install numbers of a part rise
 pub subscriptions_rise : (test : Subscription → Bool) (ms : List Subscription) → InstallsRise ms → NumbersRise (map (λ m. m.install) (filter test ms))
 subscriptions_rise test ms rise = installs_rise (filter test ms) (rise_less test ms rise)
-
-step_of : (e a x i : Bool) → ((e && (a || x)) && i) ≡ ((e && (a && i)) || ((e && x) && i))
-step_of false a x i = refl
-step_of true true x true = refl
-step_of true true x false = elim x as (λ x. false ≡ (x && false)) [ true ↦ refl | false ↦ refl ]
-step_of true false x i = refl
-
--- whether a subscription watches one of the files, asked at each of them
-one_by_one : (e i : Bool) (file : ℕ) (files : List ℕ) → ((e && list_any (nat_eq file) files) && i) ≡ list_any (λ f. e && (f == file && i)) files
-one_by_one e i file [] = elim e as (λ e. ((e && false) && i) ≡ false) [ true ↦ refl | false ↦ refl ]
-one_by_one e i file (f ∷ files) =
-    let turned : nat_eq file f ≡ (f == file) = grind (arith, nat_tests) in
-    step_of e (nat_eq file f) (list_any (nat_eq file) files) i
-    ∙ (λ j. (e && (turned j && i)) || one_by_one e i file files j)
-
--- whether an install number is among those of some files
-pub subscription_at : (files : List ℕ) (n : ℕ) (ms : List Subscription) → list_any (nat_eq n) (watchers_of files ms) ≡ list_any (λ file. list_any (is_watch_of (record { file = file; install = n })) ms) files
-subscription_at files n ms =
-    any_mapped (nat_eq n) (λ (m : Subscription). m.install) (watches files) ms
-    ∙ any_agree (λ m. watches files m && nat_eq n m.install) (λ m. list_any (λ f. is_watch_of (record { file = f; install = n }) m) files)
-    (λ m. one_by_one (m.timing.every == 0) (nat_eq n m.install) m.file.0 files) ms
-    ∙ any_swap (λ f m. is_watch_of (record { file = f; install = n }) m) files ms
 
 -- a subscription above all others is found behind them, and without it they are left
 pub found_pushed : (ms : List Subscription) (m : Subscription) → AllByRecursion (λ n. n.install < m.install) ms → find (is_of m.install) (ms ++ m ∷ []) ≡ Some m

@@ -1,5 +1,5 @@
 -- A book of live subscriptions, as callers see it.
-use Rattle.std.specs.Prelude.{ℕ, ◌<◌, ◌==◌, ◌&&◌, Bool, false, nat_eq, List, [], ◌∷◌, map, filter}
+use Rattle.std.specs.Prelude.{ℕ, ◌<◌, ◌==◌, ◌&&◌, Bool, false, not, nat_eq, List, [], ◌∷◌, map, filter}
 use Rattle.std.specs.Prelude.{refl}
 use Rattle.std.specs.Prelude.{◌≡◌}
 use Rattle.std.specs.Prelude.{Option, Some, if◌then◌else◌}
@@ -44,6 +44,14 @@ watches files m = m.timing.every == 0 && list_any (nat_eq m.file.0) files
 -- the install numbers of those that fire at changes and have one of these files
 abbrev pub watchers_of : List ℕ → List Subscription → List ℕ
 watchers_of files subscriptions = map (λ m. m.install) (filter (watches files) subscriptions)
+
+-- whether the subscription fires at instants, and the file of its plan is one of these
+abbrev pub is_timer_of : List ℕ → Subscription → Bool
+is_timer_of files m = not (m.timing.every == 0) && list_any (nat_eq m.file.0) files
+
+-- the install numbers of those that fire at instants and have one of these files
+abbrev pub timers_of : List ℕ → List Subscription → List ℕ
+timers_of files subscriptions = map (λ m. m.install) (filter (is_timer_of files) subscriptions)
 
 -- the subscription with this number noted, if it is that of the install number
 abbrev pub with_note : ℕ → ℕ → Subscription → Subscription

@@ -29,7 +29,7 @@ placed_of m = (m.install, m)
 abbrev pub install_of : List ℕ → List Subscription → Option ℕ
 install_of name subscriptions = option_map (λ m. m.install) (find (is_named name) subscriptions)
 
--- the watch of a subscription that fires at changes
+-- that the subscription has its file
 abbrev pub watch_of : Subscription → Watch
 watch_of m = record { file = m.file.0; install = m.install }
 
@@ -37,14 +37,28 @@ watch_of m = record { file = m.file.0; install = m.install }
 abbrev pub is_watch_of : Watch → Subscription → Bool
 is_watch_of w m = m.timing.every == 0 && is_watch w (watch_of m)
 
+-- whether the subscription fires at instants, and this is its watch
+abbrev pub is_timer_at : Watch → Subscription → Bool
+is_timer_at w m = not (m.timing.every == 0) && is_watch w (watch_of m)
+
+-- those that fire at changes are found by their files as before, and the subscription if it does
+abbrev pub AreWatchedBy : Subscription → Finders → Finders → Type 0
+AreWatchedBy m old new = (w : Watch)
+    → list_any (is_watch w) new.watchers ≡ (list_any (is_watch w) old.watchers || is_watch_of w m)
+
+-- those that fire at instants are found by their files as before, and the subscription if it does
+abbrev pub AreTimedBy : Subscription → Finders → Finders → Type 0
+AreTimedBy m old new = (w : Watch)
+    → list_any (is_watch w) new.timers ≡ (list_any (is_watch w) old.timers || is_timer_at w m)
+
 -- the subscription is found, and all others as before
 pub record IsEnrolled (m : Subscription) (old new : Finders) : Type 0 where
   pub names : (name : List ℕ) → lookup (bytes_eq name) new.names
       ≡ cond (bytes_eq m.name name) (Some m.install) (lookup (bytes_eq name) old.names)
   pub calendar : new.calendar
       ≡ record old.calendar { entries = old.calendar.entries ++ timing_of m ∷ [] }
-  pub watchers : (w : Watch) → list_any (is_watch w) new.watchers
-      ≡ (list_any (is_watch w) old.watchers || is_watch_of w m)
+  pub watchers : AreWatchedBy m old new
+  pub timers : AreTimedBy m old new
 
 -- the subscription is not found, and all others as before
 pub record IsStruck (m : Subscription) (old new : Finders) : Type 0 where
@@ -55,6 +69,8 @@ pub record IsStruck (m : Subscription) (old new : Finders) : Type 0 where
   }
   pub watchers : (w : Watch) → list_any (is_watch w) new.watchers
       ≡ (list_any (is_watch w) old.watchers && not (is_watch_of w m))
+  pub timers : (w : Watch) → list_any (is_watch w) new.timers
+      ≡ (list_any (is_watch w) old.timers && not (is_timer_at w m))
 
 -- both find the same
 pub record FindsAlike (old new : Finders) : Type 0 where
@@ -62,9 +78,10 @@ pub record FindsAlike (old new : Finders) : Type 0 where
       → lookup (bytes_eq name) new.names ≡ lookup (bytes_eq name) old.names
   pub calendar : new.calendar ≡ old.calendar
   pub watchers : new.watchers ≡ old.watchers
+  pub timers : new.timers ≡ old.timers
 
 -- subscriptions stand under their install numbers, which rise; names differ, and each leads to its
--- subscription; the calendar has the timing of each, and the watches are theirs
+-- subscription; the calendar has the timing of each, and the files are noted of each
 pub record IsKept (subscriptions : List Subscription) (placed : List Placed) (finders : Finders) :
     Type 0 where
   pub numbered : placed ≡ map placed_of subscriptions
@@ -74,3 +91,5 @@ pub record IsKept (subscriptions : List Subscription) (placed : List Placed) (fi
   pub timed : finders.calendar.entries ≡ map timing_of subscriptions
   pub watched : (w : Watch)
       → list_any (is_watch w) finders.watchers ≡ list_any (is_watch_of w) subscriptions
+  pub timers : (w : Watch)
+      → list_any (is_watch w) finders.timers ≡ list_any (is_timer_at w) subscriptions

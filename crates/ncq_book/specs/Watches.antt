@@ -1,4 +1,4 @@
--- Who watches what. Only the crate's private clauses cite it.
+-- Who has which file. Only the crate's private clauses cite it.
 use Rattle.std.specs.Prelude.{ℕ, ◌==◌, ◌&&◌, ◌<◌, ◌^◌, Bool, List}
 use Rattle.std.specs.List.{list_any, AllByRecursion}
 pub use Rattle.ncq_book.specs.declared.watchers.Watch.{Watch}

@@ -4,8 +4,8 @@ ghost use Rattle.std.specs.Prelude.{length, nat_eq, Some, false, IfOk, OnOk, OnE
 ghost use Rattle.std.specs.List.{find, list_any, AllByRecursion};
 ghost use Rattle.std.specs.Option.{option_copied, option_map};
 ghost use Rattle.ncq_event.specs.Calendars.{due_firings, expired_at};
-ghost use Rattle.ncq_book.specs.Books.{is_named, is_of, subscription_of, timing_of, watchers_of};
-ghost use Rattle.ncq_book.specs.Books.{with_note, InstallsRise, NamesDiffer};
+ghost use Rattle.ncq_book.specs.Books.{is_named, is_of, subscription_of, timers_of, timing_of};
+ghost use Rattle.ncq_book.specs.Books.{watchers_of, with_note, InstallsRise, NamesDiffer};
 
 use crate::finders::Finders;
 use crate::held::Held;
@@ -105,6 +105,14 @@ impl Book {
         ensures { IfOk result (λ list. list ≡ watchers_of files.now self.now.subscriptions) }
     {
         self.finders.watchers.of(alloc, files)
+    }
+
+    /// The install numbers of those that fire at instants and have one of these files, rising, each
+    /// once: also of those that have not started. Nobody else is looked at.
+    pub fn timers(&self, alloc: Global, files: &[u64]) -> Result<Installs, AllocError>
+        ensures { IfOk result (λ list. list ≡ timers_of files.now self.now.subscriptions) }
+    {
+        self.finders.timers.of(alloc, files)
     }
 
     /// The firings that a move of the clock to this instant makes due, in the order in which they

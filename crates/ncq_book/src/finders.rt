@@ -3,7 +3,7 @@ ghost use Rattle.std.specs.Prelude.{◌≡◌, ◌<◌, [], None, OnOk, OnErr};
 ghost use Rattle.std.specs.List.{AllByRecursion};
 ghost use Rattle.std.specs.Map.{lookup};
 ghost use Rattle.std.specs.Str.{bytes_eq};
-ghost use Rattle.ncq_book.specs.Kept.{IsEnrolled, IsStruck, FindsAlike};
+ghost use Rattle.ncq_book.specs.Kept.{AreTimedBy, AreWatchedBy, IsEnrolled, IsStruck, FindsAlike};
 
 use crate::names::Names;
 use crate::subscription::Subscription;
@@ -13,12 +13,13 @@ use std::alloc::{AllocError, Global};
 use std::hash::RandomState;
 
 /// What finds subscriptions: their names, their instants, and the files of those that fire at
-/// changes.
+/// changes and of those that fire at instants.
 #[derive(Drop)]
 pub(crate) struct Finders {
     pub names: Names,
     pub calendar: Calendar,
     pub watchers: Watchers,
+    pub timers: Watchers,
 }
 
 impl Finders {
@@ -27,11 +28,13 @@ impl Finders {
         ensures names { result.names ≡ [] }
         ensures calendar { result.calendar ≡ record { entries = []; instant = 0 } }
         ensures watchers { result.watchers ≡ [] }
+        ensures timers { result.timers ≡ [] }
     {
         Finders {
             names: Names::new(alloc, seed),
             calendar: Calendar::new(alloc),
             watchers: Watchers::new(alloc),
+            timers: Watchers::new(alloc),
         }
     }
 
@@ -57,15 +60,27 @@ impl Finders {
             self.names.free(&subscription.name);
             return Err(AllocError);
         }
-        let file = subscription.file.0;
-        if subscription.timing.every == 0
-            && self.watchers.add(file, subscription.install).is_err()
-        {
+        if self.enroll_file(subscription).is_err() {
             self.names.free(&subscription.name);
             self.calendar.remove(subscription.install);
             return Err(AllocError);
         }
         Ok(())
+    }
+
+    /// The subscription is found by its file from now on. Where memory runs out, all is as before.
+    fn enroll_file(&mut self, subscription: &Subscription) -> Result<(), AllocError>
+        ensures names { self.new.names ≡ self.old.names }
+        ensures calendar { self.new.calendar ≡ self.old.calendar }
+        ensures watchers { OnOk result (AreWatchedBy subscription.now self.old self.new) }
+        ensures timers { OnOk result (AreTimedBy subscription.now self.old self.new) }
+        ensures err { OnErr result (self.new ≡ self.old) }
+    {
+        let file = subscription.file.0;
+        if subscription.timing.every == 0 {
+            return self.watchers.add(file, subscription.install);
+        }
+        self.timers.add(file, subscription.install)
     }
 
     /// The subscription is not found any more. It takes no memory.
@@ -74,9 +89,11 @@ impl Finders {
     {
         self.names.free(&subscription.name);
         self.calendar.remove(subscription.install);
+        let file = subscription.file.0;
         if subscription.timing.every == 0 {
-            self.watchers
-                .remove(subscription.file.0, subscription.install);
+            self.watchers.remove(file, subscription.install);
+        } else {
+            self.timers.remove(file, subscription.install);
         }
     }
 }

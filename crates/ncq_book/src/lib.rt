@@ -1,7 +1,8 @@
 //! The book of live subscriptions: who they are, whom a change concerns, and who is due.
 //! Subscriptions come in one by one, in the order of their creates, and go out by name or by
-//! expiry. A name is found by its hash, and an install number, the watchers of a file, the next
-//! firings and the expiries by their order: nobody is looked at whom a question does not concern.
+//! expiry. A name is found by its hash, and an install number, the watchers and the timers of a
+//! file, the next firings and the expiries by their order: nobody is looked at whom a question does
+//! not concern.
 #![tactic(auto)]
 
 mod book;

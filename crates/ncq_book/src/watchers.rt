@@ -1,4 +1,4 @@
-//! Who watches what.
+//! Who has which file.
 ghost use Rattle.std.specs.Prelude.{◌≡◌, ℕ, ◌&&◌, ◌||◌, [], not, nat_eq, IfOk, OnOk, OnErr};
 ghost use Rattle.std.specs.Prelude.{IsTrue};
 ghost use Rattle.std.specs.List.{list_any};
@@ -11,8 +11,7 @@ use std::alloc::{AllocError, Global};
 use std::collections::BTreeSet;
 use std::marker::Model;
 
-/// That a subscription fires at changes of a file. The derived order is by file, then by install
-/// number.
+/// That a subscription has a file. The derived order is by file, then by install number.
 #[derive(Clone, Copy, PartialEq, Eq, PartialOrd, Ord)]
 pub(crate) struct Watch {
     /// The number of the file.
@@ -21,7 +20,8 @@ pub(crate) struct Watch {
     pub install: u64,
 }
 
-/// Watches, each once, by file and then by install number. Contracts see them as that list.
+/// Watches of subscriptions of one kind, each once, by file and then by install number. Contracts
+/// see them as that list.
 #[derive(Drop)]
 pub(crate) struct Watchers {
     watches: BTreeSet<Watch>,
@@ -53,7 +53,7 @@ impl Watchers {
         }
     }
 
-    /// The install numbers of those that watch one of the files, rising, each once. Others are not
+    /// The install numbers of those that have one of the files, rising, each once. Others are not
     /// looked at.
     pub(crate) fn of(&self, alloc: Global, files: &[u64]) -> Result<Installs, AllocError>
         ensures watchers { IfOk result (λ installs. (install : ℕ)
@@ -64,7 +64,7 @@ impl Watchers {
         Ok(Installs::from_vec(installs))
     }
 
-    /// The install numbers of those that watch one of the files, file by file.
+    /// The install numbers of those that have one of the files, file by file.
     fn listed(&self, alloc: Global, files: &[u64]) -> Result<Vec<u64>, AllocError>
         ensures { IfOk result (λ installs. (install : ℕ)
             → list_any (nat_eq install) installs.items ≡ is_watched self.now files.now install) }
@@ -85,7 +85,7 @@ impl Watchers {
         Ok(installs)
     }
 
-    /// The subscription watches the file from now on. Where memory runs out, all is as before.
+    /// The subscription has the file from now on. Where memory runs out, all is as before.
     pub(crate) fn add(&mut self, file: u64, install: u64) -> Result<(), AllocError>
         ensures ok { OnOk result ((w : a_watch) → list_any (is_watch w) self.new
             ≡ (list_any (is_watch w) self.old
@@ -96,7 +96,7 @@ impl Watchers {
         Ok(())
     }
 
-    /// The subscription does not watch the file any more. It takes no memory.
+    /// The subscription does not have the file any more. It takes no memory.
     pub(crate) fn remove(&mut self, file: u64, install: u64)
         ensures { (w : a_watch) → list_any (is_watch w) self.new
             ≡ (list_any (is_watch w) self.old

@@ -4,3 +4,4 @@ mod LiveTableLaws
 pub mod ShareLaws
 pub mod TurnLaws
 pub mod UndoLaws
+mod WearLaws

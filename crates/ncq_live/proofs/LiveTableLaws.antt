@@ -2,7 +2,7 @@
 use Rattle.std.proofs.Common.{◌≡◌, ◌≢◌, ℕ, ◌+◌, ◌-◌, ◌<◌, ◌≤◌, ◌^◌, true, false, not, cond, List, [], ◌∷◌, ◌++◌, map, length, inl, inr, refl, sym, ◌∙◌, ap, subst, arith}
 use Rattle.std.specs.Prelude.{Some, None}
 use Rattle.std.specs.List.{filter, AllByRecursion}
-use Rattle.std.specs.FinMap.{get, empty}
+use Rattle.std.specs.FinMap.{get, empty, insert}
 use Rattle.std.proofs.lemmas.Bool.{cases_eq, cases_lt}
 use Rattle.ncq_base.specs.declared.atom.FileId.{FileId}
 use Rattle.ncq_plan.specs.declared.expr.Expr.{Expr}
@@ -210,6 +210,37 @@ module _ (store : StoreState) (change : List Portion) (old new : TableState) (su
     formed = live_table.formed;
     files = each_leads (HasFile old.files) (HasFile new.files) file_fed subscriptions live_table.files;
     uses = uses_fed;
+  }
+
+-- a file has other rows
+module _ (old new : TableState) (subscriptions : List Subscription) (live_table : IsLiveTable old subscriptions) (number : ℕ) (kept next : KeptFile) (at : get old.files number ≡ Some kept) (put : new.files ≡ insert old.files number next) (expr : next.expr ≡ kept.expr) (uses : next.uses ≡ kept.uses) where
+  next_at : get new.files number ≡ Some next
+  next_at = (λ i. get (put i) number) ∙ put_same old.files number next
+
+  others_at : (other : ℕ) → other ≢ number → get new.files other ≡ get old.files other
+  others_at other differs = (λ i. get (put i) other) ∙ put_other old.files number next other differs
+
+  file_put : (m : Subscription) → HasFile old.files m → HasFile new.files m
+  file_put m s = elim (cases_eq m.file.0 number) [
+    | inl here ↦
+        let is : kept ≡ s.file = one_value at (subst (λ n. get old.files n ≡ Some s.file) here s.at) in
+        record { file = next; at = subst (λ n. get new.files n ≡ Some next) (sym here) next_at; of = expr ∙ ap (λ (f : KeptFile). f.expr) is ∙ s.of }
+    | inr differs ↦ record { file = s.file; at = others_at m.file.0 differs ∙ s.at; of = s.of }
+  ]
+
+  uses_put : (other : ℕ) (file : KeptFile) → get new.files other ≡ Some file → file.uses ≡ users other subscriptions
+  uses_put other file here = elim (cases_eq other number) [
+    | inl same ↦
+        let is : file ≡ next = one_value (subst (λ n. get new.files n ≡ Some file) same here) next_at in
+        subst (λ n. file.uses ≡ users n subscriptions) (sym same) (ap (λ (f : KeptFile). f.uses) is ∙ uses ∙ live_table.uses number kept at)
+    | inr differs ↦ live_table.uses other file (sym (others_at other differs) ∙ here)
+  ]
+
+  pub table_put : IsLiveTable new subscriptions
+  table_put = record {
+    formed = live_table.formed;
+    files = each_leads (HasFile old.files) (HasFile new.files) file_put subscriptions live_table.files;
+    uses = uses_put;
   }
 
 -- subscriptions were changed, but for their queries and files

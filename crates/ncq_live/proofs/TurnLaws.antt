@@ -1,10 +1,7 @@
--- Subscriptions whose files were fed or rolled back, and a subscription that goes out.
+-- Subscriptions whose files were rolled back, and a subscription that goes out.
 use Rattle.std.proofs.Common.{◌≡◌, ℕ, true, false, not, cond, List, [], ◌∷◌, refl, sym, ◌∙◌, ap, subst}
-use Rattle.std.specs.Prelude.{Option, Some, None, Result, Ok, Err, OnOk, OnErr, IfSome, IfNone}
-use Rattle.ncq_feed.specs.Feeds.{AreFed}
-use Rattle.ncq_source.specs.declared.change.Portion.{Portion}
-use Rattle.ncq_source.specs.StoreStates.{StoreState}
-use Rattle.ncq_live.proofs.LiveTableLaws.{table_fed, table_taken, taken_uses}
+use Rattle.std.specs.Prelude.{Option, Some, None, IfSome, IfNone}
+use Rattle.ncq_live.proofs.LiveTableLaws.{table_taken, taken_uses}
 use Rattle.ncq_group.specs.Releases.{HasUse, IsReleased}
 use Rattle.std.specs.FinMap.{get}
 use Rattle.std.specs.List.{filter, AllByRecursion}
@@ -19,7 +16,7 @@ use Rattle.ncq_book.specs.Books.{is_of, subscription_of, InstallsRise}
 use Rattle.ncq_live.specs.LiveTables.{IsLiveTable, plan_in}
 
 -- a file that is left has the expression and the uses that it had
-cut_back : (change : ℕ) (o : Option KeptFile) (file : KeptFile) → option_map (cut_to change) o ≡ Some file → (was : KeptFile) × (o ≡ Some was) × (cut_to change was ≡ file)
+pub cut_back : (change : ℕ) (o : Option KeptFile) (file : KeptFile) → option_map (cut_to change) o ≡ Some file → (was : KeptFile) × (o ≡ Some was) × (cut_to change was ≡ file)
 cut_back change None file e = absurd cc
 cut_back change (Some was) file e = (was, refl, (let same : cut_to change was ≡ file = cc in same))
 
@@ -39,12 +36,6 @@ table_cut change old new subscriptions cut live_table = record {
       let b = cut_back change (get old.files number) file (sym (cut number) ∙ at) in
       ap (λ (f : KeptFile). f.uses) (sym b.2) ∙ live_table.uses number b.0 b.1;
 }
-
--- fed, or as before
-pub table_fed_or_not : {X E : Type 0} (store : StoreState) (change : List Portion) (old new : TableState) (subscriptions : List Subscription) (r : Result X E) → OnOk r (AreFed store change old.files new.files) → OnErr r (new ≡ old)
-    → IsLiveTable old subscriptions → IsLiveTable new subscriptions
-table_fed_or_not store change old new subscriptions (Ok x) fed err live_table = table_fed store change old new subscriptions live_table fed
-table_fed_or_not store change old new subscriptions (Err e) fed err live_table = subst (λ (t : TableState). IsLiveTable t subscriptions) (sym err) live_table
 
 -- the subscription whose file it is
 some_of : (o : Option Subscription) (file : FileId) → option_map (λ m. m.file) o ≡ Some file → (m : Subscription) × (o ≡ Some m) × (m.file ≡ file)

@@ -1,2 +1,3 @@
 pub mod LiveTables
 pub mod Shares
+pub mod Wears

@@ -1,14 +1,20 @@
 //! The live table: subscriptions, and the files that they use.
-ghost use Rattle.std.specs.Prelude.{◌≡◌, ℕ, ◌+◌, ◌-◌, ◌<◌, ◌≤◌, ◌^◌, List, [], not, map, filter};
-ghost use Rattle.std.specs.Prelude.{length, false, Some, IfOk, OnOk, OnErr, IfSome, IfNone};
-ghost use Rattle.std.specs.FinMap.{empty, get};
+ghost use Rattle.std.specs.Prelude.{◌≡◌, ℕ, ◌+◌, ◌-◌, ◌<◌, ◌≤◌, ◌^◌, ◌⊎◌, List, []};
+ghost use Rattle.std.specs.Prelude.{length, map, filter, nat_eq, false, true, not, Some};
+ghost use Rattle.std.specs.Prelude.{IfOk, OnOk, OnErr, IfSome, IfNone};
+ghost use Rattle.std.specs.BTreeMap.{is_at};
+ghost use Rattle.std.specs.FinMap.{empty, get, insert};
 ghost use Rattle.std.specs.Option.{option_map};
+ghost use Rattle.std.specs.Ordering.{nat_cmp};
 ghost use Rattle.std.specs.List.{list_any, AllByRecursion};
 ghost use Rattle.ncq_plan.specs.declared.expr.Expr.{Expr as an_expr};
 ghost use Rattle.ncq_plan.specs.WellFormed.{IsWellFormed};
 ghost use Rattle.ncq_change.specs.Stores.{world_in};
-ghost use Rattle.ncq_shelf.specs.Contents.{Fits, cut_to};
-ghost use Rattle.ncq_shelf.specs.KeptFiles.{KeptFile};
+ghost use Rattle.ncq_midfile.specs.Content.{IsSoundAt};
+ghost use Rattle.ncq_midfile.specs.Shown.{shown};
+ghost use Rattle.ncq_midfile.specs.Views.{losses_above};
+ghost use Rattle.ncq_shelf.specs.Contents.{Fits, IsCompacted, cut_to};
+ghost use Rattle.ncq_shelf.specs.KeptFiles.{AtFile, EachFile, KeptFile};
 ghost use Rattle.ncq_feed.specs.Feeds.{IsPreparedFrom, AreFed, NamesTheFed, world_after, feed_work};
 ghost use Rattle.ncq_group.specs.Installs.{NamesTheMissing, rows_of_all};
 ghost use Rattle.ncq_group.specs.Releases.{IsReleased};
@@ -18,13 +24,18 @@ ghost use Rattle.ncq_book.specs.Books.{is_named, is_of, subscription_of, with_no
 ghost use Rattle.ncq_book.specs.Books.{InstallsRise, NamesDiffer};
 ghost use Rattle.ncq_live.specs.LiveTables.{IsLiveTable, HasJoined, plan_in};
 ghost use Rattle.ncq_live.specs.Shares.{Shares};
+ghost use Rattle.ncq_live.specs.Wears.{HasTheWorn, bound_of};
+ghost use Rattle.ncq_shelf.specs.Stands.{IsThere};
 
+use crate::wear::{LOSSES, Wear};
 use ncq_base::{FileId, Sequence, Steps};
 use ncq_book::{Book, Subscription};
 use ncq_group::{GroupMark, GroupTable};
+use ncq_midfile::View;
 use ncq_plan::Expr;
 use ncq_source::{Change, Store};
 use std::alloc::{AllocError, Global};
+use std::collections::BTreeSet;
 use std::hash::RandomState;
 use std::marker::Model;
 use std::sync::ledger::Ledger;
@@ -36,10 +47,12 @@ use std::sync::ledger::Ledger;
 pub struct LiveTable {
     groups: GroupTable,
     book: Book,
+    wear: Wear,
 }
 
 impl Model for LiveTable {
-    ghost use Rattle.ncq_live.specs.LiveTables.{LiveState, live_code, IsLiveTable};
+    ghost use Rattle.ncq_live.specs.LiveTables.{LiveState, live_code};
+    ghost use Rattle.ncq_live.specs.Wears.{IsInOrder};
 
     ghost Value = { LiveState };
 
@@ -51,7 +64,7 @@ impl Model for LiveTable {
       instant = r.book.instant;
     } };
 
-    ghost invariant = { λ r. IsLiveTable r.groups r.book.subscriptions };
+    ghost invariant = { λ r. IsInOrder r.groups r.book.subscriptions r.wear };
 }
 
 impl LiveTable {
@@ -67,6 +80,7 @@ impl LiveTable {
         LiveTable {
             groups: GroupTable::new(alloc),
             book: Book::new(alloc, seed),
+            wear: Wear::new(alloc),
         }
     }
 
@@ -179,6 +193,7 @@ impl LiveTable {
         self.facts();
         if let Some(used) = take_away(&mut self.book, install) {
             self.groups.release(used);
+            self.wear.forget(&self.groups);
         }
     }
 
@@ -209,7 +224,66 @@ impl LiveTable {
         ensures err { OnErr result (self.new.table ≡ self.old.table) }
         ensures cost { steps.new ≤ steps.old + feed_work store.now change.now self.old.table.files }
     {
-        self.groups.feed(alloc, change, store, steps)
+        self.groups.facts();
+        let before = self.groups.mark();
+        let fed = self.groups.feed(alloc, change, store, steps)?;
+        match wear_out(
+            alloc,
+            &self.groups,
+            &mut self.wear,
+            fed.as_slice(),
+            before.number,
+        ) {
+            Ok(()) => Ok(fed),
+            Err(AllocError) => {
+                self.groups.roll_back(before);
+                Err(AllocError)
+            }
+        }
+    }
+
+    /// The numbers of the files that may be worn, each of a file that is there: those of which 64
+    /// rows or more went out above their base are among them.
+    pub fn worn(&self, alloc: Global) -> Result<Sequence<u64>, AllocError>
+        ensures worn { IfOk result (HasTheWorn self.now.table.files) }
+        ensures there { IfOk result (AllByRecursion (IsThere self.now.table.files)) }
+    {
+        those_there(alloc, &self.groups, self.wear.worn())
+    }
+
+    /// How worn a file is, is looked at anew: this changes nothing that is seen.
+    pub fn look_at(&mut self, number: u64)
+        requires { IsThere self.old.table.files number }
+        ensures { self.new ≡ self.old }
+    {
+        let losses = self.groups.file(FileId(number)).minus() as u64;
+        self.wear.lower(number, losses);
+    }
+
+    /// Makes a change the base of a file, and looks anew at how worn it is. After an error the live
+    /// table is as it was. The only error is that memory ran out.
+    pub fn compact(&mut self, alloc: Global, number: u64, change: u64) -> Result<(), AllocError>
+        requires there { IsThere self.old.table.files number }
+        requires base { AtFile self.old.table.files number (λ kept. kept.content.base ≤ change) }
+        requires last { AtFile self.old.table.files number (λ kept.
+            AllByRecursion (λ r. r.number ≤ change) kept.content.rows) }
+        requires sound { AtFile self.old.table.files number (λ kept.
+            IsSoundAt change kept.content.rows) }
+        requires number { change ≤ self.old.table.number }
+        ensures ok { OnOk result (AtFile self.old.table.files number (λ kept.
+            (next : KeptFile) × (self.new.table.files ≡ insert self.old.table.files number next)
+            × IsCompacted change kept next)) }
+        ensures next_file { self.new.table.next_file ≡ self.old.table.next_file }
+        ensures number { self.new.table.number ≡ self.old.table.number }
+        ensures subscriptions { self.new.subscriptions ≡ self.old.subscriptions }
+        ensures instant { self.new.instant ≡ self.old.instant }
+        ensures err { OnErr result (self.new ≡ self.old) }
+    {
+        // Until it is looked at, the file counts as worn.
+        self.wear.raise(number, LOSSES)?;
+        self.groups.compact(alloc, FileId(number), change)?;
+        self.look_at(number);
+        Ok(())
     }
 
     /// Takes the signed rows of later changes than the mark's away from each file. It takes no
@@ -253,6 +327,85 @@ impl LiveTable {
     {
         self.book.move_to(alloc, to)
     }
+}
+
+/// Those of the numbers that are of files that are there.
+fn those_there(
+    alloc: Global,
+    groups: &GroupTable,
+    numbers: &BTreeSet<u64>,
+) -> Result<Sequence<u64>, AllocError>
+    ensures has { IfOk result (λ list. (number : ℕ) → IsThere groups.now.files number
+        → list_any (is_at (nat_cmp number)) numbers.now.keys ≡ true
+        → list_any (nat_eq number) list ≡ true) }
+    ensures there { IfOk result (AllByRecursion (IsThere groups.now.files)) }
+{
+    let mut list = Sequence::new(alloc);
+    for number in numbers {
+        if groups.has(FileId(*number)) {
+            list.push(*number)?;
+        }
+    }
+    Ok(list)
+}
+
+/// Notes of each of the files the rows that went out after a change. After an error nothing that
+/// was known is lost.
+fn wear_out(
+    alloc: Global,
+    groups: &GroupTable,
+    wear: &mut Wear,
+    fed: &[u64],
+    number: u64,
+) -> Result<(), AllocError>
+    requires based { EachFile groups.now.files (λ other file. file.content.base ≤ number) }
+    ensures more { (other : ℕ) → bound_of other wear.old ≤ bound_of other wear.new }
+    ensures fed { OnOk result (EachFile groups.now.files (λ other file.
+        list_any (nat_eq other) fed.now ≡ true
+        → (bound_of other wear.old + losses_above number file.content.rows
+        ≤ bound_of other wear.new) ⊎ (64 ≤ bound_of other wear.new))) }
+{
+    for file in fed {
+        wear_one(alloc, groups, wear, *file, number)?;
+    }
+    Ok(())
+}
+
+/// Notes of a file, if it is there, the rows that went out after a change.
+fn wear_one(
+    alloc: Global,
+    groups: &GroupTable,
+    wear: &mut Wear,
+    number: u64,
+    change: u64,
+) -> Result<(), AllocError>
+    requires based { EachFile groups.now.files (λ other file. file.content.base ≤ change) }
+    ensures more { (other : ℕ) → bound_of other wear.old ≤ bound_of other wear.new }
+    ensures here { OnOk result (AtFile groups.now.files number (λ file.
+        (bound_of number wear.old + losses_above change file.content.rows
+        ≤ bound_of number wear.new) ⊎ (64 ≤ bound_of number wear.new))) }
+{
+    let file = FileId(number);
+    if !groups.has(file) {
+        return Ok(());
+    }
+    let losses = losses_since(alloc, &groups.file(file), change)?;
+    wear.raise(number, losses)
+}
+
+/// How many rows of a view went out above `n`. Only rows above `n` are looked at.
+fn losses_since(alloc: Global, view: &View<'_>, n: u64) -> Result<u64, AllocError>
+    requires { (shown view.now).base ≤ n }
+    ensures { IfOk result (λ losses. losses ≡ losses_above n (shown view.now).rows) }
+{
+    let places = view.since(alloc, n)?;
+    let mut losses = 0;
+    for place in places.as_slice() {
+        if !view.signed(*place).plus {
+            losses += 1;
+        }
+    }
+    Ok(losses)
 }
 
 /// Takes the subscription of this install number away, if it is there, and tells its file. It takes

@@ -8,9 +8,11 @@ use Rattle.ncq_change.specs.Stores.{world_in}
 use Rattle.ncq_shelf.specs.Contents.{Fits}
 use Rattle.ncq_group.specs.Tables.{TableState, Facts}
 use Rattle.ncq_group.specs.Installs.{NamesTheMissing}
-use Rattle.ncq_live.specs.LiveTables.{IsLiveTable, LiveState}
+use Rattle.ncq_live.specs.LiveTables.{LiveState}
+use Rattle.ncq_live.specs.Wears.{IsInOrder}
 use Rattle.ncq_live.proofs.LiveTableLaws.{uses_few, table_more}
 use Rattle.ncq_live.proofs.UndoLaws.{installed_use, at_mark, table_back}
+use Rattle.ncq_live.proofs.WearLaws.{bounds_installed}
 use Rattle.ncq_live.proofs.live_table.LiveTable.add.Given.{Over}
 use Rattle.ncq_live.proofs.live_table.LiveTable.add.Goals as goal
 
@@ -19,7 +21,7 @@ install-requires-clause-formed g c = subst IsWellFormedExpr (sym c.requires.plan
 
 pub install-requires-clause-uses : goal.install-requires-clause-uses
 install-requires-clause-uses g c =
-    uses_few c.self.inside.groups c.self.inside.book.subscriptions c.self.invariant (subst (λ (r : LiveState). length r.subscriptions < 2 ^ 64 - 1) (sym c.self.view_is) c.requires.few)
+    uses_few c.self.inside.groups c.self.inside.book.subscriptions c.self.invariant.live_table (subst (λ (r : LiveState). length r.subscriptions < 2 ^ 64 - 1) (sym c.self.view_is) c.requires.few)
 
 pub returns-in_err-file-clause-cost : goal.returns-in_err-file-clause-cost
 returns-in_err-file-clause-cost g c = λ missing names.
@@ -32,8 +34,11 @@ pub invariant_of-self-in-Ok : goal.invariant_of-self-in-Ok
 invariant_of-self-in-Ok g c =
     let facts : Facts c.self.inside.groups = subst (λ (r : LiveState). Facts r.table) (sym c.self.view_is) c.facts.ensures.facts in
     let subscription : Subscription = record (c.args.subscription) { file = c.in_ok-file.file } in
-    subst (λ (b : BookState). IsLiveTable c.install.new.self b.subscriptions) (sym c.in-Ok.ensures.ok)
-    (table_more c.self.inside.groups c.install.new.self facts c.self.inside.book.subscriptions c.self.invariant subscription c.args.plan.now c.requires.formed c.requires.plan c.in_ok-file.ensures.ok)
+    subst (λ (b : BookState). IsInOrder c.install.new.self b.subscriptions c.self.inside.wear) (sym c.in-Ok.ensures.ok)
+    (record {
+      live_table = table_more c.self.inside.groups c.install.new.self facts c.self.inside.book.subscriptions c.self.invariant.live_table subscription c.args.plan.now c.requires.formed c.requires.plan c.in_ok-file.ensures.ok;
+      bounds = bounds_installed c.args.plan.now c.self.inside.groups c.install.new.self c.in_ok-file.file.0 c.in_ok-file.ensures.ok c.self.inside.wear c.self.invariant.bounds;
+    })
 
 pub release-requires : goal.release-requires
 release-requires g c = installed_use c.args.plan.now c.self.inside.groups c.install.new.self c.in_ok-file.file.0 c.in_ok-file.ensures.ok
@@ -59,7 +64,8 @@ back g c =
 
 pub invariant_of-self-in-Err : goal.invariant_of-self-in-Err
 invariant_of-self-in-Err g c =
-    subst (λ (t : TableState). IsLiveTable t c.add.new.self.subscriptions) (sym (back g c)) (subst (λ (b : BookState). IsLiveTable c.self.inside.groups b.subscriptions) (sym c.in-Err.ensures.err) c.self.invariant)
+    subst (λ (t : TableState). IsInOrder t c.add.new.self.subscriptions c.self.inside.wear) (sym (back g c))
+    (subst (λ (b : BookState). IsInOrder c.self.inside.groups b.subscriptions c.self.inside.wear) (sym c.in-Err.ensures.err) c.self.invariant)
 
 pub returns-in-Ok-clause-cost : goal.returns-in-Ok-clause-cost
 returns-in-Ok-clause-cost g c = λ missing names.
