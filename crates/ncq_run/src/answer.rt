@@ -164,6 +164,10 @@ fn piece<'a>(text: &'a [u8], span: &Span) -> &'a [u8]
     &text[span.from..span.to]
 }
 
+/// Gives back the memory of a command whose answer is made. It is a function of its own since each
+/// way out of a larger one that drops a command takes long to prove.
+pub(crate) fn let_go(_command: Command) {}
+
 /// Writes what is shown of the answer to the next command. Its text is made in `text`.
 fn answer_one<O: Sink, L: Ledger>(
     task: &Task<'_>,
@@ -185,7 +189,9 @@ fn answer_one<O: Sink, L: Ledger>(
     ensures sink { LeavesSink (O.faults output.old) (O.faults output.new)
         (O.sure output.old) (O.sure output.new) (O.held output.new) result }
 {
-    let Ok(()) = make_shown(task, engine, &command, text, steps) else {
+    let shown = make_shown(task, engine, &command, text, steps);
+    let_go(command);
+    let Ok(()) = shown else {
         return Err(Stop::NoMemory);
     };
     match write_all(output, text.as_slice()) {

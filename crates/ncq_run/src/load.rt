@@ -6,7 +6,7 @@ ghost use Rattle.ncq_outside.specs.Causes.{IsFull};
 ghost use Rattle.ncq_report.specs.Loads.{load_text};
 ghost use Rattle.ncq_script.specs.Proper.{IsProperCommand};
 ghost use Rattle.ncq_script.specs.Script.{script};
-ghost use Rattle.ncq_script.specs.ScriptReading.{limit_of, is_finished};
+ghost use Rattle.ncq_script.specs.ScriptReading.{FollowsScript, limit_of, is_finished};
 ghost use Rattle.ncq_engine.specs.History.{History};
 ghost use Rattle.ncq_engine.specs.Languages.{language_of};
 ghost use Rattle.ncq_engine.specs.Stands.{Stands};
@@ -15,7 +15,7 @@ ghost use Rattle.ncq_run.specs.Session.{Advances, Asks, IsSmall, IsTallied, IsTh
 ghost use Rattle.ncq_run.specs.Status.{Loaded, StandsForThe, outside};
 ghost use Rattle.ncq_run.specs.Tallies.{no_tally, tally_of, with_command};
 
-use crate::answer::{Task, make_answer, write_all};
+use crate::answer::{Task, let_go, make_answer, write_all};
 use crate::session::Status;
 use ncq_base::Steps;
 use ncq_engine::Engine;
@@ -45,7 +45,9 @@ fn tally_one<L: Ledger>(
     ensures small { OnOk result (IsSmall tally.new engine.new.count) }
     ensures asks { Asks engine.old command steps.old engine.new steps.new result }
 {
-    let accepted = make_answer(task, engine, &command, text, steps)?;
+    let answered = make_answer(task, engine, &command, text, steps);
+    let_go(command);
+    let accepted = answered?;
     count_one(tally, accepted, engine.spans().len(), text.len());
     Ok(())
 }
@@ -167,7 +169,43 @@ fn empty_tally() -> Tally
     }
 }
 
-/// Answers the commands of a load of `n` subscribers one by one, and counts them.
+/// Answers the commands of a load of `n` subscribers one by one, and counts them. The reader was
+/// pushed nothing yet.
+fn tally_parts<L: Ledger>(
+    task: &Task<'_>,
+    n: u64,
+    reader: &mut ScriptReader,
+    engine: &mut Engine,
+    steps: &mut Steps<L>,
+) -> Result<Tally, AllocError>
+    requires some { 1 ≤ n }
+    requires few { n ≤ 2000 }
+    requires follows { FollowsScript reader.old [] 0 }
+    requires is_open { is_finished reader.old ≡ false }
+    requires fresh { StandsForThe (language_of engine.old.labels) [] engine.old }
+    requires handlers { engine.old.labels
+        ≡ (labels task.now.handlers.now.items.items (λ h. h.name) (λ h. h.kind)) }
+    ensures tallied { IfOk result (λ tally. (tally ≡ tally_of (language_of engine.old.labels)
+        (script (limit_of reader.old) (load_text n)))
+        × StandsForThe (language_of engine.old.labels)
+        (script (limit_of reader.old) (load_text n)) engine.new) }
+    ensures work { AreWithinTries (language_of engine.old.labels)
+        (script (limit_of reader.old) (load_text n)) steps.old steps.new }
+    ensures labels { engine.new.labels ≡ engine.old.labels }
+{
+    loads_are_short();
+    let mut tally = empty_tally();
+    let mut part = Vec::new(task.alloc);
+    for number in 0..2 * n + 4 {
+        part.clear();
+        generate(n, number, &mut part)?;
+        tally_part(task, reader, engine, part.as_slice(), &mut tally, steps)?;
+    }
+    tally_rest(task, reader, engine, &mut tally, steps)?;
+    Ok(tally)
+}
+
+/// Answers and counts the commands of a load of `n` subscribers, by a reader of their own.
 fn tally_load<L: Ledger>(
     task: &Task<'_>,
     n: u64,
@@ -188,24 +226,8 @@ fn tally_load<L: Ledger>(
         steps.old steps.new }
     ensures labels { engine.new.labels ≡ engine.old.labels }
 {
-    loads_are_short();
     let mut reader = ScriptReader::new(task.alloc, limit);
-    let mut tally = empty_tally();
-    let mut part = Vec::new(task.alloc);
-    for number in 0..2 * n + 4 {
-        part.clear();
-        generate(n, number, &mut part)?;
-        tally_part(
-            task,
-            &mut reader,
-            engine,
-            part.as_slice(),
-            &mut tally,
-            steps,
-        )?;
-    }
-    tally_rest(task, &mut reader, engine, &mut tally, steps)?;
-    Ok(tally)
+    tally_parts(task, n, &mut reader, engine, steps)
 }
 
 /// Answers the commands of a load of `n` subscribers, and writes their tally.

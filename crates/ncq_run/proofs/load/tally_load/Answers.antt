@@ -1,84 +1,24 @@
-use Rattle.std.proofs.Common.{◌≡◌, ◌+◌, ◌*◌, ◌++◌, ◌∙◌, arith, refl, sym, ap, length, length-append, suc, subst, List, ℕ}
-use Rattle.ncq_report.specs.Loads.{part_text, parts_text}
-use Rattle.ncq_run.specs.Session.{IsTallied}
-use Rattle.ncq_run.proofs.Answered.{up_to_work}
-use Rattle.ncq_run.proofs.TallyLaws.{load_tallied, load_worked, loaded_none, part_work}
+use Rattle.std.proofs.Common.{◌≡◌, ℕ, arith, subst}
+use Rattle.std.specs.Prelude.{IfOk}
+use Rattle.ncq_report.specs.Loads.{load_text}
+use Rattle.ncq_report.specs.declared.tally.Tally.{Tally}
+use Rattle.ncq_script.specs.Script.{script}
+use Rattle.ncq_engine.specs.Languages.{language_of}
+use Rattle.ncq_run.specs.Output.{AreWithinTries}
+use Rattle.ncq_run.specs.Status.{StandsForThe}
+use Rattle.ncq_run.specs.Tallies.{tally_of}
 use Rattle.ncq_run.proofs.load.tally_load.Goals as goal
 
 pub new-reader-requires : goal.new-reader-requires
 new-reader-requires g c = let limit = c.requires.limit in omega (arith, limit)
 
-pub loop-number-init : goal.loop-number-init
-loop-number-init g c = record {
-  so_far = loaded_none _ _ _ _ c.new-reader.ensures.follows c.requires.fresh c.empty_tally-tally.ensures;
-  labels = refl;
-  limit = c.new-reader.ensures.limit;
-  is_open = c.new-reader.ensures.open;
-}
-
-pub returns-in_err-generate-clause-work : goal.returns-in_err-generate-clause-work
-returns-in_err-generate-clause-work g c =
-    let here = c.loop-number-test.true in
-    let was = c.loop-number.invariant in
-    part_work c.args.engine.now.labels c.args.limit c.args.n c.loop-number.number _ c.loop-number.reader c.loop-number.engine _ _ (omega (arith, here)) refl was.labels was.limit was.is_open (up_to_work _ c.loop-number.reader c.loop-number.engine _ _ was.so_far.up_to)
-
-pub tally_part-requires-clause-so_far : goal.tally_part-requires-clause-so_far
-tally_part-requires-clause-so_far g c =
-    let here = c.loop-number-test.true in
-    let few = c.requires.few in
-    let number = c.loop-number.number in
-    let part : c.as_slice.result.now ≡ part_text c.args.n number = c.as_slice.ensures.value ∙ c.in_ok-generate.ensures.ok ∙ ap (λ (xs : List ℕ). xs ++ part_text c.args.n number) c.clear.ensures.items in
-    let most = c.loads_are_short.ensures c.args.n (suc number) few in
-    let all = length-append (parts_text c.args.n number) (part_text c.args.n number) in
-    (parts_text c.args.n number, c.args.steps.now, omega (arith, here, few, most, all, ap length part), c.loop-number.invariant.so_far)
-
-pub returns-in_err-tally_part-clause-work : goal.returns-in_err-tally_part-clause-work
-returns-in_err-tally_part-clause-work g c =
-    let here = c.loop-number-test.true in
-    let was = c.loop-number.invariant in
-    let number = c.loop-number.number in
-    let part : c.as_slice.result.now ≡ part_text c.args.n number = c.as_slice.ensures.value ∙ c.in_ok-generate.ensures.ok ∙ ap (λ (xs : List ℕ). xs ++ part_text c.args.n number) c.clear.ensures.items in
-    part_work c.args.engine.now.labels c.args.limit c.args.n (suc number) _ c.tally_part.new.reader c.tally_part.new.engine _ _ (omega (arith, here)) (ap (λ (bytes : List ℕ). parts_text c.args.n number ++ bytes) part) (c.tally_part.ensures.labels ∙ was.labels)
-    (c.tally_part.ensures.limit ∙ was.limit) c.tally_part.ensures.is_open (c.tally_part.ensures.through _ _ was.so_far.up_to).work
-
-pub loop-number-preserved : goal.loop-number-preserved
-loop-number-preserved g c =
-    let was = c.loop-number.invariant in
-    let number = c.loop-number.number in
-    let part : c.as_slice.result.now ≡ part_text c.args.n number = c.as_slice.ensures.value ∙ c.in_ok-generate.ensures.ok ∙ ap (λ (xs : List ℕ). xs ++ part_text c.args.n number) c.clear.ensures.items in
-    let one : number + 1 ≡ suc number = omega arith in
-    let bytes : parts_text c.args.n number ++ c.as_slice.result.now ≡ parts_text c.args.n (number + 1) = ap (λ (xs : List ℕ). parts_text c.args.n number ++ xs) part ∙ sym (ap (parts_text c.args.n) one) in
-    record {
-      so_far = subst (λ (bs : List ℕ). IsTallied bs c.tally_part.new.reader c.tally_part.new.engine c.tally_part.new.tally c.args.steps.now c.tally_part.new.steps) bytes (c.in_ok-tally_part.ensures.tallied _ _ was.so_far);
-      labels = c.tally_part.ensures.labels ∙ was.labels;
-      limit = c.tally_part.ensures.limit ∙ was.limit;
-      is_open = c.tally_part.ensures.is_open;
-    }
-
-pub tally_rest-requires-clause-so_far : goal.tally_rest-requires-clause-so_far
-tally_rest-requires-clause-so_far g c =
-    let whole : c.loop-number.number ≡ 2 * c.args.n + 4 = omega (arith, c.loop-number-test.false, c.loop-number.auto.number-end) in
-    let few = c.requires.few in
-    let most = c.loads_are_short.ensures c.args.n c.loop-number.number few in
-    (parts_text c.args.n c.loop-number.number, c.args.steps.now, omega (arith, whole, few, most), c.loop-number.invariant.so_far)
-
-pub returns-in_err-tally_rest-clause-work : goal.returns-in_err-tally_rest-clause-work
-returns-in_err-tally_rest-clause-work g c =
-    let whole : c.loop-number.number ≡ 2 * c.args.n + 4 = omega (arith, c.loop-number-test.false, c.loop-number.auto.number-end) in
-    let was = c.loop-number.invariant in
-    load_worked c.args.engine.now.labels c.args.limit c.args.n (parts_text c.args.n c.loop-number.number) c.tally_rest.new.reader c.tally_rest.new.engine _ _ (ap (parts_text c.args.n) whole) (c.tally_rest.ensures.labels ∙ was.labels)
-    (c.tally_rest.ensures.limit ∙ was.limit) c.tally_rest.ensures.closed (c.tally_rest.ensures.through _ _ was.so_far.up_to).work
+pub returns-clause-tallied : goal.returns-clause-tallied
+returns-clause-tallied g c =
+    let language = language_of c.args.engine.now.labels in
+    subst (λ (limit : ℕ). IfOk c.tally_parts.result (λ (tally : Tally). (tally ≡ tally_of language (script limit (load_text c.args.n))) × StandsForThe language (script limit (load_text c.args.n)) c.tally_parts.new.engine)) c.new-reader.ensures.limit
+    c.tally_parts.ensures.tallied
 
 pub returns-clause-work : goal.returns-clause-work
 returns-clause-work g c =
-    let whole : c.loop-number.number ≡ 2 * c.args.n + 4 = omega (arith, c.loop-number-test.false, c.loop-number.auto.number-end) in
-    let was = c.loop-number.invariant in
-    load_worked c.args.engine.now.labels c.args.limit c.args.n (parts_text c.args.n c.loop-number.number) c.tally_rest.new.reader c.tally_rest.new.engine _ _ (ap (parts_text c.args.n) whole) (c.tally_rest.ensures.labels ∙ was.labels)
-    (c.tally_rest.ensures.limit ∙ was.limit) c.tally_rest.ensures.closed (c.tally_rest.ensures.through _ _ was.so_far.up_to).work
-
-pub returns-clause-tallied : goal.returns-clause-tallied
-returns-clause-tallied g c =
-    let whole : c.loop-number.number ≡ 2 * c.args.n + 4 = omega (arith, c.loop-number-test.false, c.loop-number.auto.number-end) in
-    let was = c.loop-number.invariant in
-    load_tallied c.args.engine.now.labels c.args.limit c.args.n (parts_text c.args.n c.loop-number.number) c.tally_rest.new.reader c.tally_rest.new.engine c.args.steps.now c.tally_rest.new.steps (ap (parts_text c.args.n) whole) (c.tally_rest.ensures.labels ∙ was.labels)
-    (c.tally_rest.ensures.limit ∙ was.limit) c.tally_rest.ensures.closed _ (c.in_ok-tally_rest.ensures.tallied _ _ was.so_far) (c.in_ok-tally_rest.ensures.through _ _ was.so_far.up_to).all
+    let language = language_of c.args.engine.now.labels in
+    subst (λ (limit : ℕ). AreWithinTries language (script limit (load_text c.args.n)) c.args.steps.now c.tally_parts.new.steps) c.new-reader.ensures.limit c.tally_parts.ensures.work
