@@ -1,6 +1,6 @@
 //! The items of a query: matches and conditions.
 ghost use Rattle.std.specs.Prelude.{◌≡◌};
-ghost use Rattle.ncq_xmlql.specs.Reading.{Gives};
+ghost use Rattle.ncq_xmlql.specs.Reading.{Gives, checked, end_at};
 ghost use Rattle.ncq_xmlql.specs.ItemReading.{literal_at, source_at, root_at, match_at, operand_at};
 ghost use Rattle.ncq_xmlql.specs.ItemReading.{op_at, is_variable, has_arm, condition_at, item_at};
 ghost use Rattle.ncq_xmlql.specs.ItemReading.{next_item_at, starts_construct, continues, items_at};
@@ -57,6 +57,20 @@ fn has_arm(arms: &[Pattern]) -> bool
     }
 }
 
+/// The tokens behind the end of the root, where there is a pattern under it.
+fn arms_end_at<'a>(
+    root: &Bytes,
+    arms: &[Pattern],
+    tokens: &'a [Token],
+) -> Result<&'a [Token], Mismatch>
+    ensures { Gives (λ x. x.now) result (checked (has_arm arms.now) (end_at root.now tokens.now)) }
+{
+    if !has_arm(arms) {
+        return Err(Mismatch::NotSpelled);
+    }
+    end_at(root, tokens)
+}
+
 /// The match in front, whose patterns nest no deeper than `depth`, and the tokens behind it.
 #[tactic(auto, unfolding(crate::specs::ItemReading::match_at))]
 fn match_at(
@@ -68,10 +82,7 @@ fn match_at(
 {
     let (root, rest) = root_at(alloc, tokens)?;
     let (arms, rest) = patterns_at(alloc, depth, rest)?;
-    if !has_arm(arms.as_slice()) {
-        return Err(Mismatch::NotSpelled);
-    }
-    let rest = end_at(&root, rest)?;
+    let rest = arms_end_at(&root, arms.as_slice(), rest)?;
     let (source, rest) = source_at(alloc, rest)?;
     Ok((QueryItem::Match { root, arms, source }, rest))
 }

@@ -3,7 +3,7 @@ ghost use Rattle.ncq_token.specs.declared.token.Token.{Token};
 ghost use Rattle.std.specs.Prelude.{List, ℕ, ◌≡◌, ◌++◌, ◌≤◌, ◌<◌, ◌∷◌, [], length, IfOk, OnOk};
 ghost use Rattle.ncq_xmlql.specs.Reading.{Gives, value_at, attributes_at, close_at, name_at};
 ghost use Rattle.ncq_xmlql.specs.Reading.{variable_at, tag_at, opening_at, end_close_at, end_at};
-ghost use Rattle.ncq_xmlql.specs.Reading.{suffix_at, words_at, with_text};
+ghost use Rattle.ncq_xmlql.specs.Reading.{checked, names_differ, suffix_at, words_at, with_text};
 
 use crate::distinct::names_differ;
 use crate::keyword::{is_content_as, is_element_as};
@@ -45,8 +45,8 @@ fn attributes_at(alloc: Global, tokens: &[Token]) -> Result<(PatternAttributes, 
         let Token::Name(name) = token else {
             return Ok((attributes, rest));
         };
-        let (value, next) = value_at(alloc, after)?;
         let name = name.copy(alloc)?;
+        let (value, next) = value_at(alloc, after)?;
         attributes.push(PatternAttribute { name, value })?;
         rest = next;
     }
@@ -79,10 +79,7 @@ pub(crate) fn opening_at(alloc: Global, tokens: &[Token]) -> Result<(Tag, &[Toke
 {
     let (name, rest) = tag_at(alloc, tokens)?;
     let (attributes, rest) = attributes_at(alloc, rest)?;
-    if !names_differ(alloc, attributes.as_slice())? {
-        return Err(Mismatch::NotSpelled);
-    }
-    let (is_empty, rest) = close_at(rest)?;
+    let (is_empty, rest) = close_behind(alloc, attributes.as_slice(), rest)?;
     Ok((
         Tag {
             name,
@@ -91,6 +88,22 @@ pub(crate) fn opening_at(alloc: Global, tokens: &[Token]) -> Result<(Tag, &[Toke
         },
         rest,
     ))
+}
+
+/// Whether the tag that is closed behind these attributes is empty, where no two of them have one
+/// name, and the tokens behind it.
+fn close_behind<'a>(
+    alloc: Global,
+    attributes: &[PatternAttribute],
+    tokens: &'a [Token],
+) -> Result<(bool, &'a [Token]), Mismatch>
+    ensures { Gives (λ x. (x.0, x.1.now)) result
+        (checked (names_differ attributes.now) (close_at tokens.now)) }
+{
+    if !names_differ(alloc, attributes)? {
+        return Err(Mismatch::NotSpelled);
+    }
+    close_at(tokens)
 }
 
 /// Whether the tag that is closed there is empty, and the tokens behind it.

@@ -1,7 +1,10 @@
 //! A statement from its text, within the limits.
-ghost use Rattle.std.specs.Prelude.{◌≡◌, Ok, IfOk};
-ghost use Rattle.ncq_xmlql.specs.Reading.{Gives};
-ghost use Rattle.ncq_xmlql.specs.StatementReading.{query_at, statement_at};
+ghost use Rattle.std.specs.Prelude.{◌≡◌, List, ℕ, Option, Some, None, Ok, IfOk};
+ghost use Rattle.ncq_xmlql.specs.declared.model.Statement.{Statement as ReadStatement};
+ghost use Rattle.ncq_xmlql.specs.declared.time.Times.{Times as ReadTimes};
+ghost use Rattle.ncq_xmlql.specs.Reading.{Gives, ◌>>=◌ as ◌and_then◌};
+ghost use Rattle.ncq_xmlql.specs.StatementReading.{action_at, argument_at, query_at, statement_at};
+ghost use Rattle.ncq_xmlql.specs.Times.{times, times_from};
 ghost use Rattle.ncq_xmlql.specs.Statements.{Answers};
 ghost use Rattle.ncq_xmlql.specs.Answered.{exceeded, answered_tokens, statement_of, GivesStatement};
 ghost use Rattle.ncq_xmlql.specs.WellFormed.{IsWellFormed};
@@ -13,8 +16,8 @@ use crate::mismatch::Mismatch;
 use crate::model::{Query, QueryItem, Statement};
 use crate::nest::nest;
 use crate::template::top_at;
-use crate::time::times_at;
-use ncq_base::Limit;
+use crate::time::{Times, times_at};
+use ncq_base::{Bytes, Limit};
 use ncq_token::{Token, TokenError, tokens};
 use std::alloc::Global;
 use thiserror::Error;
@@ -56,6 +59,33 @@ fn query_at(alloc: Global, depth: usize, tokens: &[Token]) -> Result<(Query, &[T
     Ok((Query { items, template }, rest))
 }
 
+/// What stands behind the query of a statement.
+#[derive(Drop)]
+struct Ending {
+    action: Bytes,
+    argument: Option<Bytes>,
+    times: Times,
+}
+
+/// The action, the argument and the times that all of the tokens write. Its clause is over what is
+/// made of them.
+fn ending_at(alloc: Global, tokens: &[Token]) -> Result<Ending, Mismatch>
+    ensures { (made : List ℕ → Option (List ℕ) → ReadTimes → ReadStatement)
+        → Gives (λ e. made e.action e.argument e.times) result
+        (action_at tokens.now and_then λ action. argument_at action.1 and_then λ argument.
+        times_from (times None None None) argument.1 and_then λ written.
+        Some (made action.0 argument.0 written)) }
+{
+    let (action, rest) = action_at(alloc, tokens)?;
+    let (argument, rest) = argument_at(alloc, rest)?;
+    let times = times_at(rest)?;
+    Ok(Ending {
+        action,
+        argument,
+        times,
+    })
+}
+
 /// The statement that all of the tokens write.
 #[tactic(auto, unfolding(crate::specs::StatementReading::statement_at))]
 fn statement_at(alloc: Global, tokens: &[Token]) -> Result<Statement, Mismatch>
@@ -63,18 +93,15 @@ fn statement_at(alloc: Global, tokens: &[Token]) -> Result<Statement, Mismatch>
 {
     let (name, rest) = head_at(alloc, tokens)?;
     let (query, rest) = query_at(alloc, tokens.len(), rest)?;
-    let (action, rest) = action_at(alloc, rest)?;
-    let (argument, rest) = argument_at(alloc, rest)?;
-    let times = times_at(rest)?;
-    let every = times.every.unwrap_or(0);
+    let ending = ending_at(alloc, rest)?;
     Ok(Statement {
         name,
         query,
-        action,
-        argument,
-        start: times.start,
-        every,
-        expire: times.expire,
+        action: ending.action,
+        argument: ending.argument,
+        start: ending.times.start,
+        every: ending.times.every.unwrap_or(0),
+        expire: ending.times.expire,
     })
 }
 

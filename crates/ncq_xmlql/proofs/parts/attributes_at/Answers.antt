@@ -11,7 +11,7 @@ returns-in_default-token c =
 
 pub returns-in_err-value : goal.returns-in_err-value
 returns-in_err-value c =
-    let p = err_from_is_err_and c.from_residual.result c.from_residual.ensures.1 in
+    let p = err_from_is_err_and c.from_residual-in_err-value.result c.from_residual-in_err-value.ensures.1 in
     let cons = c.in-Some.ensures.cases.0 in
     let s = rw (cons, c.in-Name.is) at c.loop-token.invariant in
     rw (p.1, p.2) (attributes_fail c.in_err-value.field-0.0 c.loop-token.attributes c.in-Name.name c.in-Some.after.now (attributes_at c.args.tokens.now) c.in_err-value.ensures s)
