@@ -13,6 +13,14 @@ use ncq_base::Copied;
 use ncq_plan::{Arm, Arms, EqualTo, EqualTos, Pair, Pairs, Within, Withins};
 use std::alloc::{AllocError, Global};
 
+/// What is asked of an arm.
+#[derive(Drop)]
+struct Demands {
+    equals: EqualTos,
+    ranges: Withins,
+    pairs: Pairs,
+}
+
 /// Whether a slot of the query is one of the arm with this offset and width.
 pub(crate) fn in_arm(offset: usize, width: usize, slot: usize) -> bool
     ensures { result ≡ in_arm offset width slot }
@@ -39,12 +47,34 @@ pub(crate) fn normal_arms(
 fn normal_arm(alloc: Global, arm: OpenArm, constraints: &[Constraint]) -> Result<Arm, AllocError>
     ensures { IfOk result (λ a. a ≡ normal_arm constraints.now arm) }
 {
-    let equals = equals_in(alloc, arm.offset, arm.width, constraints)?;
-    let ranges = ranges_in(alloc, arm.offset, arm.width, constraints)?;
-    let pairs = pairs_in(alloc, arm.offset, arm.width, constraints)?;
+    let demands = demands_in(alloc, arm.offset, arm.width, constraints)?;
     Ok(Arm {
         source: arm.source,
         shape: arm.shape,
+        equals: demands.equals,
+        ranges: demands.ranges,
+        pairs: demands.pairs,
+    })
+}
+
+/// What the constraints ask of the arm.
+fn demands_in(
+    alloc: Global,
+    offset: usize,
+    width: usize,
+    constraints: &[Constraint],
+) -> Result<Demands, AllocError>
+    ensures equals { IfOk result (λ d. d.equals
+        ≡ sorted_onto equal_order [] (flat_map (equal_in offset width) constraints.now)) }
+    ensures ranges { IfOk result (λ d. d.ranges
+        ≡ ranges_onto [] (flat_map (range_in offset width) constraints.now)) }
+    ensures pairs { IfOk result (λ d. d.pairs
+        ≡ sorted_onto pair_order [] (flat_map (pair_in offset width) constraints.now)) }
+{
+    let equals = equals_in(alloc, offset, width, constraints)?;
+    let ranges = ranges_in(alloc, offset, width, constraints)?;
+    let pairs = pairs_in(alloc, offset, width, constraints)?;
+    Ok(Demands {
         equals,
         ranges,
         pairs,

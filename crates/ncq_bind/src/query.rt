@@ -1,7 +1,8 @@
 //! Queries in normal form, whatever the sources are.
-ghost use Rattle.std.specs.Prelude.{◌≡◌, if◌then◌else◌, IfOk, Some, None};
+ghost use Rattle.std.specs.Prelude.{◌≡◌, ◌&&◌, if◌then◌else◌, IfOk, Some, None};
+ghost use Rattle.std.specs.List.{list_all};
 ghost use Rattle.ncq_bind.specs.NormalQueries.{query_over, normal_query};
-ghost use Rattle.ncq_bind.specs.Bound.{query_is_bound};
+ghost use Rattle.ncq_bind.specs.Bound.{item_is_bound, query_is_bound, template_is_bound};
 
 use crate::arm::normal_arms;
 use crate::bound::query_is_bound;
@@ -12,7 +13,7 @@ use crate::open_arm::OpenArms;
 use crate::residual::residual_of;
 use crate::template::slot_template;
 use ncq_plan::NormalQuery;
-use ncq_xmlql::Query;
+use ncq_xmlql::{Operand, Query};
 use std::alloc::{AllocError, Global};
 
 /// The normal query, where all variables that are used have places.
@@ -22,7 +23,22 @@ pub(crate) fn normal_query(alloc: Global, query: &Query) -> Result<Option<Normal
 {
     let items = query.items.as_slice();
     let Gathered { arms, places } = gather(alloc, items)?;
-    let names = Names::new(alloc, places.as_slice())?;
+    bound_query(alloc, places.as_slice(), arms, query)
+}
+
+/// The query with these places and arms, where all variables that are used are at these places.
+fn bound_query(
+    alloc: Global,
+    places: &[Operand],
+    arms: OpenArms,
+    query: &Query,
+) -> Result<Option<NormalQuery>, AllocError>
+    ensures { IfOk result (λ n. n
+        ≡ (if list_all (item_is_bound places.now) query.now.items
+        && template_is_bound places.now query.now.template
+        then Some (query_over places.now arms query.now) else None)) }
+{
+    let names = Names::new(alloc, places)?;
     if !query_is_bound(&names, query) {
         return Ok(None);
     }
