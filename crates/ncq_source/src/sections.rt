@@ -6,7 +6,7 @@ ghost use Rattle.std.specs.Ordering.{nat_cmp};
 ghost use Rattle.std.specs.Option.{option_map};
 ghost use Rattle.ncq_source.specs.Fews.{portions_in};
 ghost use Rattle.ncq_source.specs.Sections.{are_known, batch_trial};
-ghost use Rattle.ncq_source.specs.Seens.{ArePortions, TellsSeen};
+ghost use Rattle.ncq_source.specs.Seens.{ArePortions, TellsSeen, placed_portion, placed_seen};
 ghost use Rattle.ncq_source.specs.StoreStates.{ArePortionsOf, TellsBatch, holdings_of, found};
 ghost use Rattle.ncq_source.specs.Views.{source_of};
 
@@ -166,11 +166,18 @@ fn portions_of(alloc: Global, seen: BTreeMap<usize, Seen<'_>>) -> Result<Vec<Por
 {
     let mut portions = Vec::with_capacity(alloc, seen.len())?;
     for (at, one) in seen {
-        let Seen { entries, .. } = one;
-        portions.push(Portion {
-            source: SourceId(at),
-            entries,
-        })?;
+        portions.push(portion_of(at, one))?;
     }
     Ok(portions)
+}
+
+/// The portion of the source at this place.
+fn portion_of(at: usize, one: Seen<'_>) -> Portion
+    ensures { placed_portion result ≡ placed_seen (at, one.entry) }
+{
+    let Seen { entries, .. } = one;
+    Portion {
+        source: SourceId(at),
+        entries,
+    }
 }

@@ -1,6 +1,8 @@
 //! The store: sources that are declared, looked at and changed.
 ghost use Rattle.std.specs.Prelude.{◌≡◌, ◌<◌, ◌-◌, ◌^◌, ◌↔◌, [], length, map, slice_get, Some};
-ghost use Rattle.std.specs.Prelude.{None, Err, IfOk, OnOk, OnErr, IsSome, true, false};
+ghost use Rattle.std.specs.Prelude.{None, Err, IfOk, OnOk, OnErr, IsSome, true, false, position};
+ghost use Rattle.std.specs.Prelude.{◌++◌, ◌∷◌, vec_capacity, vec_len};
+ghost use Rattle.std.specs.Str.{bytes_eq};
 ghost use Rattle.std.specs.Option.{is_some, option_map};
 ghost use Rattle.std.specs.List.{list_all, AllByRecursion};
 ghost use Rattle.ncq_source.specs.Keys.{key_of};
@@ -127,11 +129,7 @@ impl Store {
         ensures err { OnErr result (self.new ≡ self.old) }
         ensures proper { IsProperStore self.old → IsProperStore self.new }
     {
-        if self.names.find(name.as_slice()).is_some() {
-            return Err(DeclareError::Exists);
-        }
-        self.sources.reserve(1)?;
-        self.names.push(alloc, name.as_slice())?;
+        take_name(alloc, &mut self.names, &mut self.sources, name.as_slice())?;
         let at = self.sources.len();
         let declared = Declared {
             name,
@@ -291,4 +289,27 @@ impl Store {
         let number = self.changes;
         commit_all(&mut self.sources, change.into_portions(), number);
     }
+}
+
+/// Takes the name behind the others, where it is not among them, with room for its source. After
+/// an error the names are as they were.
+fn take_name(
+    alloc: Global,
+    names: &mut Names,
+    sources: &mut Vec<Declared>,
+    name: &[u8],
+) -> Result<(), DeclareError>
+    ensures exists { result ≡ Err DeclareError.Exists
+        ↔ IsSome (position (bytes_eq name.now) names.old) }
+    ensures ok { OnOk result (names.new ≡ names.old ++ name.now ∷ []) }
+    ensures err { OnErr result (names.new ≡ names.old) }
+    ensures sources { sources.new.items ≡ sources.old.items }
+    ensures room { OnOk result (vec_len sources.new < vec_capacity sources.new) }
+{
+    if names.find(name).is_some() {
+        return Err(DeclareError::Exists);
+    }
+    sources.reserve(1)?;
+    names.push(alloc, name)?;
+    Ok(())
 }

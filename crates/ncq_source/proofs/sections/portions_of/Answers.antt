@@ -1,4 +1,4 @@
-use Rattle.std.proofs.Common.{◌≡◌, ◌++◌, ◌∷◌, [], ◌∙◌, List, ℕ, map, ap, sym, refl, append_assoc, append-nil}
+use Rattle.std.proofs.Common.{◌≡◌, ◌++◌, ◌∷◌, [], ◌∙◌, List, ℕ, map, ap, sym, append_assoc, append-nil}
 use Rattle.ncq_source.specs.Seens.{placed_portion, placed_seen}
 use Rattle.ncq_source.specs.declared.change.Entry.{Entry}
 use Rattle.ncq_source.specs.declared.change.Portion.{Portion}
@@ -16,7 +16,7 @@ one_more portions new portion left more pair whole is split same all =
     ∙ ap (λ (ps : List (ℕ × Seen)). map placed_portion portions ++ map placed_seen ps) (sym split) ∙ all
 
 pub loop-at-preserved : goal.loop-at-preserved
-loop-at-preserved c = one_more _ _ _ _ _ _ _ c.in_ok-push.ensures.items c.in-Some.ensures.steps refl c.loop-at.invariant
+loop-at-preserved c = one_more _ _ _ _ _ _ _ c.in_ok-push.ensures.items c.in-Some.ensures.steps c.portion_of.ensures c.loop-at.invariant
 
 pub returns-clause-portions : goal.returns-clause-portions
 returns-clause-portions c =
