@@ -1,5 +1,5 @@
 //! The notice that tells sums.
-ghost use Rattle.std.specs.Prelude.{◌≡◌, ◌++◌, length, take, decimal, OnOk, OnErr};
+ghost use Rattle.std.specs.Prelude.{◌≡◌, ◌++◌, codes, length, take, decimal, OnOk, OnErr};
 ghost use Rattle.std.specs.Io.{StartsWith};
 ghost use Rattle.ncq_callback.specs.Texts.{count_text, gained, lost, render};
 
@@ -38,9 +38,18 @@ fn write_count(notice: &Notice, out: &mut Vec<u8>) -> Result<(), AllocError>
         b" gain ",
         out,
     )?;
-    write_sum(gained(notice.entries.as_slice()), out)?;
+    write_sums(notice.entries.as_slice(), out)
+}
+
+/// Appends the sums, with `lose` between them, and ends the line; what was there stays in front.
+fn write_sums(entries: &[Difference], out: &mut Vec<u8>) -> Result<(), AllocError>
+    ensures ok { OnOk result (out.new.items ≡ out.old.items ++ (decimal (gained entries.now)
+        ++ codes " lose " ++ decimal (lost entries.now) ++ codes "\n")) }
+    ensures front { StartsWith out.new.items out.old.items }
+{
+    write_sum(gained(entries), out)?;
     out.extend_from_slice(b" lose ")?;
-    write_sum(lost(notice.entries.as_slice()), out)?;
+    write_sum(lost(entries), out)?;
     out.extend_from_slice(b"\n")
 }
 

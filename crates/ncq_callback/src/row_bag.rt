@@ -15,6 +15,7 @@ use ncq_row::Row;
 use std::alloc::{AllocError, Global};
 use std::cmp::Ordering;
 use std::marker::Model;
+use std::mem::replace;
 
 /// A bag of answers, and the last answer and the one before it, which are not in it yet. So the
 /// bag is not touched where there are no more than two, as most often. Contracts see the counts
@@ -133,8 +134,7 @@ impl RowBag {
             add_last(alloc, &mut self.bag, &self.before)?;
             self.empty = false;
         }
-        self.before = self.last.take();
-        self.last = Some(next);
+        self.before = replace(&mut self.last, Some(next));
         Ok(())
     }
 
@@ -198,7 +198,7 @@ fn rising(alloc: Global, first: LastAnswer, second: LastAnswer) -> Result<Differ
 /// The differences of a bag with the last two answers.
 fn all_differences(
     alloc: Global,
-    mut bag: SignedBag,
+    bag: SignedBag,
     before: Option<LastAnswer>,
     last: Option<LastAnswer>,
 ) -> Result<Differences, AllocError>
@@ -206,8 +206,22 @@ fn all_differences(
     ensures { IfOk result (λ d.
         d ≡ differences (with_last (with_last bag.counts before) last)) }
 {
-    add_last(alloc, &mut bag, &before)?;
-    add_last(alloc, &mut bag, &last)?;
+    differences_with(alloc, bag, &before, &last)
+}
+
+/// The differences of a bag with the two answers that are lent.
+fn differences_with(
+    alloc: Global,
+    mut bag: SignedBag,
+    before: &Option<LastAnswer>,
+    last: &Option<LastAnswer>,
+) -> Result<Differences, AllocError>
+    requires { bag.adds + adds_of before.now + adds_of last.now ≤ 2 ^ 63 }
+    ensures { IfOk result (λ d.
+        d ≡ differences (with_last (with_last bag.counts before.now) last.now)) }
+{
+    add_last(alloc, &mut bag, before)?;
+    add_last(alloc, &mut bag, last)?;
     bag.difference(alloc)
 }
 

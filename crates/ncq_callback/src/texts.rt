@@ -1,5 +1,5 @@
 //! What the texts of notices have in common.
-ghost use Rattle.std.specs.Prelude.{◌≡◌, ◌++◌, length, take, OnOk};
+ghost use Rattle.std.specs.Prelude.{◌≡◌, ◌++◌, codes, length, take, OnOk};
 ghost use Rattle.std.specs.Io.{StartsWith};
 ghost use Rattle.ncq_callback.specs.Texts.{begin_text, entries_text, entry_text};
 
@@ -26,8 +26,18 @@ pub(crate) fn write_begin(
     out.extend_from_slice(behind)
 }
 
+/// Appends the entries and `end`; what was there stays in front.
+pub(crate) fn write_rest(entries: &[Difference], out: &mut Vec<u8>) -> Result<(), AllocError>
+    ensures ok { OnOk result
+        (out.new.items ≡ out.old.items ++ (entries_text entries.now ++ codes "end\n")) }
+    ensures front { StartsWith out.new.items out.old.items }
+{
+    write_entries(entries, out)?;
+    out.extend_from_slice(b"end\n")
+}
+
 /// Appends the entries; what was there stays in front.
-pub(crate) fn write_entries(entries: &[Difference], out: &mut Vec<u8>) -> Result<(), AllocError>
+fn write_entries(entries: &[Difference], out: &mut Vec<u8>) -> Result<(), AllocError>
     ensures ok { OnOk result (out.new.items ≡ out.old.items ++ entries_text entries.now) }
     ensures front { StartsWith out.new.items out.old.items }
 {
