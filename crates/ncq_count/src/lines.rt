@@ -43,14 +43,35 @@ fn line(alloc: Global, shelf: &Shelf, key: GroupKey, count: u64) -> Result<Group
       constants = if selects key then count else 0;
     })) }
 {
-    let signature = signature(alloc, shelf, key)?;
-    let mut text = Vec::new(alloc);
-    write_signature(&signature, &mut text)?;
     Ok(GroupLine {
-        text: Bytes::from_vec(text),
+        text: text(alloc, shelf, key)?,
         constants: constants(key, count),
     })
 }
+
+/// The text of the signature of a group.
+fn text(alloc: Global, shelf: &Shelf, key: GroupKey) -> Result<Bytes, AllocError>
+    requires { IsThere shelf.now (file_of key) }
+    ensures { IfOk result (λ text. AtFile shelf.now (file_of key) (λ file.
+        text ≡ signature_text (told_by key file.expr))) }
+{
+    let signature = signature(alloc, shelf, key)?;
+    let text = text_of(alloc, &signature);
+    let_go(signature);
+    text
+}
+
+/// The text of a signature.
+fn text_of(alloc: Global, signature: &Signature) -> Result<Bytes, AllocError>
+    ensures { IfOk result (λ text. text ≡ signature_text signature.now) }
+{
+    let mut text = Vec::new(alloc);
+    write_signature(signature, &mut text)?;
+    Ok(Bytes::from_vec(text))
+}
+
+/// A signature is let go in a function of its own, so that what lets go of one is proved once.
+fn let_go(_signature: Signature) {}
 
 /// The signature of a group.
 fn signature(alloc: Global, shelf: &Shelf, key: GroupKey) -> Result<Signature, AllocError>

@@ -1,6 +1,6 @@
 //! Copies of signatures and of a report's lines.
 use crate::group::GroupLine;
-use crate::signature::Signature;
+use crate::signature::{Signature, join_of};
 use ncq_base::Copied;
 use std::alloc::{AllocError, Global};
 
@@ -19,11 +19,7 @@ impl Copied for Signature {
                 input: input.copy(alloc)?,
                 slot: *slot,
             }),
-            Signature::JoinOf { left, right, pairs } => Ok(Signature::JoinOf {
-                left: left.copy(alloc)?,
-                right: right.copy(alloc)?,
-                pairs: pairs.copy(alloc)?,
-            }),
+            Signature::JoinOf { left, right, pairs } => join_of(alloc, left, right, pairs),
         }
     }
 }
