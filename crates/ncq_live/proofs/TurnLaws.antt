@@ -75,8 +75,8 @@ nobody_gone install (m ∷ ms) e =
       | false ↦ λ q. ap (λ more. m ∷ more) (nobody_gone install ms q)
     ] e
 
-pub table_same : (old : TableState) (subscriptions : List Subscription) → IsLiveTable old subscriptions → (install : ℕ) → option_map (λ m. m.file) (subscription_of install subscriptions) ≡ None → IsLiveTable old (filter (λ m. not (is_of install m)) subscriptions)
-table_same old subscriptions live_table install e = subst (IsLiveTable old) (sym (nobody_gone install subscriptions (nobody_of (subscription_of install subscriptions) e))) live_table
+pub all_left : (subscriptions : List Subscription) (install : ℕ) → option_map (λ m. m.file) (subscription_of install subscriptions) ≡ None → filter (λ m. not (is_of install m)) subscriptions ≡ subscriptions
+all_left subscriptions install e = nobody_gone install subscriptions (nobody_of (subscription_of install subscriptions) e)
 
 pub no_release : (subscriptions : List Subscription) (install : ℕ) (P : Subscription → Type 0) → option_map (λ m. m.file) (subscription_of install subscriptions) ≡ None → IfSome (subscription_of install subscriptions) P
 no_release subscriptions install P e = subst (λ o. IfSome o P) (sym (nobody_of (subscription_of install subscriptions) e)) tt

@@ -1,14 +1,15 @@
 -- How many rows files lost above their bases, at most: as files come and go, after a change of the sources and after a compaction.
-use Rattle.std.proofs.Common.{◌≡◌, ◌≢◌, ℕ, suc, ◌+◌, ◌-◌, ◌≤◌, ◌<◌, ◌⊎◌, true, false, not, cond, min, nat_le, nat_lt, ◌&&◌, ◌||◌, Bool, List, [], ◌∷◌, ◌++◌, filter, length, take, get_or, slice_get, inl, inr, refl, sym, ◌∙◌, ap, subst, true≢false, arith}
+use Rattle.std.proofs.Common.{◌≡◌, ◌≢◌, ℕ, suc, ◌+◌, ◌-◌, ◌≤◌, ◌<◌, ◌⊎◌, true, false, not, cond, nat_le, nat_lt, ◌&&◌, ◌||◌, Bool, List, [], ◌∷◌, ◌++◌, filter, length, take, get_or, slice_get, inl, inr, refl, sym, ◌∙◌, ap, subst, true≢false, arith}
 use Rattle.std.specs.Prelude.{Option, Some, None, is_some, nat_eq, unwrap_or}
 use Rattle.std.specs.BTreeMap.{is_at}
+use Rattle.std.specs.BTreeSet.{BTreeSet, MovesPrefix}
 use Rattle.std.specs.FinMap.{get, insert, same_map, nat_cmp-IsAntisymmetric}
 use Rattle.std.specs.List.{list_any, AllByRecursion}
 use Rattle.std.specs.Map.{lookup}
 use Rattle.std.specs.Option.{option_map}
 use Rattle.std.specs.Cmp.{unsigned_tied}
 use Rattle.std.specs.Ordering.{nat_cmp}
-use Rattle.std.proofs.lemmas.Bool.{cases_eq, cases_lt, eqb-true, le-leb, ne_eqb}
+use Rattle.std.proofs.lemmas.Bool.{cases_eq, cases_lt, eqb-true, le-leb, ne_eqb, or_cases}
 use mathlib.Core.Bool.{or-false}
 use Rattle.std.proofs.lemmas.Cmp.{nat_cmp_total}
 use Rattle.std.proofs.lemmas.List.{length-append}
@@ -19,11 +20,12 @@ use Rattle.ncq_plan.specs.Totals.{SignedRow as PlainRow}
 use Rattle.ncq_source.specs.declared.change.Portion.{Portion}
 use Rattle.ncq_source.specs.StoreStates.{StoreState}
 use Rattle.ncq_midfile.specs.Content.{signed_at, since, up_to}
+use Rattle.ncq_midfile.specs.Files.{FileState}
 use Rattle.ncq_midfile.specs.Views.{losses_above}
 use Rattle.ncq_midfile.specs.declared.signed.SignedRow.{SignedRow}
 use Rattle.ncq_midfile.proofs.CountsLaws.{losses_above_is}
 use Rattle.ncq_midfile.proofs.Parts.{signed_more}
-use Rattle.ncq_shelf.specs.Contents.{cut_to, with_more}
+use Rattle.ncq_shelf.specs.Contents.{cut_to}
 use Rattle.ncq_shelf.specs.KeptFiles.{AtFile, EachFile, Files, KeptFile}
 use Rattle.ncq_shelf.specs.Stands.{IsThere}
 use Rattle.ncq_shelf.proofs.CallerLemmas.{put_same, put_other, there, one_value}
@@ -33,8 +35,10 @@ use Rattle.ncq_group.specs.Installs.{IsInstalled}
 use Rattle.ncq_group.specs.Releases.{IsReleased, with_use_less}
 use Rattle.ncq_group.specs.Tables.{TableState, Facts, mark_of}
 use Rattle.ncq_group.specs.declared.mark.GroupMark.{GroupMark}
+use Rattle.ncq_book.specs.declared.subscription.Subscription.{Subscription}
 use Rattle.ncq_book.proofs.Lists.{each_leads}
-use Rattle.ncq_live.specs.Wears.{Bounds, bound_of, losses_of, AreBounds, HasTheWorn, KnowsTheWorn}
+use Rattle.ncq_live.specs.Wears.{Bounds, WearState, bound_of, is_among, is_pinned, losses_of, AreBounds, ArePinned, HasTheWorn, IsInOrder, KnowsTheWorn}
+use Rattle.ncq_live.proofs.PinLaws.{pinned_more, pinned_pushed}
 use Rattle.ncq_live.proofs.TurnLaws.{cut_back}
 
 -- those of the rows that went out above a number
@@ -113,24 +117,36 @@ bounds_of_none files bounds none number file at = absurd (none number file at)
 
 -- an expression was installed
 module _ (plan : Expr) (old new : TableState) (number : ℕ) (i : IsInstalled plan old new number) where
-  installed_before : (other : ℕ) (file was : KeptFile) → get new.files other ≡ Some file → get old.files other ≡ Some was → losses_of file ≡ losses_of was
+  installed_before : (other : ℕ) (file was : KeptFile) → get new.files other ≡ Some file → get old.files other ≡ Some was → file.content ≡ was.content
   installed_before other file was at here = elim (cases_eq other number) [
     | inl same ↦
         let gained = i.gains was (subst (λ n. get old.files n ≡ Some was) same here) in
         let is = one_value (subst (λ n. get new.files n ≡ Some file) same at) gained in
-        ap losses_of is
-    | inr differs ↦ ap losses_of (one_value at (i.others other was here differs))
+        ap (λ (f : KeptFile). f.content) is
+    | inr differs ↦ ap (λ (f : KeptFile). f.content) (one_value at (i.others other was here differs))
   ]
 
   pub bounds_installed : (bounds : Bounds) → AreBounds old.files bounds → AreBounds new.files bounds
   bounds_installed bounds = bounds_left old.files new.files bounds (λ other file at. elim (cases_lt other old.next_file) [
     | inl under ↦
         let was = i.before other file at under in
-        inr (was.0, was.1, as_many file was.0 (installed_before other file was.0 at was.1))
+        inr (was.0, was.1, as_many file was.0 (ap (λ (c : FileState). losses_above c.base c.rows) (installed_before other file was.0 at was.1)))
     | inr above ↦
         let fresh = i.fresh other file at above in
         inl (none_lost file.content.base file.content.rows (subst (λ n. AllByRecursion (λ r. r.number ≤ n) file.content.rows) (sym fresh.base) fresh.up_to.last))
   ])
+
+  -- files that count as pinned are so with the subscription that comes in
+  pub pinned_installed : (subscriptions : List Subscription) (m : Subscription) (pinned : List ℕ) → ArePinned old subscriptions pinned → ArePinned new (subscriptions ++ m ∷ []) pinned
+  pinned_installed subscriptions m pinned are other has =
+      let under = (are other has).0 in
+      let order = i.order in (
+        omega arith,
+        λ file at.
+            let was = i.before other file at under in
+            let same : file.content ≡ was.0.content = installed_before other file was.0 at was.1 in
+            subst (λ (c : FileState). is_pinned (subscriptions ++ m ∷ []) other c.rows ≡ true) (sym same) (pinned_pushed subscriptions m other was.0.content.rows ((are other has).1 was.0 was.1)),
+      )
 
 -- a use was given up
 pub bounds_released : (old new : Files) (number : ℕ) → IsReleased old number new → (bounds : Bounds) → AreBounds old bounds → AreBounds new bounds
@@ -158,21 +174,6 @@ bounds_more files before after up known number file at =
     let no_less = up number in
     elim (known number file at) [ inl low ↦ inl (omega arith) | inr worn ↦ inr (omega arith) ]
 
--- a file was looked at
-pub bounds_lowered : (files : Files) (number losses : ℕ) (before after : Bounds) → AtFile files number (λ file. losses ≡ losses_of file)
-    → bound_of number after ≡ min losses (bound_of number before) → ((other : ℕ) → other ≢ number → bound_of other after ≡ bound_of other before) → AreBounds files before → AreBounds files after
-bounds_lowered files number losses before after counted here others known other file at = elim (cases_eq other number) [
-  | inl same ↦
-      let exact = counted file (subst (λ n. get files n ≡ Some file) same at) in
-      let was : (losses_of file ≤ bound_of number before) ⊎ (64 ≤ bound_of number before) = subst (λ n. (losses_of file ≤ bound_of n before) ⊎ (64 ≤ bound_of n before)) same (known other file at) in
-      subst (λ n. (losses_of file ≤ bound_of n after) ⊎ (64 ≤ bound_of n after)) (sym same)
-      (elim was [
-        | inl low ↦ inl (omega arith)
-        | inr worn ↦ elim (cases_lt losses 64) [ inl few ↦ inl (omega arith) | inr many ↦ inr (omega arith) ]
-      ])
-  | inr differs ↦ subst (λ b. (losses_of file ≤ b) ⊎ (64 ≤ b)) (sym (others other differs)) (known other file at)
-]
-
 -- a file that counts as worn is another
 pub bounds_put : (files : Files) (number : ℕ) (next : KeptFile) (bounds : Bounds) → 64 ≤ bound_of number bounds → AreBounds files bounds → AreBounds (insert files number next) bounds
 bounds_put files number next bounds worn known other file at = elim (cases_eq other number) [
@@ -180,12 +181,37 @@ bounds_put files number next bounds worn known other file at = elim (cases_eq ot
   | inr differs ↦ known other file (sym (put_other files number next other differs) ∙ at)
 ]
 
--- those that are worn are listed
-pub worn_listed : (files : Files) (bounds : Bounds) (keys list : List ℕ) → AreBounds files bounds → ((number : ℕ) → 64 ≤ bound_of number bounds → list_any (is_at (nat_cmp number)) keys ≡ true)
-    → ((number : ℕ) → IsThere files number → list_any (is_at (nat_cmp number)) keys ≡ true → list_any (nat_eq number) list ≡ true) → HasTheWorn files list
-worn_listed files bounds keys list known told has number file at many =
-    let most : 64 ≤ bound_of number bounds = elim (known number file at) [ inl low ↦ omega arith | inr worn ↦ worn ] in
-    has number (record { file = file; at = at }) (told number most)
+-- what is known of files is the same
+pub order_same : (table : TableState) (subscriptions : List Subscription) (before after : WearState) → after.bounds ≡ before.bounds → after.pinned ≡ before.pinned → IsInOrder table subscriptions before → IsInOrder table subscriptions after
+order_same table subscriptions before after bounds pinned order = record {
+  live_table = order.live_table;
+  bounds = subst (AreBounds table.files) (sym bounds) order.bounds;
+  pinned = subst (ArePinned table subscriptions) (sym pinned) order.pinned;
+}
+
+-- those that are worn and that no timer pins are listed
+pub worn_listed : (table : TableState) (subscriptions : List Subscription) (wear : WearState) (list : List ℕ) → IsInOrder table subscriptions wear → KnowsTheWorn wear.bounds wear.worn wear.pinned
+    → ((number : ℕ) → IsThere table.files number → is_among number wear.worn ≡ true → list_any (nat_eq number) list ≡ true) → HasTheWorn table.files subscriptions list
+worn_listed table subscriptions wear list order told has number file at many free =
+    let most : 64 ≤ bound_of number wear.bounds = elim (order.bounds number file at) [ inl low ↦ omega arith | inr worn ↦ worn ] in
+    has number (record { file = file; at = at })
+    (elim (or_cases (is_among number wear.worn) (is_among number wear.pinned) (told number most)) [
+      | inl worn ↦ worn
+      | inr pinned ↦ absurd (true≢false (sym ((order.pinned number pinned).1 file at) ∙ free))
+    ])
+
+-- pinned files go back among the worn, the first ones first
+pub worn_gathered : (bounds : Bounds) (worn pinned now left : BTreeSet ℕ) → MovesPrefix nat_cmp worn pinned now left → KnowsTheWorn bounds worn.keys pinned.keys → KnowsTheWorn bounds now.keys left.keys
+worn_gathered bounds worn pinned now left moves knows file many =
+    (λ i. moves.2.0 file i || is_among file left.keys)
+    ∙ turn (is_among file worn.keys) (is_among file moves.0) (is_among file left.keys)
+    ∙ (λ i. is_among file worn.keys || sym (list_any-append (is_at (nat_cmp file)) moves.0 left.keys) i)
+    ∙ (λ i. is_among file worn.keys || is_among file (sym moves.1 i))
+    ∙ knows file many
+  where
+    turn : (a b c : Bool) → ((a || b) || c) ≡ (a || (b || c))
+    turn true b c = refl
+    turn false b c = refl
 
 -- signed rows at one place more
 pub lost_more : (places : List ℕ) (i : ℕ) (rows : List SignedRow) (r : SignedRow) → i < length places → slice_get rows (get_or places i 0) ≡ Some r
@@ -228,7 +254,7 @@ noted_more files n before now after list i within up_first up_then here noted nu
 module _ (files : Files) (keys : List ℕ) where
   -- each of them is in the list, or among those that are left
   abbrev pub AreListed : List ℕ → List ℕ → Type 0
-  AreListed list left = (number : ℕ) → IsThere files number → list_any (is_at (nat_cmp number)) keys ≡ true → (list_any (nat_eq number) list || list_any (is_at (nat_cmp number)) left) ≡ true
+  AreListed list left = (number : ℕ) → IsThere files number → is_among number keys ≡ true → (list_any (nat_eq number) list || list_any (is_at (nat_cmp number)) left) ≡ true
 
   -- one of them is listed
   pub one_listed : (list rest left : List ℕ) (x : ℕ) → rest ≡ x ∷ left → AreListed list rest → AreListed (list ++ x ∷ []) left
@@ -298,13 +324,13 @@ module _ (files : Files) where
   pub there_known : (bounds : Bounds) → EachFile files (λ number file. bound_of number (bounds_there bounds) ≡ bound_of number bounds)
   there_known bounds number file at = ap (λ o. unwrap_or o 0) (bound_kept number bounds (ap is_some at))
 
-  -- and which of them are worn
-  pub worn_there : (bounds : Bounds) (keys : List ℕ) → KnowsTheWorn bounds keys → KnowsTheWorn (bounds_there bounds) (filter is_there keys)
-  worn_there bounds keys knows number many =
-      elim (is_there number) as (λ t. is_there number ≡ t → list_any (is_at (nat_cmp number)) (filter is_there keys) ≡ true) [
+  -- and which of them are worn or pinned
+  pub worn_there : (bounds : Bounds) (worn pinned : List ℕ) → KnowsTheWorn bounds worn pinned → KnowsTheWorn (bounds_there bounds) (filter is_there worn) (filter is_there pinned)
+  worn_there bounds worn pinned knows number many =
+      elim (is_there number) as (λ t. is_there number ≡ t → (is_among number (filter is_there worn) || is_among number (filter is_there pinned)) ≡ true) [
         | true ↦ λ here.
             let same = ap (λ o. unwrap_or o 0) (bound_kept number bounds here) in
-            worn_kept number keys here ∙ knows number (omega arith)
+            (λ i. worn_kept number worn here i || worn_kept number pinned here i) ∙ knows number (omega arith)
         | false ↦ λ none.
             let zero : bound_of number (bounds_there bounds) ≡ 0 = ap (λ o. unwrap_or o 0) (bound_gone number bounds none) in
             absurd (omega arith)
@@ -359,6 +385,18 @@ module _ (store : StoreState) (change : List Portion) (old mid : TableState) (fa
             let no_less = up number in
             inl (omega arith)
       ] refl)
+
+  -- files that count as pinned are so with more rows
+  pub pinned_fed : (subscriptions : List Subscription) (pinned : List ℕ) → mid.next_file ≡ old.next_file → ArePinned old subscriptions pinned → ArePinned mid subscriptions pinned
+  pinned_fed subscriptions pinned next are number has =
+      let under = (are number has).0 in (
+        omega arith,
+        λ file at.
+            let was = was_of number file at in
+            let more : List SignedRow = was.2.1.news in
+            let rows : file.content.rows ≡ was.0.content.rows ++ more = ap (λ (k : KeptFile). k.content.rows) was.2.1.behind in
+            subst (λ rs. is_pinned subscriptions number rs ≡ true) (sym rows) (pinned_more subscriptions number was.0.content.rows more ((are number has).1 was.0 was.1)),
+      )
 
   module _ (mark : GroupMark) (is : mark ≡ mark_of old) where
     -- each file was there when the mark was made

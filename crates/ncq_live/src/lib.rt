@@ -2,7 +2,7 @@
 //! Subscriptions come in one by one, each with the plan of its query, and go out by their install
 //! numbers. Subscriptions of one plan share its file: each subscription has the file of its plan,
 //! and each file is used by exactly its subscriptions. Which files are worn, so that a compaction
-//! is worth its while, is known without a look at the others.
+//! is worth its while, and no timer holds it back, is known without a look at the others.
 #![tactic(auto)]
 
 mod live_table;

@@ -1,11 +1,9 @@
 //! The live table: subscriptions, and the files that they use.
 ghost use Rattle.std.specs.Prelude.{◌≡◌, ℕ, ◌+◌, ◌-◌, ◌<◌, ◌≤◌, ◌^◌, ◌⊎◌, List, []};
 ghost use Rattle.std.specs.Prelude.{length, map, filter, nat_eq, false, true, not, Some};
-ghost use Rattle.std.specs.Prelude.{IfOk, OnOk, OnErr, IfSome, IfNone};
-ghost use Rattle.std.specs.BTreeMap.{is_at};
+ghost use Rattle.std.specs.Prelude.{IfOk, OnOk, OnErr, IfSome, IfNone, IsTrue};
 ghost use Rattle.std.specs.FinMap.{empty, get, insert};
 ghost use Rattle.std.specs.Option.{option_map};
-ghost use Rattle.std.specs.Ordering.{nat_cmp};
 ghost use Rattle.std.specs.List.{list_any, AllByRecursion};
 ghost use Rattle.ncq_plan.specs.declared.expr.Expr.{Expr as an_expr};
 ghost use Rattle.ncq_plan.specs.WellFormed.{IsWellFormed};
@@ -13,18 +11,20 @@ ghost use Rattle.ncq_change.specs.Stores.{world_in};
 ghost use Rattle.ncq_midfile.specs.Content.{IsSoundAt};
 ghost use Rattle.ncq_midfile.specs.Shown.{shown};
 ghost use Rattle.ncq_midfile.specs.Views.{losses_above};
-ghost use Rattle.ncq_shelf.specs.Contents.{Fits, IsCompacted, cut_to};
+ghost use Rattle.ncq_midfile.specs.declared.signed.SignedRow.{SignedRow as a_signed_row};
+ghost use Rattle.ncq_shelf.specs.Contents.{Fits, HoldsItsContent, IsCompacted, cut_to};
 ghost use Rattle.ncq_shelf.specs.KeptFiles.{AtFile, EachFile, KeptFile};
 ghost use Rattle.ncq_feed.specs.Feeds.{IsPreparedFrom, AreFed, NamesTheFed, world_after, feed_work};
 ghost use Rattle.ncq_group.specs.Installs.{NamesTheMissing, rows_of_all};
 ghost use Rattle.ncq_group.specs.Releases.{IsReleased};
 ghost use Rattle.ncq_group.specs.Tables.{Facts, mark_of};
-ghost use Rattle.ncq_shelf.specs.Ranges.{ShareRows};
+ghost use Rattle.ncq_shelf.specs.Ranges.{IsRange, ShareRows};
 ghost use Rattle.ncq_book.specs.Books.{is_named, is_of, subscription_of, with_note};
 ghost use Rattle.ncq_book.specs.Books.{InstallsRise, NamesDiffer};
 ghost use Rattle.ncq_live.specs.LiveTables.{IsLiveTable, HasJoined, plan_in};
 ghost use Rattle.ncq_live.specs.Shares.{Shares};
-ghost use Rattle.ncq_live.specs.Wears.{HasTheWorn, bound_of};
+ghost use Rattle.ncq_live.specs.Wears.{HasTheWorn, IsToldBefore, LeavesBehind, bound_of};
+ghost use Rattle.ncq_live.specs.Wears.{is_among, is_pinned};
 ghost use Rattle.ncq_shelf.specs.Stands.{IsThere};
 
 use crate::wear::{LOSSES, Wear};
@@ -194,6 +194,7 @@ impl LiveTable {
         if let Some(used) = take_away(&mut self.book, install) {
             self.groups.release(used);
             self.wear.forget(&self.groups);
+            self.wear.loosen();
         }
     }
 
@@ -243,21 +244,43 @@ impl LiveTable {
     }
 
     /// The numbers of the files that may be worn, each of a file that is there: those of which 64
-    /// rows or more went out above their base are among them.
-    pub fn worn(&self, alloc: Global) -> Result<Sequence<u64>, AllocError>
-        ensures worn { IfOk result (HasTheWorn self.now.table.files) }
-        ensures there { IfOk result (AllByRecursion (IsThere self.now.table.files)) }
+    /// rows or more went out above their base, and that no timer pins, are among them. This changes
+    /// nothing that is seen.
+    pub fn worn(&mut self, alloc: Global) -> Result<Sequence<u64>, AllocError>
+        ensures worn { IfOk result (HasTheWorn self.old.table.files self.old.subscriptions) }
+        ensures there { IfOk result (AllByRecursion (IsThere self.old.table.files)) }
+        ensures same { self.new ≡ self.old }
     {
+        self.wear.gather()?;
         those_there(alloc, &self.groups, self.wear.worn())
     }
 
-    /// How worn a file is, is looked at anew: this changes nothing that is seen.
-    pub fn look_at(&mut self, number: u64)
+    /// How worn a file is, and whether a timer pins it, is looked at anew: this changes nothing
+    /// that is seen.
+    pub fn look_at(&mut self, alloc: Global, number: u64) -> Result<(), AllocError>
+        requires { IsThere self.old.table.files number }
+        ensures { self.new ≡ self.old }
+    {
+        if self.recount(number) < LOSSES {
+            return Ok(());
+        }
+        self.groups.facts();
+        let last = last_above_base(&self.groups.file(FileId(number)));
+        if has_timer_behind(alloc, &self.book, number, last)? {
+            self.wear.pin(number)?;
+        }
+        Ok(())
+    }
+
+    /// How many rows of a file went out above its base: it is not known to be more worn than that.
+    /// This changes nothing that is seen. It takes no memory.
+    fn recount(&mut self, number: u64) -> u64
         requires { IsThere self.old.table.files number }
         ensures { self.new ≡ self.old }
     {
         let losses = self.groups.file(FileId(number)).minus() as u64;
         self.wear.lower(number, losses);
+        losses
     }
 
     /// Makes a change the base of a file, and looks anew at how worn it is. After an error the live
@@ -273,16 +296,20 @@ impl LiveTable {
         ensures ok { OnOk result (AtFile self.old.table.files number (λ kept.
             (next : KeptFile) × (self.new.table.files ≡ insert self.old.table.files number next)
             × IsCompacted change kept next)) }
+        ensures rows { OnOk result (AtFile self.old.table.files number (λ kept.
+            (IsRange kept.expr → ⊥)
+            → AtFile self.new.table.files number (λ next. HoldsItsContent change kept next))) }
         ensures next_file { self.new.table.next_file ≡ self.old.table.next_file }
         ensures number { self.new.table.number ≡ self.old.table.number }
         ensures subscriptions { self.new.subscriptions ≡ self.old.subscriptions }
         ensures instant { self.new.instant ≡ self.old.instant }
         ensures err { OnErr result (self.new ≡ self.old) }
     {
-        // Until it is looked at, the file counts as worn.
+        // Until it is looked at, the file counts as worn, and as one that no timer pins.
         self.wear.raise(number, LOSSES)?;
+        self.wear.unpin(number)?;
         self.groups.compact(alloc, FileId(number), change)?;
-        self.look_at(number);
+        self.recount(number);
         Ok(())
     }
 
@@ -303,6 +330,7 @@ impl LiveTable {
         ensures instant { self.new.instant ≡ self.old.instant }
     {
         self.groups.roll_back(mark);
+        self.wear.loosen();
     }
 
     /// Notes this number for the subscription of this install number, if it is there. It takes no
@@ -314,6 +342,7 @@ impl LiveTable {
         ensures instant { self.new.instant ≡ self.old.instant }
     {
         self.book.note(install, number);
+        self.wear.loosen();
     }
 
     /// Moves the clock. Where memory runs out, all is as before. It costs in proportion to what is
@@ -336,7 +365,7 @@ fn those_there(
     numbers: &BTreeSet<u64>,
 ) -> Result<Sequence<u64>, AllocError>
     ensures has { IfOk result (λ list. (number : ℕ) → IsThere groups.now.files number
-        → list_any (is_at (nat_cmp number)) numbers.now.keys ≡ true
+        → is_among number numbers.now.keys ≡ true
         → list_any (nat_eq number) list ≡ true) }
     ensures there { IfOk result (AllByRecursion (IsThere groups.now.files)) }
 {
@@ -359,11 +388,13 @@ fn wear_out(
     number: u64,
 ) -> Result<(), AllocError>
     requires based { EachFile groups.now.files (λ other file. file.content.base ≤ number) }
-    ensures more { (other : ℕ) → bound_of other wear.old ≤ bound_of other wear.new }
+    ensures more { (other : ℕ)
+        → bound_of other wear.old.bounds ≤ bound_of other wear.new.bounds }
     ensures fed { OnOk result (EachFile groups.now.files (λ other file.
         list_any (nat_eq other) fed.now ≡ true
-        → (bound_of other wear.old + losses_above number file.content.rows
-        ≤ bound_of other wear.new) ⊎ (64 ≤ bound_of other wear.new))) }
+        → (bound_of other wear.old.bounds + losses_above number file.content.rows
+        ≤ bound_of other wear.new.bounds) ⊎ (64 ≤ bound_of other wear.new.bounds))) }
+    ensures pinned { wear.new.pinned ≡ wear.old.pinned }
 {
     for file in fed {
         wear_one(alloc, groups, wear, *file, number)?;
@@ -380,10 +411,12 @@ fn wear_one(
     change: u64,
 ) -> Result<(), AllocError>
     requires based { EachFile groups.now.files (λ other file. file.content.base ≤ change) }
-    ensures more { (other : ℕ) → bound_of other wear.old ≤ bound_of other wear.new }
+    ensures more { (other : ℕ)
+        → bound_of other wear.old.bounds ≤ bound_of other wear.new.bounds }
     ensures here { OnOk result (AtFile groups.now.files number (λ file.
-        (bound_of number wear.old + losses_above change file.content.rows
-        ≤ bound_of number wear.new) ⊎ (64 ≤ bound_of number wear.new))) }
+        (bound_of number wear.old.bounds + losses_above change file.content.rows
+        ≤ bound_of number wear.new.bounds) ⊎ (64 ≤ bound_of number wear.new.bounds))) }
+    ensures pinned { wear.new.pinned ≡ wear.old.pinned }
 {
     let file = FileId(number);
     if !groups.has(file) {
@@ -406,6 +439,45 @@ fn losses_since(alloc: Global, view: &View<'_>, n: u64) -> Result<u64, AllocErro
         }
     }
     Ok(losses)
+}
+
+/// The greatest number of the rows of a view, if it is above the base, and else 0: whoever was told
+/// up to a number below that is behind some of the rows.
+fn last_above_base(view: &View<'_>) -> u64
+    ensures { LeavesBehind result (shown view.now).rows }
+{
+    let last = view.last();
+    if last > view.base() { last } else { 0 }
+}
+
+/// Whether some timer that uses the file was told up to a number below this one. Nobody but the
+/// timers of the file is looked at.
+fn has_timer_behind(alloc: Global, book: &Book, file: u64, last: u64) -> Result<bool, AllocError>
+    ensures { IfOk result (λ found. IsTrue found → (rows : List a_signed_row)
+        → LeavesBehind last rows → is_pinned book.now.subscriptions file rows ≡ true) }
+{
+    book.facts();
+    let timers = book.timers(alloc, &[file])?;
+    for install in timers.as_slice() {
+        if is_told_before(book, *install, last) {
+            return Ok(true);
+        }
+    }
+    Ok(false)
+}
+
+/// Whether the subscription of this install number was told up to a number below this one. It takes
+/// no memory.
+fn is_told_before(book: &Book, install: u64, last: u64) -> bool
+    ensures { IsTrue result → IsToldBefore last install book.now.subscriptions }
+{
+    let Some(subscription) = book.get(install) else {
+        return false;
+    };
+    match subscription.noted {
+        Some(noted) => noted < last,
+        None => false,
+    }
 }
 
 /// Takes the subscription of this install number away, if it is there, and tells its file. It takes

@@ -1,11 +1,9 @@
 //! How many rows files may have lost above their bases.
-ghost use Rattle.std.specs.Prelude.{◌≡◌, ◌+◌, ◌≤◌, ◌≢◌, ◌⊎◌, ℕ, [], true, min, is_some, OnOk};
-ghost use Rattle.std.specs.BTreeMap.{is_at};
+ghost use Rattle.std.specs.Prelude.{◌≡◌, ◌+◌, ◌≤◌, ◌≢◌, ◌⊎◌, ℕ, [], true, false, min, is_some};
+ghost use Rattle.std.specs.Prelude.{OnOk};
 ghost use Rattle.std.specs.FinMap.{get};
-ghost use Rattle.std.specs.List.{list_any};
-ghost use Rattle.std.specs.Ordering.{nat_cmp};
 ghost use Rattle.ncq_shelf.specs.KeptFiles.{EachFile};
-ghost use Rattle.ncq_live.specs.Wears.{bound_of};
+ghost use Rattle.ncq_live.specs.Wears.{bound_of, is_among, KnowsTheWorn, PinsNoMore};
 
 use indexmap::IndexMap;
 use ncq_base::FileId;
@@ -17,46 +15,61 @@ use std::marker::Model;
 /// So many rows that went out above its base make a file worn.
 pub const LOSSES: u64 = 64;
 
-/// For each file a number, and the files whose numbers are those of worn ones. Contracts see the
-/// numbers by file; a file that is not there has 0.
+/// For each file a number, and the files whose numbers are those of worn ones: each is among the
+/// worn, or is pinned, so that it is not told of. Where the pinned are loose they do not count as
+/// pinned any more, but still stand apart. Contracts see the numbers by file, where one that is not
+/// there has 0, the worn, and the files that count as pinned.
 #[derive(Drop)]
 pub(crate) struct Wear {
     bounds: IndexMap<u64, u64>,
     worn: BTreeSet<u64>,
+    pinned: BTreeSet<u64>,
+    is_loose: bool,
 }
 
 impl Model for Wear {
-    ghost use Rattle.ncq_live.specs.Wears.{Bounds, bounds_code, KnowsTheWorn};
+    ghost use Rattle.std.specs.Prelude.{cond, []};
+    ghost use Rattle.ncq_live.specs.Wears.{WearState, wear_code, KnowsTheWorn};
 
-    ghost Value = { Bounds };
+    ghost Value = { WearState };
 
-    ghost coded = { bounds_code };
+    ghost coded = { wear_code };
 
-    ghost view = { λ w. w.bounds.entries };
+    ghost view = { λ w. record {
+      bounds = w.bounds.entries;
+      worn = w.worn.keys;
+      pinned = cond w.is_loose [] w.pinned.keys;
+    } };
 
-    ghost invariant = { λ w. KnowsTheWorn w.bounds.entries w.worn.keys };
+    ghost invariant = { λ w. KnowsTheWorn w.bounds.entries w.worn.keys w.pinned.keys };
 }
 
 impl Wear {
-    /// No file has lost a row. It takes no memory.
+    /// No file has lost a row, and none is pinned. It takes no memory.
     pub(crate) fn new(alloc: Global) -> Wear
-        ensures { (file : ℕ) → bound_of file result ≡ 0 }
+        ensures bounds { (file : ℕ) → bound_of file result.bounds ≡ 0 }
+        ensures pinned { result.pinned ≡ [] }
     {
         Wear {
             bounds: IndexMap::new(alloc),
             worn: BTreeSet::new(alloc),
+            pinned: BTreeSet::new(alloc),
+            is_loose: false,
         }
     }
 
     /// So many more rows of the file went out. After an error no number is lower than it was.
     pub(crate) fn raise(&mut self, file: u64, losses: u64) -> Result<(), AllocError>
-        ensures more { (other : ℕ) → bound_of other self.old ≤ bound_of other self.new }
-        ensures here { OnOk result ((bound_of file self.old + losses ≤ bound_of file self.new)
-            ⊎ (64 ≤ bound_of file self.new)) }
+        ensures more { (other : ℕ)
+            → bound_of other self.old.bounds ≤ bound_of other self.new.bounds }
+        ensures here { OnOk result
+            ((bound_of file self.old.bounds + losses ≤ bound_of file self.new.bounds)
+            ⊎ (64 ≤ bound_of file self.new.bounds)) }
+        ensures pinned { self.new.pinned ≡ self.old.pinned }
     {
         let bound = self.bounds.get(&file).copied().unwrap_or(0);
         let more = bound.saturating_add(losses);
-        if more >= LOSSES {
+        if more >= LOSSES && !self.pinned.contains(&file) {
             self.worn.insert(file)?;
         }
         self.bounds.insert(file, more)?;
@@ -65,33 +78,83 @@ impl Wear {
 
     /// No more rows of the file than these have gone out. It takes no memory.
     pub(crate) fn lower(&mut self, file: u64, losses: u64)
-        ensures here { bound_of file self.new ≡ min losses (bound_of file self.old) }
+        ensures here { bound_of file self.new.bounds
+            ≡ min losses (bound_of file self.old.bounds) }
         ensures others { (other : ℕ) → other ≢ file
-            → bound_of other self.new ≡ bound_of other self.old }
+            → bound_of other self.new.bounds ≡ bound_of other self.old.bounds }
+        ensures pinned { PinsNoMore self.old self.new }
     {
         cap(&mut self.bounds, file, losses);
         if losses < LOSSES {
             self.worn.remove(&file);
+            self.pinned.remove(&file);
         }
     }
 
     /// Forgets files that are gone, where most of those that are known may be: what is known stays
     /// in proportion to the files. It takes no memory.
     pub(crate) fn forget(&mut self, groups: &GroupTable)
-        ensures { EachFile groups.now.files (λ number file.
-            bound_of number self.new ≡ bound_of number self.old) }
+        ensures bounds { EachFile groups.now.files (λ number file.
+            bound_of number self.new.bounds ≡ bound_of number self.old.bounds) }
+        ensures pinned { PinsNoMore self.old self.new }
     {
         if self.bounds.len().saturating_sub(64) / 2 <= groups.files() {
             return;
         }
         self.worn.retain(|number| is_there(groups, *number));
+        self.pinned.retain(|number| is_there(groups, *number));
         self.bounds.retain(|number, _| is_there(groups, *number));
+    }
+
+    /// The file counts as pinned, unless the pinned are loose: it is not among the worn any more.
+    pub(crate) fn pin(&mut self, file: u64) -> Result<(), AllocError>
+        ensures bounds { self.new.bounds ≡ self.old.bounds }
+        ensures pinned { (other : ℕ) → is_among other self.new.pinned ≡ true
+            → (other ≡ file) ⊎ (is_among other self.old.pinned ≡ true) }
+    {
+        // It comes in before it goes out, so that an error loses nothing.
+        self.pinned.insert(file)?;
+        self.worn.remove(&file);
+        Ok(())
+    }
+
+    /// The file does not count as pinned any more, and is among the worn.
+    pub(crate) fn unpin(&mut self, file: u64) -> Result<(), AllocError>
+        ensures bounds { self.new.bounds ≡ self.old.bounds }
+        ensures ok { OnOk result (is_among file self.new.pinned ≡ false) }
+        ensures pinned { PinsNoMore self.old self.new }
+    {
+        self.worn.insert(file)?;
+        self.pinned.remove(&file);
+        Ok(())
+    }
+
+    /// No file counts as pinned any more. It takes no memory.
+    pub(crate) fn loosen(&mut self)
+        ensures bounds { self.new.bounds ≡ self.old.bounds }
+        ensures pinned { self.new.pinned ≡ [] }
+    {
+        self.is_loose = !self.pinned.is_empty();
+    }
+
+    /// Where the pinned are loose, they go back among the worn: then each file that is worn is told
+    /// of, but for those that count as pinned.
+    pub(crate) fn gather(&mut self) -> Result<(), AllocError>
+        ensures ok { OnOk result
+            (KnowsTheWorn self.new.bounds self.new.worn self.new.pinned) }
+        ensures bounds { self.new.bounds ≡ self.old.bounds }
+        ensures pinned { self.new.pinned ≡ self.old.pinned }
+    {
+        if self.is_loose {
+            self.worn.append(&mut self.pinned)?;
+            self.is_loose = false;
+        }
+        Ok(())
     }
 
     /// The files that are worn, and perhaps others.
     pub(crate) fn worn(&self) -> &BTreeSet<u64>
-        ensures { (file : ℕ) → 64 ≤ bound_of file self.now
-            → list_any (is_at (nat_cmp file)) result.now.keys ≡ true }
+        ensures { result.now.keys ≡ self.now.worn }
     {
         &self.worn
     }

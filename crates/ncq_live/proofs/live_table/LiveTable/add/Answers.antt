@@ -12,7 +12,7 @@ use Rattle.ncq_live.specs.LiveTables.{LiveState}
 use Rattle.ncq_live.specs.Wears.{IsInOrder}
 use Rattle.ncq_live.proofs.LiveTableLaws.{uses_few, table_more}
 use Rattle.ncq_live.proofs.UndoLaws.{installed_use, at_mark, table_back}
-use Rattle.ncq_live.proofs.WearLaws.{bounds_installed}
+use Rattle.ncq_live.proofs.WearLaws.{bounds_installed, pinned_installed}
 use Rattle.ncq_live.proofs.live_table.LiveTable.add.Given.{Over}
 use Rattle.ncq_live.proofs.live_table.LiveTable.add.Goals as goal
 
@@ -37,7 +37,10 @@ invariant_of-self-in-Ok g c =
     subst (λ (b : BookState). IsInOrder c.install.new.self b.subscriptions c.self.inside.wear) (sym c.in-Ok.ensures.ok)
     (record {
       live_table = table_more c.self.inside.groups c.install.new.self facts c.self.inside.book.subscriptions c.self.invariant.live_table subscription c.args.plan.now c.requires.formed c.requires.plan c.in_ok-file.ensures.ok;
-      bounds = bounds_installed c.args.plan.now c.self.inside.groups c.install.new.self c.in_ok-file.file.0 c.in_ok-file.ensures.ok c.self.inside.wear c.self.invariant.bounds;
+      bounds = bounds_installed c.args.plan.now c.self.inside.groups c.install.new.self c.in_ok-file.file.0 c.in_ok-file.ensures.ok c.self.inside.wear.bounds c.self.invariant.bounds;
+      pinned =
+          pinned_installed c.args.plan.now c.self.inside.groups c.install.new.self c.in_ok-file.file.0 c.in_ok-file.ensures.ok c.self.inside.book.subscriptions subscription c.self.inside.wear.pinned
+          c.self.invariant.pinned;
     })
 
 pub release-requires : goal.release-requires

@@ -1,10 +1,10 @@
-use Rattle.std.proofs.Common.{◌≡◌, ◌∙◌, ℕ, List, ap, subst, sym}
+use Rattle.std.proofs.Common.{◌≡◌, ◌∙◌, ap, subst, sym}
 use Rattle.ncq_group.specs.Tables.{TableState}
 use Rattle.ncq_group.specs.declared.mark.GroupMark.{GroupMark}
 use Rattle.ncq_live.specs.LiveTables.{LiveState}
-use Rattle.ncq_live.specs.Wears.{IsInOrder}
+use Rattle.ncq_live.specs.Wears.{ArePinned, IsInOrder}
 use Rattle.ncq_live.proofs.LiveTableLaws.{table_fed}
-use Rattle.ncq_live.proofs.WearLaws.{AreNoted, bounds_fed, bounds_more, table_unfed}
+use Rattle.ncq_live.proofs.WearLaws.{AreNoted, bounds_fed, bounds_more, pinned_fed, table_unfed}
 use Rattle.ncq_live.proofs.live_table.LiveTable.feed.Given.{Over}
 use Rattle.ncq_live.proofs.live_table.LiveTable.feed.Goals as goal
 
@@ -15,14 +15,17 @@ invariant_of-self-in-Ok g c =
     let store = c.args.store.now in
     let changes : store.changes ≡ before.number = c.requires.number ∙ sym (ap (λ (r : LiveState). r.table.number) c.self.view_is) in
     let number : c.mark-before.result.number ≡ store.changes = ap (λ (m : GroupMark). m.number) c.mark-before.ensures ∙ sym changes in
-    let noted : AreNoted mid.files store.changes c.self.inside.wear c.wear_out.new.wear c.in_ok-fed.fed =
-    subst (λ n. AreNoted mid.files n c.self.inside.wear c.wear_out.new.wear c.in_ok-fed.fed) number
-    (subst (AreNoted mid.files c.mark-before.result.number c.self.inside.wear c.wear_out.new.wear) c.as_slice.ensures c.in-Ok.ensures.fed) in
+    let noted : AreNoted mid.files store.changes c.self.inside.wear.bounds c.wear_out.new.wear.bounds c.in_ok-fed.fed =
+    subst (λ n. AreNoted mid.files n c.self.inside.wear.bounds c.wear_out.new.wear.bounds c.in_ok-fed.fed) number
+    (subst (AreNoted mid.files c.mark-before.result.number c.self.inside.wear.bounds c.wear_out.new.wear.bounds) c.as_slice.ensures c.in-Ok.ensures.fed) in
     record {
       live_table = table_fed store c.args.change.now before mid c.self.inside.book.subscriptions c.self.invariant.live_table c.in_ok-fed.ensures.fed;
       bounds =
-          bounds_fed store c.args.change.now before mid c.facts.ensures.facts changes c.in_ok-fed.ensures.fed c.self.inside.wear c.wear_out.new.wear c.in_ok-fed.fed c.in_ok-fed.ensures.named
+          bounds_fed store c.args.change.now before mid c.facts.ensures.facts changes c.in_ok-fed.ensures.fed c.self.inside.wear.bounds c.wear_out.new.wear.bounds c.in_ok-fed.fed c.in_ok-fed.ensures.named
           c.wear_out.ensures.more noted c.self.invariant.bounds;
+      pinned =
+          pinned_fed store c.args.change.now before mid c.facts.ensures.facts changes c.in_ok-fed.ensures.fed c.self.inside.book.subscriptions c.wear_out.new.wear.pinned c.feed.ensures.next_file
+          (subst (ArePinned before c.self.inside.book.subscriptions) (sym c.wear_out.ensures.pinned) c.self.invariant.pinned);
     }
 
 -- rolled back, the table is the one of before
@@ -37,7 +40,8 @@ invariant_of-self-in-Err-1 g c =
     subst (λ (t : TableState). IsInOrder t c.self.inside.book.subscriptions c.wear_out.new.wear) (sym (back g c))
     (record {
       live_table = c.self.invariant.live_table;
-      bounds = bounds_more c.self.inside.groups.files c.self.inside.wear c.wear_out.new.wear c.wear_out.ensures.more c.self.invariant.bounds;
+      bounds = bounds_more c.self.inside.groups.files c.self.inside.wear.bounds c.wear_out.new.wear.bounds c.wear_out.ensures.more c.self.invariant.bounds;
+      pinned = subst (ArePinned c.self.inside.groups c.self.inside.book.subscriptions) (sym c.wear_out.ensures.pinned) c.self.invariant.pinned;
     })
 
 pub returns-in-Err-clause-err : goal.returns-in-Err-clause-err
