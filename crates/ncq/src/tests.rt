@@ -40,6 +40,7 @@ mod shared;
 mod sides;
 mod statements;
 mod times;
+mod turns;
 mod values;
 
 /// Declares the source `quotes`. The key of its elements is their child `Symbol`.

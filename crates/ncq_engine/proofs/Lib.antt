@@ -44,3 +44,8 @@ pub mod ReportLaws
 pub mod ReportAnswers
 pub mod OneCommand
 pub mod GivenUp
+pub mod LeastLaws
+pub mod CompactedLaws
+pub mod CompactAnswers
+pub mod CompactTurns
+pub mod BaseLaws

@@ -56,8 +56,8 @@ IfRefused (Err (Refused why)) holds = holds why
 IfRefused (Err OutOfMemory) holds = Unit {0}
 
 -- it holds where the command was accepted or refused: memory did not run out
-abbrev pub IfAnswered : Result Applied ApplyError → Type 0 → Type 0
-IfAnswered (Ok applied) holds = holds
+abbrev pub IfAnswered : {T : Type 0} → Result T ApplyError → Type 0 → Type 0
+IfAnswered (Ok answered) holds = holds
 IfAnswered (Err (Refused why)) holds = holds
 IfAnswered (Err OutOfMemory) holds = Unit {0}
 

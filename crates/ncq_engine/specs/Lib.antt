@@ -14,3 +14,4 @@ pub mod Tellings
 pub mod Joins
 pub mod Works
 pub mod Summaries
+pub mod Compactions

@@ -1,8 +1,9 @@
 //! The engine: the sources, the clock and the live subscriptions, and the answer to each command.
-ghost use Rattle.std.specs.Prelude.{◌≡◌, ◌+◌, ◌-◌, ◌<◌, ◌≤◌, ◌^◌, ◌++◌, ◌∷◌, [], ℕ, List};
+ghost use Rattle.std.specs.Prelude.{◌≡◌, ◌≢◌, ◌⊎◌, ◌+◌, ◌-◌, ◌<◌, ◌≤◌, ◌^◌, ◌++◌, ◌∷◌, [], ℕ, List};
 ghost use Rattle.std.specs.Prelude.{length, map};
 ghost use Rattle.std.specs.Prelude.{codes, decimal, IfOk, OnOk, OnErr, IfSome, IfNone, Err, None};
 ghost use Rattle.std.specs.Prelude.{Some, true, false};
+ghost use Rattle.std.specs.FinMap.{get};
 ghost use Rattle.std.specs.List.{flat_map, list_all};
 ghost use Rattle.std.specs.Option.{is_some, unwrap_or};
 ghost use Rattle.ncq_bind.specs.Bindings.{are_declared, roots_in};
@@ -16,6 +17,9 @@ ghost use Rattle.ncq_engine.specs.Applies.{Applies, WritesNotices, IfAnswered, I
 ghost use Rattle.ncq_engine.specs.Applies.{IfRefused, OfEach, AreSpans, kind_at};
 ghost use Rattle.ncq_engine.specs.Applies.{refused_change, change_refusal, refused_query};
 ghost use Rattle.ncq_engine.specs.Applies.{query_refusal};
+ghost use Rattle.ncq_engine.specs.Applies.{OfFollowed};
+ghost use Rattle.ncq_engine.specs.Compactions.{AreCompacted, HasBase, IsChange, IsWorn, KeepBases};
+ghost use Rattle.ncq_engine.specs.Compactions.{least_of};
 ghost use Rattle.ncq_engine.specs.Engines.{new_subscription};
 ghost use Rattle.ncq_engine.specs.History.{History, start_of};
 ghost use Rattle.ncq_engine.specs.Joins.{IsSubscriptionOf, OfStatement};
@@ -24,11 +28,14 @@ ghost use Rattle.ncq_engine.specs.Notices.{kind_in, name_at};
 ghost use Rattle.ncq_engine.specs.Output.{is_at_odds, first_refusal, accepted_text};
 ghost use Rattle.ncq_plan.specs.WellFormed.{IsWellFormed};
 ghost use Rattle.ncq_script.specs.Proper.{IsProperCommand};
+ghost use Rattle.ncq_shelf.specs.KeptFiles.{AtFile};
+ghost use Rattle.ncq_shelf.specs.Stands.{IsThere};
 ghost use Rattle.ncq_source.specs.Proper.{puts_proper};
 ghost use Rattle.ncq_source.specs.StoreStates.{found, IsDeclared};
 ghost use Rattle.ncq_xmlql.specs.declared.model.Statement.{Statement as a_statement};
 ghost use Rattle.ncq_xmlql.specs.WellFormed.{IsWellFormed as StatementIsWellFormed};
 
+use crate::compaction::{is_worn, least_mark};
 use crate::expiry::{take_all, write_expired};
 use crate::span::{Span, Spans};
 use crate::telling::{Answered, answer_change, answer_create, note_all, tell, write_accepted};
@@ -210,6 +217,11 @@ impl Engine {
         ensures stays { OnErr result (OfEach self.old (Stands self.new)) }
         ensures unwritten { OnErr result (out.new.items ≡ out.old.items) }
 
+        // Before a change is made, each worn file was compacted to the least mark of those who have
+        // it: no file keeps for long what went out of it.
+        ensures compacted { IfAnswered result
+            (IsChange command.now → AreCompacted self.old self.new) }
+
         // It is counted unless it is given up; whatever is answered, the handlers' names and kinds
         // stay.
         ensures counted { IfAnswered result (self.new.count ≡ self.old.count + 1) }
@@ -299,6 +311,8 @@ impl Engine {
         ensures applies { Applies self.old command.now
             out.old.items result self.new out.new.items }
         ensures labels { self.new.labels ≡ self.old.labels }
+        ensures compacted { IfAnswered result
+            (IsChange command.now → AreCompacted self.old self.new) }
         ensures work { IsWithinWork self.old command.now steps.old steps.new }
     {
         match command {
@@ -345,7 +359,7 @@ impl Engine {
         }
     }
 
-    /// Changes sources, and tells those that ask one of them.
+    /// Compacts the files that are worn, changes sources, and tells those that ask one of them.
     fn change<L: Ledger>(
         &mut self,
         alloc: Global,
@@ -361,6 +375,68 @@ impl Engine {
         ensures applies { Applies self.old (Command.Delta sections.now)
             out.old.items result self.new out.new.items }
         ensures labels { self.new.labels ≡ self.old.labels }
+        ensures compacted { IfAnswered result (AreCompacted self.old self.new) }
+        ensures work { IsWithinWork self.old (Command.Delta sections.now) steps.old steps.new }
+    {
+        self.compact_worn(alloc)?;
+        self.stands();
+        self.make_change(alloc, sections, handlers, out, steps)
+    }
+
+    /// Compacts the files that are worn. Where memory runs out, some of them are.
+    fn compact_worn(&mut self, alloc: Global) -> Result<(), AllocError>
+        ensures follows { OfFollowed self.old (Follows self.new) }
+        ensures same { self.new ≡ record self.old { table = self.new.table } }
+        ensures compacted { OnOk result (AreCompacted self.old self.new) }
+    {
+        let worn = self.live_table.worn(alloc)?;
+        for number in worn.as_slice() {
+            self.compact_file(alloc, *number)?;
+        }
+        Ok(())
+    }
+
+    /// Compacts a file to the least mark of those who have it, where it is worn.
+    fn compact_file(&mut self, alloc: Global, number: u64) -> Result<(), AllocError>
+        requires { IsThere self.old.table.files number }
+        ensures follows { OfFollowed self.old (Follows self.new) }
+        ensures same { self.new ≡ record self.old { table = self.new.table } }
+        ensures others { (other : ℕ) → other ≢ number
+            → get self.new.table.files other ≡ get self.old.table.files other }
+        ensures here { AtFile self.old.table.files number (λ file.
+            (get self.new.table.files number ≡ Some file)
+            ⊎ HasBase self.new.table.files number (least_of self.old number)) }
+        ensures compacted { OnOk result (AtFile self.old.table.files number (λ file.
+            IsWorn (least_of self.old number) file.content
+            → HasBase self.new.table.files number (least_of self.old number))) }
+    {
+        let least = least_mark(alloc, self.live_table.book(), &self.store, number)?;
+        self.live_table.facts();
+        let view = self.live_table.groups().file(FileId(number));
+        if is_worn(&view, least) {
+            self.live_table.compact(alloc, number, least)
+        } else {
+            self.live_table.look_at(alloc, number)
+        }
+    }
+
+    /// Changes sources, and tells those that ask one of them.
+    fn make_change<L: Ledger>(
+        &mut self,
+        alloc: Global,
+        sections: &Sections,
+        handlers: &Handlers,
+        out: &mut Vec<u8>,
+        steps: &mut Steps<L>,
+    ) -> Result<Answered, ApplyError>
+        requires few { self.old.count < 2 ^ 48 }
+        requires proper { list_all puts_proper sections.now ≡ true }
+        requires handlers { self.old.labels
+            ≡ (labels handlers.now.items.items (λ h. h.name) (λ h. h.kind)) }
+        ensures applies { Applies self.old (Command.Delta sections.now)
+            out.old.items result self.new out.new.items }
+        ensures labels { self.new.labels ≡ self.old.labels }
+        ensures bases { IfAnswered result (KeepBases self.old self.new) }
         ensures work { IsWithinWork self.old (Command.Delta sections.now) steps.old steps.new }
     {
         let change = match self.store.prepare(alloc, sections) {

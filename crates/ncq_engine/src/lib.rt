@@ -10,6 +10,7 @@
 //! command is refused, or given up for want of memory, the engine stands for that history still.
 #![tactic(auto)]
 
+mod compaction;
 mod engine;
 mod expiry;
 mod firing;

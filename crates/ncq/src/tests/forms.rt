@@ -190,14 +190,14 @@ fn a_tally_may_fail_to_be_written(rt: HostRuntime) -> Result<(), Fail> {
     expect_with(&rt, &rt, &["load", "1"], b"", outside, end)
 }
 
-/// Sixty subscribers make 124 commands, none is refused, and a second time all is the same.
+/// Six hundred subscribers make 1,204 commands, none is refused, and a second time all is the same.
 #[test]
 fn a_load_is_the_same_each_time(rt: HostRuntime) -> Result<(), Fail> {
-    let first = outcome_with(&rt, &["load", "60"], b"", in_pieces(64))?;
-    let second = outcome_with(&rt, &["load", "60"], b"", in_pieces(64))?;
+    let first = outcome_with(&rt, &["load", "600"], b"", in_pieces(64))?;
+    let second = outcome_with(&rt, &["load", "600"], b"", in_pieces(64))?;
     assert!(rt; first.status == Status::Done && second.status == Status::Done);
     expect_bytes(&rt, &first.written, &second.written, "");
-    let front = b"commands 124\nrefused 0\nnotices ";
+    let front = b"commands 1204\nrefused 0\nnotices ";
     assert!(rt; first.written.as_slice().starts_with(front));
     Ok(())
 }

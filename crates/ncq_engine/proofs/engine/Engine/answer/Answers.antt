@@ -1,6 +1,8 @@
 use Rattle.std.proofs.Common.{subst, sym}
 use Rattle.ncq_engine.specs.Applies.{Applies}
+use Rattle.ncq_engine.specs.Compactions.{IsChange}
 use Rattle.ncq_engine.specs.Works.{IsWithinWork}
+use Rattle.ncq_engine.proofs.BaseLaws.{answered_more, answered_so}
 use Rattle.ncq_engine.proofs.OneCommand.{batch_applies, batch_work}
 use Rattle.ncq_engine.proofs.engine.Engine.answer.Goals as goal
 
@@ -19,3 +21,28 @@ pub returns-in-Batch-clause-work : goal.returns-in-Batch-clause-work
 returns-in-Batch-clause-work g c =
     subst (λ command. IsWithinWork c.args.self.now command c.args.steps.now c.change-in-Batch.new.steps) (sym c.in-Batch.is)
     (batch_work c.in-Batch.sections c.args.self.now c.args.steps.now c.change-in-Batch.new.steps c.change-in-Batch.ensures.work)
+
+-- a change compacted the worn files, and no other command is a change
+pub returns-in-Delta-clause-compacted : goal.returns-in-Delta-clause-compacted
+returns-in-Delta-clause-compacted g c = answered_more c.change.result (λ compacted is. compacted) c.change.ensures.compacted
+
+pub returns-in-Batch-clause-compacted : goal.returns-in-Batch-clause-compacted
+returns-in-Batch-clause-compacted g c = answered_more c.change-in-Batch.result (λ compacted is. compacted) c.change-in-Batch.ensures.compacted
+
+pub returns-in-Declare-clause-compacted : goal.returns-in-Declare-clause-compacted
+returns-in-Declare-clause-compacted g c = answered_so c.declare.result (λ is. absurd (subst IsChange c.in-Declare.is is))
+
+pub returns-in-Create-clause-compacted : goal.returns-in-Create-clause-compacted
+returns-in-Create-clause-compacted g c = answered_so c.create.result (λ is. absurd (subst IsChange c.in-Create.is is))
+
+pub returns-in-Delete-clause-compacted : goal.returns-in-Delete-clause-compacted
+returns-in-Delete-clause-compacted g c = answered_so c.delete.result (λ is. absurd (subst IsChange c.in-Delete.is is))
+
+pub returns-in-Clock-clause-compacted : goal.returns-in-Clock-clause-compacted
+returns-in-Clock-clause-compacted g c = answered_so c.move_clock.result (λ is. absurd (subst IsChange c.in-Clock.is is))
+
+pub returns-in-Report-clause-compacted : goal.returns-in-Report-clause-compacted
+returns-in-Report-clause-compacted g c = answered_so c.report.result (λ is. absurd (subst IsChange c.in-Report.is is))
+
+pub returns-in-Malformed-clause-compacted : goal.returns-in-Malformed-clause-compacted
+returns-in-Malformed-clause-compacted g c = answered_so c.refuse.result (λ is. absurd (subst IsChange c.in-Malformed.is is))

@@ -1,8 +1,11 @@
-use Rattle.std.proofs.Common.{◌∷◌, ap, length, rules, subst, sym}
-use Rattle.ncq_engine.specs.Applies.{AreNotices}
+use Rattle.std.proofs.Common.{◌≡◌, ◌∷◌, ap, length, rules, subst, sym}
+use Rattle.std.specs.Prelude.{Err}
+use Rattle.ncq_engine.specs.Applies.{AreNotices, IfAnswered}
+use Rattle.ncq_engine.specs.Compactions.{AreCompacted, IsChange}
 use Rattle.ncq_engine.specs.History.{History}
 use Rattle.ncq_engine.specs.Stands.{EngineState, Follows, Stands}
 use Rattle.ncq_engine.specs.declared.engine.Applied.{Applied}
+use Rattle.ncq_engine.specs.declared.engine.ApplyError.TheVariants.{Refused}
 use Rattle.ncq_engine.proofs.BoundLaws.{stands_with}
 use Rattle.ncq_engine.proofs.EngineLaws.{follows_still}
 use Rattle.ncq_engine.proofs.Views.{view_of}
@@ -36,3 +39,16 @@ pub returns-in-Err-OutOfMemory-clause-stays : goal.returns-in-Err-OutOfMemory-cl
 returns-in-Err-OutOfMemory-clause-stays g c = λ h s.
     let was = s.follows in
     still g (goal.at.returns-in-Err-OutOfMemory-clause-stays g c).After-stands h (search rules)
+
+-- to forget the places of notices leaves the files
+pub returns-in-Ok-clause-compacted : goal.returns-in-Ok-clause-compacted
+returns-in-Ok-clause-compacted g c = λ is.
+    let was = c.args.self.now in
+    subst (λ (e : EngineState). AreCompacted was e) (sym c.keep.ensures.kept) (subst (λ (e : EngineState). AreCompacted was e) (sym c.self.view_is) (c.in-Ok.ensures.compacted is))
+
+pub returns-in-Err-Refused-clause-compacted : goal.returns-in-Err-Refused-clause-compacted
+returns-in-Err-Refused-clause-compacted g c = λ is.
+    let was = c.args.self.now in
+    let after = c.answer-result.new.self in
+    let refused : c.answer-result.result ≡ Err (Refused c.in-Err-Refused.refusal) = search rules in
+    subst (λ (e : EngineState). AreCompacted was e) (sym c.self.view_is) (subst (λ r. IfAnswered r (IsChange c.args.command.now → AreCompacted was after)) refused c.answer-result.ensures.compacted is)

@@ -1,0 +1,76 @@
+-- A change behind a compaction: what it does to the engine whose files were compacted, it does to the engine before.
+use Rattle.std.proofs.Common.{◌≡◌, ℕ, List, refl, sym, ◌∙◌, ap, subst}
+use Rattle.std.specs.Prelude.{Option, Some, None, IfSome, IfNone, Result, Ok, Err}
+use Rattle.std.specs.FinMap.{get}
+use Rattle.ncq_feed.specs.Feeds.{AreFed}
+use Rattle.ncq_group.specs.Tables.{TableState}
+use Rattle.ncq_script.specs.declared.command.Command.{Command}
+use Rattle.ncq_source.specs.declared.change.Portion.{Portion}
+use Rattle.ncq_source.specs.StoreStates.{StoreState}
+use Rattle.ncq_shelf.specs.KeptFiles.{KeptFile}
+use Rattle.ncq_engine.specs.Applies.{Applies, IfAnswered}
+use Rattle.ncq_engine.specs.Compactions.{AreCompacted, KeepBases}
+use Rattle.ncq_engine.specs.History.{History}
+use Rattle.ncq_engine.specs.Stands.{EngineState, Follows, Stands}
+use Rattle.ncq_engine.specs.Works.{IsWithinWork}
+use Rattle.ncq_engine.specs.declared.engine.ApplyError.{ApplyError}
+use Rattle.ncq_engine.specs.declared.engine.ApplyError.TheVariants.{Refused, OutOfMemory}
+use Rattle.ncq_engine.specs.declared.telling.Answered.{Answered}
+
+-- what holds, holds where the command was answered
+pub answered_so : {T A : Type 0} (r : Result T ApplyError) → A → IfAnswered r A
+answered_so (Ok x) a = a
+answered_so (Err (Refused why)) a = a
+answered_so (Err OutOfMemory) a = tt
+
+pub answered_more : {T A B : Type 0} (r : Result T ApplyError) → (A → B) → IfAnswered r A → IfAnswered r B
+answered_more (Ok x) f a = f a
+answered_more (Err (Refused why)) f a = f a
+answered_more (Err OutOfMemory) f a = tt
+
+-- an engine with another table, which follows what it followed
+module _ (old : EngineState) (table : TableState) (follows : (h : History) → Follows old h → Follows (record old { table = table }) h) where
+  pub applies_from : (command : Command) (out : List ℕ) (r : Result Answered ApplyError) (new : EngineState) (out' : List ℕ) → Applies (record old { table = table }) command out r new out' → Applies old command out r new out'
+  applies_from command out (Ok answered) new out' a = record {
+    accepted = λ h s. a.accepted h (follows h s);
+    follows = λ h s. a.follows h (follows h s);
+    answer = λ h s. a.answer h (follows h s);
+    counted = a.counted;
+    labels = a.labels;
+    places = λ h s.
+        let p = a.places h (follows h s) in
+        record { between = record { begins = p.between.begins; ends = p.between.ends }; spans = p.spans };
+  }
+  applies_from command out (Err (Refused why)) new out' a = record {
+    refused = λ h s. a.refused h (follows h s);
+    follows = λ h s. a.follows h (follows h s);
+    counted = a.counted;
+    labels = a.labels;
+    unwritten = a.unwritten;
+  }
+  applies_from command out (Err OutOfMemory) new out' a = record { follows = λ h s. a.follows h (follows h s); uncounted = a.uncounted; labels = a.labels; front = a.front }
+
+  pub work_from : (command : Command) (before after : ℕ) → ((h : History) → Follows (record old { table = table }) h → Stands (record old { table = table }) h)
+      → IsWithinWork (record old { table = table }) command before after → IsWithinWork old command before after
+  work_from command before after stands within h s bound work = within h (stands h (follows h s.follows)) bound work
+
+-- a change keeps the bases
+pub bases_fed : (store : StoreState) (change : List Portion) (old new : EngineState) → AreFed store change old.table.files new.table.files → KeepBases old new
+bases_fed store change old new fed number file at =
+    let f = fed.each number file at in
+    record { file = f.0; at = f.1; base = ap (λ (k : KeptFile). k.content.base) f.2.behind }
+
+pub bases_same : (old new : EngineState) → new.table ≡ old.table → KeepBases old new
+bases_same old new same number file at = record { file = file; at = subst (λ (t : TableState). get t.files number ≡ Some file) (sym same) at; base = refl }
+
+-- a refusal leaves the table
+pub refused_table : {X : Type 0} (o : Option X) (old new : EngineState) (count : ℕ) → IfSome o (λ _. new ≡ record old { count = count }) → IfNone o (new ≡ old) → new.table ≡ old.table
+refused_table None old new count some none = ap (λ (e : EngineState). e.table) none
+refused_table (Some x) old new count some none = ap (λ (e : EngineState). e.table) some
+
+-- files that were compacted, and then kept their bases
+pub compacted_still : (old mid new : EngineState) → AreCompacted old mid → KeepBases mid new → AreCompacted old new
+compacted_still old mid new compacted keep number file at worn =
+    let had = compacted number file at worn in
+    let has = keep number had.file had.at in
+    record { file = has.file; at = has.at; base = has.base ∙ had.base }
