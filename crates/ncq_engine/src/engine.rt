@@ -137,12 +137,13 @@ impl Engine {
         ensures labels { IfOk result (λ engine. engine.labels
             ≡ (labels handlers.now.items.items (λ h. h.name) (λ h. h.kind))) }
     {
+        let labels = labels_of(alloc, handlers)?;
         let engine = Engine {
             store: Store::new(alloc, seed),
             live_table: LiveTable::new(alloc, seed),
             count: 0,
             creates: 0,
-            labels: labels_of(alloc, handlers)?,
+            labels,
             spans: Spans::new(alloc),
         };
         engine.stands();
