@@ -7,10 +7,19 @@ use std::alloc::{AllocError, Global};
 use std::cmp::Ordering;
 
 /// A number in millionths, or a text.
-#[derive(Debug, PartialEq, Eq, PartialOrd, Ord, Hash, Drop)]
+#[derive(Debug, PartialEq, Eq, PartialOrd, Ord, Hash)]
 pub enum Atom {
     Num(i128),
     Text(Bytes),
+}
+
+impl Drop for Atom {
+    fn drop(self) {
+        match self {
+            Atom::Num(_) => {}
+            Atom::Text(text) => drop(text),
+        }
+    }
 }
 
 impl Copied for Atom {

@@ -182,13 +182,17 @@ fn constant_constraint(op: Op, slot: usize, constant: Atom) -> Constraint
 fn order_constraint(op: Op, slot: usize, constant: Atom) -> Constraint
     ensures { result ≡ order_constraint op slot constant }
 {
-    match constant {
-        Atom::Num(number) => Constraint::Bound { slot, op, number },
-        Atom::Text(text) => Constraint::Other {
+    match &constant {
+        Atom::Num(number) => Constraint::Bound {
+            slot,
+            op,
+            number: *number,
+        },
+        Atom::Text(_) => Constraint::Other {
             test: Test {
                 op,
                 left: slot,
-                right: Side::Constant(Atom::Text(text)),
+                right: Side::Constant(constant),
             },
         },
     }

@@ -19,10 +19,20 @@ use std::marker::Model;
 
 /// Live subscriptions, each under an install number above all before it and a name of its own, at
 /// an instant of the clock. Contracts see the list of them in that order, and the instant.
-#[derive(Drop)]
 pub struct Book {
     subscriptions: BTreeMap<u64, Held>,
     finders: Finders,
+}
+
+impl Drop for Book {
+    fn drop(self) {
+        let Book {
+            subscriptions,
+            finders,
+        } = self;
+        drop(subscriptions);
+        drop(finders);
+    }
 }
 
 impl Model for Book {

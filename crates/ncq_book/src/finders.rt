@@ -14,12 +14,26 @@ use std::hash::RandomState;
 
 /// What finds subscriptions: their names, their instants, and the files of those that fire at
 /// changes and of those that fire at instants.
-#[derive(Drop)]
 pub(crate) struct Finders {
     pub names: Names,
     pub calendar: Calendar,
     pub watchers: Watchers,
     pub timers: Watchers,
+}
+
+impl Drop for Finders {
+    fn drop(self) {
+        let Finders {
+            names,
+            calendar,
+            watchers,
+            timers,
+        } = self;
+        drop(names);
+        drop(calendar);
+        drop(watchers);
+        drop(timers);
+    }
 }
 
 impl Finders {

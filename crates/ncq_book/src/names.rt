@@ -10,9 +10,15 @@ use std::hash::RandomState;
 use std::marker::Model;
 
 /// The install numbers of names, each found by the hash of the name. Contracts see the pairs.
-#[derive(Drop)]
 pub(crate) struct Names {
     installs: IndexMap<Bytes, u64, RandomState>,
+}
+
+impl Drop for Names {
+    fn drop(self) {
+        let Names { installs } = self;
+        drop(installs);
+    }
 }
 
 impl Model for Names {

@@ -4,7 +4,6 @@ use ncq_event::Timing;
 use ncq_plan::NormalQuery;
 
 /// A live subscription: what it asks, where the rows of that stand, and when it fires.
-#[derive(Drop)]
 pub struct Subscription {
     /// What it is called.
     pub name: Bytes,
@@ -25,4 +24,24 @@ pub struct Subscription {
     /// What is written down of when it fired: of one that fires at changes the number of changes at
     /// its first firing, of a timer that at its latest; none before the first.
     pub noted: Option<u64>,
+}
+
+impl Drop for Subscription {
+    fn drop(self) {
+        let Subscription {
+            name,
+            sources,
+            query,
+            file: _,
+            timing: _,
+            action: _,
+            argument,
+            install: _,
+            noted: _,
+        } = self;
+        drop(name);
+        drop(sources);
+        drop(query);
+        drop(argument);
+    }
 }

@@ -18,9 +18,16 @@ pub enum Kind {
 
 /// What differs in an answer. Contracts see the list of the differences. Only rows make entries:
 /// `Gather::finish` alone gives them.
-#[derive(Debug, Drop)]
+#[derive(Debug)]
 pub struct Entries {
     items: Differences,
+}
+
+impl Drop for Entries {
+    fn drop(self) {
+        let Entries { items } = self;
+        drop(items);
+    }
 }
 
 impl Model for Entries {

@@ -20,13 +20,26 @@ use std::mem::replace;
 /// A bag of answers, and the last answer and the one before it, which are not in it yet. So the
 /// bag is not touched where there are no more than two, as most often. Contracts see the counts
 /// with those of the last two.
-#[derive(Drop)]
 pub(crate) struct RowBag {
     bag: SignedBag,
     /// That nothing was put into the bag.
     empty: bool,
     before: Option<LastAnswer>,
     last: Option<LastAnswer>,
+}
+
+impl Drop for RowBag {
+    fn drop(self) {
+        let RowBag {
+            bag,
+            empty: _,
+            before,
+            last,
+        } = self;
+        drop(bag);
+        drop(before);
+        drop(last);
+    }
 }
 
 impl Model for RowBag {

@@ -15,9 +15,15 @@ use std::alloc::{AllocError, Global};
 use std::marker::Model;
 
 /// How many files of a shelf each group has. A group without files has no entry.
-#[derive(Drop)]
 pub struct Groups {
     counts: IndexMap<GroupKey, u64>,
+}
+
+impl Drop for Groups {
+    fn drop(self) {
+        let Groups { counts } = self;
+        drop(counts);
+    }
 }
 
 impl Model for Groups {

@@ -9,9 +9,15 @@ use std::alloc::{AllocError, Global};
 use std::marker::Model;
 
 /// The numbers of files by atom. Contracts see each atom with the numbers of its files.
-#[derive(Drop)]
 pub struct Holders {
     files: IndexMap<Atom, IndexSet<u64>>,
+}
+
+impl Drop for Holders {
+    fn drop(self) {
+        let Holders { files } = self;
+        drop(files);
+    }
 }
 
 impl Model for Holders {

@@ -24,7 +24,6 @@ fn has(calls: &[u64], call: u64) -> bool
 }
 
 /// Bytes in memory, given in pieces. It tells which bytes are left.
-#[derive(Drop)]
 pub struct MemorySource {
     bytes: Bytes,
     at: usize,
@@ -33,6 +32,21 @@ pub struct MemorySource {
     calls: u64,
     faults: u64,
     given: u64,
+}
+
+impl Drop for MemorySource {
+    fn drop(self) {
+        let MemorySource {
+            bytes,
+            at: _,
+            piece: _,
+            failing: _,
+            calls: _,
+            faults: _,
+            given: _,
+        } = self;
+        drop(bytes);
+    }
 }
 
 impl Model for MemorySource {
@@ -124,13 +138,25 @@ impl Source for MemorySource {
 }
 
 /// A place in memory with so much room. It tells which bytes it holds.
-#[derive(Drop)]
 pub struct MemorySink {
     held: Vec<u8>,
     room: usize,
     failing: Calls,
     calls: u64,
     faults: u64,
+}
+
+impl Drop for MemorySink {
+    fn drop(self) {
+        let MemorySink {
+            held,
+            room: _,
+            failing: _,
+            calls: _,
+            faults: _,
+        } = self;
+        drop(held);
+    }
 }
 
 impl Model for MemorySink {

@@ -28,7 +28,6 @@ pub type Withins = Sequence<Within>;
 /// A pattern under the root of a source, by its shape, and what it asks. The slots of `equals` and
 /// `ranges` are those of the arm's row. The pairs tie the arm to those before it: the left slot is
 /// one of the query, the right slot one of the arm. The first arm has none.
-#[derive(Drop)]
 pub struct Arm {
     pub source: Bytes,
     pub shape: Shape,
@@ -37,16 +36,45 @@ pub struct Arm {
     pub pairs: Pairs,
 }
 
+impl Drop for Arm {
+    fn drop(self) {
+        let Arm {
+            source,
+            shape,
+            equals,
+            ranges,
+            pairs,
+        } = self;
+        drop(source);
+        drop(shape);
+        drop(equals);
+        drop(ranges);
+        drop(pairs);
+    }
+}
+
 /// Arms in order.
 pub type Arms = Sequence<Arm>;
 
 /// A query whose variables are slots. A slot of the query is the arm's offset plus a slot of the
 /// arm; the offset is the sum of the widths of the arms before.
-#[derive(Drop)]
 pub struct NormalQuery {
     pub arms: Arms,
     pub residual: Tests,
     pub template: SlotTemplate,
+}
+
+impl Drop for NormalQuery {
+    fn drop(self) {
+        let NormalQuery {
+            arms,
+            residual,
+            template,
+        } = self;
+        drop(arms);
+        drop(residual);
+        drop(template);
+    }
 }
 
 impl Copied for EqualTo {

@@ -13,10 +13,17 @@ const SHORT: usize = 64;
 
 /// An element with the canonical lines of its normal form, which are written once. Contracts see
 /// the element.
-#[derive(Drop)]
 pub struct Written {
     element: Element,
     lines: Vec<u8>,
+}
+
+impl Drop for Written {
+    fn drop(self) {
+        let Written { element, lines } = self;
+        drop(element);
+        drop(lines);
+    }
 }
 
 impl Model for Written {

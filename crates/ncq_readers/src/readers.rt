@@ -24,11 +24,23 @@ use std::sync::ledger::Ledger;
 
 /// What reads one file: the files of constants by their slot, those of intervals by their slot, and
 /// joins. Without readers it takes nothing on the heap.
-#[derive(Drop)]
 pub struct Readers {
     equals: BTreeMap<usize, EqTable>,
     ranges: BTreeMap<usize, RangeTable>,
     joins: IndexSet<u64>,
+}
+
+impl Drop for Readers {
+    fn drop(self) {
+        let Readers {
+            equals,
+            ranges,
+            joins,
+        } = self;
+        drop(equals);
+        drop(ranges);
+        drop(joins);
+    }
 }
 
 impl Model for Readers {

@@ -9,7 +9,7 @@ use ncq_signature::{GroupLine, GroupLines};
 use std::alloc::AllocError;
 
 /// What a report tells of an engine.
-#[derive(Debug, Drop)]
+#[derive(Debug)]
 pub struct Summary {
     /// How many subscriptions are live.
     pub queries: u64,
@@ -21,6 +21,19 @@ pub struct Summary {
     pub files: u64,
     /// Their groups, in the order of their lines.
     pub groups: GroupLines,
+}
+
+impl Drop for Summary {
+    fn drop(self) {
+        let Summary {
+            queries: _,
+            sources: _,
+            changes: _,
+            files: _,
+            groups,
+        } = self;
+        drop(groups);
+    }
 }
 
 /// Appends the report. After want of memory `out` is as before.

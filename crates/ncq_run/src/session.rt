@@ -156,12 +156,24 @@ fn status_of(stop: Stop) -> Status
 }
 
 /// How far a session has come, and its limit.
-#[derive(Drop)]
 struct Session {
     reader: ScriptReader,
     buffer: Vec<u8>,
     taken: usize,
     most: usize,
+}
+
+impl Drop for Session {
+    fn drop(self) {
+        let Session {
+            reader,
+            buffer,
+            taken: _,
+            most: _,
+        } = self;
+        drop(reader);
+        drop(buffer);
+    }
 }
 
 /// Reads a piece and answers what is whole now. It tells how the session ends, where it does.

@@ -25,7 +25,6 @@ use ncq_xmlql::{Statement, StatementError, parse_statement};
 use std::alloc::{AllocError, Global};
 
 /// What a command says.
-#[derive(Drop)]
 pub enum Command {
     /// Declares a source.
     Declare {
@@ -68,6 +67,33 @@ pub enum Command {
         /// Why.
         refusal: Refusal,
     },
+}
+
+impl Drop for Command {
+    fn drop(self) {
+        match self {
+            Command::Declare { name, root, key } => {
+                drop(name);
+                drop(root);
+                drop(key);
+            }
+            Command::Delta { sections } => {
+                drop(sections);
+            }
+            Command::Batch { sections } => {
+                drop(sections);
+            }
+            Command::Create { statement } => {
+                drop(statement);
+            }
+            Command::Delete { name } => {
+                drop(name);
+            }
+            Command::Clock { instant: _ } => {}
+            Command::Report => {}
+            Command::Malformed { refusal: _ } => {}
+        }
+    }
 }
 
 /// What the lines of a command say, or the first refusal of reading: 15 `line` where a line is

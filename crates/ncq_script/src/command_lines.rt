@@ -12,7 +12,6 @@ use ncq_base::{Bytes, Lines, bytes_of};
 use std::alloc::{AllocError, Global};
 
 /// The lines of a command: the one that begins it, and those of its block.
-#[derive(Drop)]
 pub(crate) struct CommandLines {
     /// What the command is called.
     pub keyword: Keyword,
@@ -24,6 +23,20 @@ pub(crate) struct CommandLines {
     pub long: bool,
     /// Whether its block has an end. True of a command without a block.
     pub closed: bool,
+}
+
+impl Drop for CommandLines {
+    fn drop(self) {
+        let CommandLines {
+            keyword: _,
+            head,
+            block,
+            long: _,
+            closed: _,
+        } = self;
+        drop(head);
+        drop(block);
+    }
 }
 
 // A command whose block is open.

@@ -26,11 +26,22 @@ pub(crate) enum NextCommand {
 /// Where `next` is called up to `Wanting` after each `push`, nothing is kept but the lines of a
 /// command whose block is open and the front of a line that is not whole; pieces pushed without it
 /// are kept until then.
-#[derive(Drop)]
 pub(crate) struct CommandReader {
     alloc: Global,
     lines: LineReader,
     current: Option<OpenCommand>,
+}
+
+impl Drop for CommandReader {
+    fn drop(self) {
+        let CommandReader {
+            alloc: _,
+            lines,
+            current,
+        } = self;
+        drop(lines);
+        drop(current);
+    }
 }
 
 impl Model for CommandReader {

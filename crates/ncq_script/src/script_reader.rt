@@ -32,12 +32,23 @@ pub enum Next {
 /// Where `next` is called up to `Wanting` after each `push`, nothing is kept but the lines of a
 /// command whose block is open and the front of a line that is not whole; pieces pushed without it
 /// are kept until then.
-#[derive(Drop)]
 pub struct ScriptReader {
     alloc: Global,
     reader: CommandReader,
     // The lines of the next command, where they were taken and memory ran out when they were read.
     waiting: Option<CommandLines>,
+}
+
+impl Drop for ScriptReader {
+    fn drop(self) {
+        let ScriptReader {
+            alloc: _,
+            reader,
+            waiting,
+        } = self;
+        drop(reader);
+        drop(waiting);
+    }
 }
 
 impl Model for ScriptReader {

@@ -11,10 +11,16 @@ use std::{mem, slice};
 
 /// The sections of a batch, in order. A source may be named several times. One section alone takes
 /// no block of memory. Contracts see it as the list of its sections.
-#[derive(Drop)]
 pub struct Sections {
     few: FewSections,
     alloc: Global,
+}
+
+impl Drop for Sections {
+    fn drop(self) {
+        let Sections { few, alloc: _ } = self;
+        drop(few);
+    }
 }
 
 /// Sections, of which one alone stands in the value itself.

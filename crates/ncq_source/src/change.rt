@@ -28,10 +28,17 @@ pub type Entries = Sequence<Entry>;
 pub struct SourceId(pub usize);
 
 /// What a section of a batch asks of the source of this name.
-#[derive(Drop)]
 pub struct Section {
     pub source: Bytes,
     pub items: Items,
+}
+
+impl Drop for Section {
+    fn drop(self) {
+        let Section { source, items } = self;
+        drop(source);
+        drop(items);
+    }
 }
 
 /// What a change does to one source: one entry for each item of the sections that name it, section
@@ -51,9 +58,15 @@ pub(crate) enum Portions {
 
 /// What sections do to the sources that they name, prepared: a portion for each such source, rising
 /// by source. `Store::prepare` makes it, and contracts see it as the list of its portions.
-#[derive(Drop)]
 pub struct Change {
     portions: Portions,
+}
+
+impl Drop for Change {
+    fn drop(self) {
+        let Change { portions } = self;
+        drop(portions);
+    }
 }
 
 impl Model for Change {

@@ -10,13 +10,28 @@ use ncq_base::Bytes;
 use std::alloc::AllocError;
 
 /// A source with its elements, and the number of its last change.
-#[derive(Drop)]
 pub(crate) struct Declared {
     pub(crate) name: Bytes,
     pub(crate) root: Bytes,
     pub(crate) key: Key,
     pub(crate) elements: Elements,
     pub(crate) last: u64,
+}
+
+impl Drop for Declared {
+    fn drop(self) {
+        let Declared {
+            name,
+            root,
+            key,
+            elements,
+            last: _,
+        } = self;
+        drop(name);
+        drop(root);
+        drop(key);
+        drop(elements);
+    }
 }
 
 impl Declared {

@@ -18,9 +18,15 @@ use std::hash::RandomState;
 use std::marker::Model;
 
 /// Elements by their keys, in an order of its own, with room for some more.
-#[derive(Drop)]
 pub(crate) struct Elements {
     elements: IndexMap<Bytes, Shared<Written>, RandomState>,
+}
+
+impl Drop for Elements {
+    fn drop(self) {
+        let Elements { elements } = self;
+        drop(elements);
+    }
 }
 
 impl Model for Elements {

@@ -11,12 +11,21 @@ use std::alloc::{AllocError, Global};
 /// Where the key of an element stands: it is the string value of its one direct child of this name,
 /// or the value of its attribute of this name, left as it is. Names are compared byte by byte; the
 /// element's own tag is free.
-#[derive(Debug, Drop)]
+#[derive(Debug)]
 pub enum Key {
     /// The one direct child of this name.
     Child(Bytes),
     /// The attribute of this name.
     Attribute(Bytes),
+}
+
+impl Drop for Key {
+    fn drop(self) {
+        match self {
+            Key::Child(child) => drop(child),
+            Key::Attribute(attribute) => drop(attribute),
+        }
+    }
 }
 
 impl Copied for Key {

@@ -13,9 +13,15 @@ use std::marker::Model;
 const FEW: usize = 8;
 
 /// Names, each once, that are found by their bytes.
-#[derive(Drop)]
 pub(crate) struct Names {
     names: IndexSet<Vec<u8>, RandomState>,
+}
+
+impl Drop for Names {
+    fn drop(self) {
+        let Names { names } = self;
+        drop(names);
+    }
 }
 
 impl Model for Names {

@@ -34,12 +34,25 @@ use thiserror::Error;
 /// to all of them together. Contracts see it as the two, and each source as a record: its name, its
 /// root, its key, its elements by their keys, its last change, the order in which its elements are
 /// shown, and its room.
-#[derive(Drop)]
 pub struct Store {
     names: Names,
     sources: Vec<Declared>,
     changes: u64,
     seed: RandomState,
+}
+
+impl Drop for Store {
+    fn drop(self) {
+        let Store {
+            names,
+            sources,
+            changes: _,
+            seed,
+        } = self;
+        drop(names);
+        drop(sources);
+        drop(seed);
+    }
 }
 
 impl Model for Store {

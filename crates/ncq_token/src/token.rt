@@ -4,7 +4,7 @@ use std::alloc::AllocError;
 use thiserror::Error;
 
 /// A token of a statement.
-#[derive(Debug, PartialEq, Eq, Drop)]
+#[derive(Debug, PartialEq, Eq)]
 pub enum Token {
     /// `<` directly before the first byte of a name. A tag begins.
     TagStart,
@@ -26,6 +26,23 @@ pub enum Token {
     Cmp(Op),
     /// `,` outside a tag.
     Comma,
+}
+
+impl Drop for Token {
+    fn drop(self) {
+        match self {
+            Token::TagStart => {}
+            Token::TagEnd => {}
+            Token::TagClose => {}
+            Token::EmptyClose => {}
+            Token::Name(name) => drop(name),
+            Token::Variable(variable) => drop(variable),
+            Token::Quoted(quoted) => drop(quoted),
+            Token::Word(word) => drop(word),
+            Token::Cmp(_) => {}
+            Token::Comma => {}
+        }
+    }
 }
 
 /// The tokens of a text, in their order.

@@ -3,10 +3,18 @@ use ncq_base::{Bytes, Sequence};
 
 /// An attribute of an element: a name and a value, each any bytes. They are ordered by name, then
 /// by value.
-#[derive(Debug, PartialEq, Eq, PartialOrd, Ord, Hash, Drop)]
+#[derive(Debug, PartialEq, Eq, PartialOrd, Ord, Hash)]
 pub struct Attribute {
     pub name: Bytes,
     pub value: Bytes,
+}
+
+impl Drop for Attribute {
+    fn drop(self) {
+        let Attribute { name, value } = self;
+        drop(name);
+        drop(value);
+    }
 }
 
 /// Attributes in order. A name may stand twice; in a normal forest none does.

@@ -2,10 +2,18 @@
 use ncq_base::{Bytes, Op, Sequence};
 
 /// A variable, by its name without the `$`, or the bytes of a literal.
-#[derive(Drop)]
 pub enum Operand {
     Variable(Bytes),
     Literal(Bytes),
+}
+
+impl Drop for Operand {
+    fn drop(self) {
+        match self {
+            Operand::Variable(variable) => drop(variable),
+            Operand::Literal(literal) => drop(literal),
+        }
+    }
 }
 
 /// An attribute of a pattern: its value is compared with a literal or bound to a variable.
@@ -49,7 +57,6 @@ pub struct Pattern {
 pub type Patterns = Sequence<Pattern>;
 
 /// An item of a query: patterns under the root of a source, or a comparison.
-#[derive(Drop)]
 pub enum QueryItem {
     /// The arms are one pattern or more.
     Match {
@@ -63,6 +70,22 @@ pub enum QueryItem {
         op: Op,
         right: Operand,
     },
+}
+
+impl Drop for QueryItem {
+    fn drop(self) {
+        match self {
+            QueryItem::Match { root, arms, source } => {
+                drop(root);
+                drop(arms);
+                drop(source);
+            }
+            QueryItem::Condition { left, op: _, right } => {
+                drop(left);
+                drop(right);
+            }
+        }
+    }
 }
 
 /// The items of a query, in their order. The first is a match.
@@ -94,14 +117,20 @@ pub enum Template {
 pub type Templates = Sequence<Template>;
 
 /// What is asked, and what is made of each answer.
-#[derive(Drop)]
 pub struct Query {
     pub items: QueryItems,
     pub template: Template,
 }
 
+impl Drop for Query {
+    fn drop(self) {
+        let Query { items, template } = self;
+        drop(items);
+        drop(template);
+    }
+}
+
 /// A statement that creates a continuous query.
-#[derive(Drop)]
 pub struct Statement {
     pub name: Bytes,
     pub query: Query,
@@ -115,4 +144,22 @@ pub struct Statement {
     pub every: u64,
     /// The written expiry, an instant.
     pub expire: Option<u64>,
+}
+
+impl Drop for Statement {
+    fn drop(self) {
+        let Statement {
+            name,
+            query,
+            action,
+            argument,
+            start: _,
+            every: _,
+            expire: _,
+        } = self;
+        drop(name);
+        drop(query);
+        drop(action);
+        drop(argument);
+    }
 }

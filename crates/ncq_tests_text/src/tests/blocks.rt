@@ -10,7 +10,7 @@ use std::test::Fail;
 
 /// The canonical lines of each element, and `!` and the key of each removal.
 fn write_items(items: Items, out: &mut Vec<u8>) -> Result<(), AllocError> {
-    for item in items.into_vec() {
+    for item in items.as_slice() {
         match item {
             Item::Put(element) => write_element(element.get().element(), out)?,
             Item::Remove(key) => {

@@ -17,7 +17,7 @@ use std::test::Fail;
 
 /// The element that the item puts.
 fn put_by(alloc: Global, item: Option<Item>) -> Result<Element, AllocError> {
-    match item {
+    match &item {
         Some(Item::Put(element)) => element.get().element().copy(alloc),
         _ => Err(AllocError),
     }
