@@ -1,6 +1,6 @@
 //! Intervals that a slot lies in.
 ghost use Rattle.std.specs.Prelude.{◌≡◌, ◌++◌, ◌∷◌, [], length, IfOk, IfSome, IfNone};
-ghost use Rattle.std.specs.Prelude.{OnOk, OnErr, None};
+ghost use Rattle.std.specs.Prelude.{OnOk, OnErr, None, map};
 ghost use Rattle.std.specs.List.Sorted.{IsNonDecreasingBy};
 ghost use Rattle.std.specs.List.{IsDistinct};
 ghost use Rattle.std.specs.Map.{lookup, keys_of};
@@ -18,11 +18,22 @@ pub type Files = Sequence<FileId>;
 
 /// The files of intervals. An interval is found by its hash, and by a value in it in a tree that
 /// has the same intervals and files.
-#[derive(Drop)]
 pub struct RangeTable {
     files: IndexMap<Interval, FileId>,
     tree: Tree,
     alloc: Global,
+}
+
+impl Drop for RangeTable {
+    fn drop(self) {
+        let RangeTable {
+            files,
+            tree,
+            alloc: _,
+        } = self;
+        drop(files);
+        drop(tree);
+    }
 }
 
 impl Model for RangeTable {
@@ -112,6 +123,13 @@ impl RangeTable {
         ensures { result ≡ is_held_by (keys_of self.now) value.now }
     {
         self.tree.holds(value)
+    }
+
+    /// The files in the order of their intervals. It takes no memory.
+    pub fn files(&self) -> &[FileId]
+        ensures { result.now ≡ map (λ p. p.1) self.now }
+    {
+        self.files.values().as_slice()
     }
 
     /// The intervals in order. It takes no memory.

@@ -1,6 +1,7 @@
 -- What finders keep when rows come behind those that they have, or go.
-use Rattle.std.proofs.Common.{◌≡◌, ◌∙◌, ℕ, List, [], ◌++◌, map, length, take, drop, take-append-drop, sym, ap, subst, arith}
-use Rattle.std.proofs.lemmas.List.Elements.{All-map, All-weaker}
+use Rattle.std.proofs.Common.{◌≡◌, ◌∙◌, ℕ, Bool, true, false, List, [], ◌∷◌, ◌++◌, map, length, take, drop, take-append-drop, sym, ap, subst, arith}
+use Rattle.std.specs.List.{AllByRecursion, items_where_true}
+use Rattle.std.proofs.lemmas.List.Elements.{All-from_recursion, All-map, All-weaker, recursion_from_All}
 use Rattle.ncq_midfile.specs.Finders.{IsFinder, AreFinders, IsIndexOn, IsOrderBy, cut_finder}
 use Rattle.ncq_midfile.specs.declared.finder.Finder.{Finder}
 use Rattle.ncq_midfile.specs.declared.finder.Finder.TheVariants.{Index, Order}
@@ -53,3 +54,15 @@ module _ (slot : ℕ) (finder : Finder) (by : IsOrderBy slot finder) where
 
   pub by_slot : (order : an_order) → finder ≡ Order order → order.slot ≡ slot
   by_slot order is = let same : by.0 ≡ order = (let had = by.1 in cc) in ap (λ (o : an_order). o.slot) (sym same) ∙ by.2
+
+-- what holds of all holds of those that are kept
+kept_where : (P : Finder → Type 0) (bs : List Bool) (finders : List Finder) → AllByRecursion P finders → AllByRecursion P (items_where_true bs finders)
+kept_where P [] finders all = tt
+kept_where P (b ∷ bs) [] all = tt
+kept_where P (true ∷ bs) (f ∷ finders) all = (all.0, kept_where P bs finders all.1)
+kept_where P (false ∷ bs) (f ∷ finders) all = kept_where P bs finders all.1
+
+pub finders_kept : (bs : List Bool) (old new : List Finder) (rows : List SignedRow) → new ≡ items_where_true bs old → AreFinders old rows → AreFinders new rows
+finders_kept bs old new rows is all =
+    subst (λ fs. AreFinders fs rows) (sym is)
+    (All-from_recursion (IsFinder rows) (items_where_true bs old) (kept_where (IsFinder rows) bs old (recursion_from_All (IsFinder rows) old all)))

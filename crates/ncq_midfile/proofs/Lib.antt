@@ -1,4 +1,5 @@
 pub mod ByValue
+pub mod Candidates
 pub mod ChainLaws
 pub mod Compacts
 pub mod Counted
@@ -21,6 +22,7 @@ pub mod PairLaws
 pub mod Parts
 pub mod Rangeds
 pub mod SameAtoms
+pub mod SpotLaws
 pub mod Strikes
 pub mod Sounds
 pub mod Takens

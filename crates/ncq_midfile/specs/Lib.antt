@@ -12,4 +12,5 @@ pub mod Pairs
 pub mod Ranged
 pub mod Rows
 pub mod Shown
+pub mod Spots
 pub mod Views

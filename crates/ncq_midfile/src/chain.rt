@@ -1,27 +1,20 @@
 //! A list of numbers in which all places of a number are found.
-ghost use Rattle.std.specs.Prelude.{◌≡◌, ◌++◌, ◌∷◌, [], ◌-◌, ◌<◌, length, take, drop, nat_eq};
-ghost use Rattle.std.specs.Prelude.{IfOk, OnOk, OnErr};
-ghost use Rattle.std.specs.List.{swap_remove, slice_set};
+ghost use Rattle.std.specs.Prelude.{◌≡◌, ◌++◌, ◌∷◌, [], ◌-◌, ◌<◌, ◌≤◌, length, take, drop, nat_eq};
+ghost use Rattle.std.specs.Prelude.{IfOk, IfSome, OnOk, OnErr};
+ghost use Rattle.std.specs.List.{swap_remove};
 ghost use Rattle.ncq_midfile.specs.Matching.{places_where};
 
 use crate::signed::Places;
+use crate::spots::Spots;
 use std::alloc::{AllocError, Global};
-use std::collections::BTreeSet;
 use std::marker::Model;
 
-/// That a number stands at a place. The derived order is by number, then by place.
-#[derive(Clone, Copy, PartialEq, Eq, PartialOrd, Ord)]
-pub(crate) struct Spot {
-    pub number: u64,
-    pub place: usize,
-}
-
-/// Numbers in order, and a set of where each stands. What is put or taken costs the same wherever
+/// Numbers in order, and a table of where each stands. What is put or taken costs the same wherever
 /// it stands.
 #[derive(Drop)]
 pub(crate) struct Chains {
     numbers: Vec<u64>,
-    spots: BTreeSet<Spot>,
+    spots: Spots,
 }
 
 impl Model for Chains {
@@ -35,7 +28,7 @@ impl Model for Chains {
 
     ghost view = { λ c. c.numbers.items };
 
-    ghost invariant = { λ c. AreSpotted c.numbers.items c.spots.keys };
+    ghost invariant = { λ c. AreSpotted c.numbers.items c.spots };
 }
 
 impl Chains {
@@ -45,7 +38,7 @@ impl Chains {
     {
         Chains {
             numbers: Vec::new(alloc),
-            spots: BTreeSet::new(alloc),
+            spots: Spots::new(alloc),
         }
     }
 
@@ -55,11 +48,6 @@ impl Chains {
         self.numbers.len()
     }
 
-    /// Which number stands where.
-    pub(crate) fn spots(&self) -> &BTreeSet<Spot> {
-        &self.spots
-    }
-
     /// One number more.
     pub(crate) fn push(&mut self, number: u64) -> Result<(), AllocError>
         ensures ok { OnOk result (self.new ≡ self.old ++ number ∷ []) }
@@ -67,7 +55,7 @@ impl Chains {
     {
         self.numbers.reserve(1)?;
         let place = self.numbers.len();
-        self.spots.insert(Spot { number, place })?;
+        self.spots.insert(number, place)?;
         self.numbers.push(number).unwrap();
         Ok(())
     }
@@ -81,26 +69,7 @@ impl Chains {
             unreachable!()
         };
         let place = self.numbers.len();
-        self.spots.remove(&Spot { number, place });
-    }
-
-    /// Puts a number in the place of another.
-    fn put(&mut self, at: usize, number: u64) -> Result<(), AllocError>
-        requires { at < length self.old }
-        ensures ok { OnOk result (self.new ≡ slice_set self.old at number) }
-        ensures err { OnErr result (self.new ≡ self.old) }
-    {
-        let gone = self.numbers[at];
-        if gone == number {
-            return Ok(());
-        }
-        self.spots.insert(Spot { number, place: at })?;
-        self.spots.remove(&Spot {
-            number: gone,
-            place: at,
-        });
-        self.numbers[at] = number;
-        Ok(())
+        self.spots.remove(number, place);
     }
 
     /// Takes the number at a place away, and puts the last one there.
@@ -109,9 +78,16 @@ impl Chains {
         ensures ok { OnOk result (self.new ≡ swap_remove self.old at 0) }
         ensures err { OnErr result (self.new ≡ self.old) }
     {
-        let last = self.numbers[self.numbers.len() - 1];
-        self.put(at, last)?;
-        self.pop();
+        let end = self.numbers.len() - 1;
+        let last = self.numbers[end];
+        let gone = self.numbers[at];
+        if gone == last {
+            self.pop();
+            return Ok(());
+        }
+        self.spots.shift(last, end, at)?;
+        self.spots.remove(gone, at);
+        self.numbers.swap_remove(at);
         Ok(())
     }
 
@@ -125,17 +101,14 @@ impl Chains {
         ensures { IfOk result (λ places.
             places ≡ places_where (nat_eq number) from (drop from self.now)) }
     {
-        let first = Spot {
-            number,
-            place: from,
-        };
-        let last = Spot {
-            number,
-            place: usize::MAX,
-        };
-        let mut places = Vec::new(alloc);
-        places.extend(self.spots.range(first..=last).map(|spot| spot.place))?;
-        Ok(Places::from_vec(places))
+        self.spots.places_of(alloc, number, from)
+    }
+
+    /// The first place of the number from one on.
+    pub(crate) fn first_place(&self, number: u64, from: usize) -> Option<usize>
+        ensures { IfSome result (λ place. from ≤ place) }
+    {
+        self.spots.first_place(number, from)
     }
 
     /// Takes away the numbers from this place on. It takes no memory.

@@ -15,11 +15,12 @@ use crate::compact::gather;
 use crate::content::{count_up_to, first_places, left_over, places_from};
 use crate::finder::{Finder, cut_all, forget_all, keep_index, keep_order, lose_index, lose_order};
 use crate::key::{KeyAtom, atoms_of};
+use crate::lose::lose_indexes;
 use crate::matching::matching_in;
 use crate::pairs::pairs;
 use crate::signed::{Places, SignedRow};
 use crate::taken::take_out;
-use crate::whole::{fill_whole, grow_whole};
+use crate::whole::{fill_whole, grow_whole, width_of};
 use crate::within::interval_in;
 use ncq_base::{Atom, Interval};
 use ncq_row::{Row, RowKey, Rows};
@@ -27,12 +28,24 @@ use std::alloc::{AllocError, Global};
 use std::marker::Model;
 
 /// The signed rows of one expression, and what finds the first of them.
-#[derive(Drop)]
 pub struct MidFile {
     base: u64,
     rows: Vec<SignedRow>,
     finders: Vec<Finder>,
     alloc: Global,
+}
+
+impl Drop for MidFile {
+    fn drop(self) {
+        let MidFile {
+            base: _,
+            rows,
+            finders,
+            alloc: _,
+        } = self;
+        drop(rows);
+        drop(finders);
+    }
 }
 
 impl Model for MidFile {
@@ -255,6 +268,15 @@ impl MidFile {
         ensures { self.new ≡ self.old }
     {
         lose_index(&mut self.finders, slots);
+    }
+
+    /// Gives up what finds rows by atoms, but for what finds whole rows. It changes no answer and
+    /// takes no memory.
+    pub fn drop_indexes(&mut self)
+        ensures { self.new ≡ self.old }
+    {
+        let width = width_of(self.rows.as_slice());
+        lose_indexes(&mut self.finders, width);
     }
 
     /// Makes sure that rows are found by the number in a slot. It changes no answer and costs the

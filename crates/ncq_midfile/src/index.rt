@@ -4,7 +4,7 @@
 //! std's with a fixed start, and no seed: whoever chooses atoms can make hashes meet. Atoms are
 //! always compared as well, so that this costs time and changes no answer.
 ghost use Rattle.std.specs.Prelude.{◌≡◌, ◌++◌, ◌<◌, ◌≤◌, [], length, take, drop};
-ghost use Rattle.std.specs.Prelude.{IfOk, OnOk, IsTrue};
+ghost use Rattle.std.specs.Prelude.{IfOk, IfSome, OnOk, IsTrue};
 ghost use Rattle.std.specs.List.{All};
 ghost use Rattle.ncq_midfile.specs.Content.{AreRising};
 ghost use Rattle.ncq_midfile.specs.Finders.{AreFinders};
@@ -12,7 +12,7 @@ ghost use Rattle.ncq_midfile.specs.Indexes.{atoms_at, key_hash, Covers, cut_inde
 ghost use Rattle.ncq_midfile.specs.Matching.{HaveSlots, is_wanted, places_where, chosen};
 ghost use Rattle.ncq_midfile.specs.Pairs.{IsFull, taken_out};
 
-use crate::chain::{Chains, Spot};
+use crate::chain::Chains;
 use crate::content::push_where;
 use crate::finder::{Finder, find_index};
 use crate::key::KeyAtom;
@@ -20,7 +20,6 @@ use crate::matching::is_wanted;
 use crate::signed::{Places, SignedRow};
 use ncq_row::Row;
 use std::alloc::{AllocError, Global};
-use std::collections::BTreeSet;
 use std::hash::{FoldHasher, Hash, Hasher};
 
 /// The hashes of the first rows' atoms in some slots.
@@ -70,9 +69,11 @@ impl Index {
         hash_at(row, self.slots.as_slice())
     }
 
-    /// Which hash stands where.
-    pub(crate) fn spots(&self) -> &BTreeSet<Spot> {
-        self.hashes.spots()
+    /// The first place from one on at which the hash stands.
+    pub(crate) fn first_place(&self, hash: u64, from: usize) -> Option<usize>
+        ensures { IfSome result (λ place. from ≤ place) }
+    {
+        self.hashes.first_place(hash, from)
     }
 
     /// Takes in the rows that it has not yet, up to the first that has not its slots; where there

@@ -10,7 +10,6 @@ ghost use Rattle.ncq_midfile.specs.Matching.{places_where};
 ghost use Rattle.ncq_midfile.specs.Pairs.{ArePairs, HaveAll};
 ghost use Rattle.ncq_midfile.specs.declared.signed.SignedRow.{SignedRow as a_signed_row};
 
-use crate::chain::Spot;
 use crate::content::{count_up_to, push_where};
 use crate::finder::Finder;
 use crate::index::{Index, fits};
@@ -94,44 +93,49 @@ fn partners(
     Ok(Some(found))
 }
 
-/// The next place at which an equal row stands that came in. The table has for each row the place
-/// from which on none is found yet.
-fn next_partner<'a>(
+/// The next place at which an equal row stands that came in. The table has for each hash the place
+/// from which on none is found yet; rows whose hashes meet share it, and may miss a place by that.
+fn next_partner(
     rows: &[SignedRow],
     index: &Index,
-    row: &'a Row,
-    starts: &mut IndexMap<&'a Row, usize>,
+    row: &Row,
+    starts: &mut IndexMap<u64, usize>,
 ) -> Result<Option<usize>, AllocError>
     requires { All (λ slot. slot < length row.now) index.now.slots }
     ensures within { IfOk result (λ o. IfSome o (λ place. place < length rows.now)) }
     ensures like { IfOk result (λ o. IfSome o (λ place. (r : a_signed_row)
         × (slice_get rows.now place ≡ Some r) × (r.plus ≡ true) × (r.row ≡ row.now))) }
 {
-    let number = index.hash(row);
-    let place = starts.get(&row).copied().unwrap_or(0);
-    let Some(partner) = first_partner(rows, index, row, Spot { number, place }) else {
+    let hash = index.hash(row);
+    let from = starts.get(&hash).copied().unwrap_or(0);
+    let Some(partner) = first_partner(rows, index, row, hash, from) else {
         return Ok(None);
     };
-    starts.insert(row, partner + 1)?;
+    starts.insert(hash, partner + 1)?;
     Ok(Some(partner))
 }
 
-/// The first place from a spot on, among those with its number, at which an equal row stands that
-/// came in.
-fn first_partner(rows: &[SignedRow], index: &Index, row: &Row, first: Spot) -> Option<usize>
+/// The first place from one on, among those of the hash, at which an equal row stands that came in.
+fn first_partner(
+    rows: &[SignedRow],
+    index: &Index,
+    row: &Row,
+    hash: u64,
+    from: usize,
+) -> Option<usize>
     ensures within { IfSome result (λ place. place < length rows.now) }
     ensures like { IfSome result (λ place. (r : a_signed_row)
         × (slice_get rows.now place ≡ Some r) × (r.plus ≡ true) × (r.row ≡ row.now)) }
 {
-    let last = Spot {
-        number: first.number,
-        place: usize::MAX,
-    };
-    for spot in index.spots().range(first..=last) {
-        let place = spot.place;
-        if place < rows.len() && is_partner(&rows[place], row) {
+    let mut next = from;
+    while let Some(place) = index.first_place(hash, next) {
+        if place >= rows.len() {
+            return None;
+        }
+        if is_partner(&rows[place], row) {
             return Some(place);
         }
+        next = place + 1;
     }
     None
 }

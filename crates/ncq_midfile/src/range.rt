@@ -1,11 +1,12 @@
 //! The file of a range group.
-ghost use Rattle.std.specs.Prelude.{◌≡◌, ◌≤◌, ◌++◌, [], ◌∷◌, OnOk, OnErr};
+ghost use Rattle.std.specs.Prelude.{◌≡◌, ◌≤◌, ◌++◌, [], ◌∷◌, ℕ, Bool, length, OnOk, OnErr};
 ghost use Rattle.std.specs.List.{AllByRecursion};
 ghost use Rattle.std.specs.Map.{keys_of};
+ghost use Rattle.ncq_row.specs.Embeddings.{Row as a_row};
 ghost use Rattle.ncq_midfile.specs.Content.{up_to};
 ghost use Rattle.ncq_midfile.specs.Files.{AreNumbered};
 ghost use Rattle.ncq_midfile.specs.Finders.{AreFinders};
-ghost use Rattle.ncq_midfile.specs.Folds.{IsFolded};
+ghost use Rattle.ncq_midfile.specs.Folds.{AreBoundBy, AreBoundTo, IsFolded, IsLeftOneWay};
 ghost use Rattle.ncq_midfile.specs.Matching.{HaveSlots};
 ghost use Rattle.ncq_midfile.specs.Ranged.{HaveNumbers};
 ghost use Rattle.ncq_midfile.specs.Views.{HasNumber, of_rows, is_held, is_kept};
@@ -20,14 +21,31 @@ use ncq_consttab::RangeTable;
 use std::alloc::{AllocError, Global};
 use std::marker::Model;
 
+/// So few rows that went out are not worth a fold.
+const FEW_LOST: usize = 64;
+
 /// The signed rows that some interval of a range group holds, each once. Each row has a number in
-/// the group's slot.
-#[derive(Drop)]
+/// the group's slot. `lost` is how many of the rows added since the last fold went out.
 pub struct RangeFile {
     slot: usize,
     rows: Vec<SignedRow>,
     finders: Vec<Finder>,
+    lost: usize,
     alloc: Global,
+}
+
+impl Drop for RangeFile {
+    fn drop(self) {
+        let RangeFile {
+            slot: _,
+            rows,
+            finders,
+            lost: _,
+            alloc: _,
+        } = self;
+        drop(rows);
+        drop(finders);
+    }
 }
 
 impl Model for RangeFile {
@@ -52,6 +70,7 @@ impl RangeFile {
             slot,
             rows: Vec::new(alloc),
             finders: Vec::new(alloc),
+            lost: 0,
             alloc,
         }
     }
@@ -75,7 +94,9 @@ impl RangeFile {
     {
         let rows = self.rows.as_slice();
         keep_order(self.alloc, &mut self.finders, rows, self.slot)?;
+        let more = usize::from(!row.plus);
         self.rows.push(row)?;
+        self.lost = self.lost.saturating_add(more);
         Ok(())
     }
 
@@ -114,17 +135,30 @@ impl RangeFile {
         self.rows.truncate(kept);
     }
 
-    /// Strikes out pairs of equal rows with numbers up to `m`, one that came in and one that went
-    /// out, until no such pair is left. No row is made. After an error the file is as it was.
-    pub fn fold(&mut self, alloc: Global, m: u64) -> Result<(), AllocError>
+    /// Strikes out pairs of equal rows, one that came in and one that went out, each with a number
+    /// up to the bound at its place, until no such pair is left. No row is made. After an error the
+    /// file is as it was.
+    pub fn fold(&mut self, alloc: Global, bounds: &[u64]) -> Result<(), AllocError>
+        requires { length bounds.now ≡ length self.old.rows }
         ensures slot { self.new.slot ≡ self.old.slot }
-        ensures ok { OnOk result (IsFolded m self.old.rows self.new.rows) }
+        ensures ok { OnOk result ((test : a_row → Bool) (m : ℕ)
+            → AreBoundBy test m self.old.rows bounds.now
+            → IsFolded m (of_rows test self.old.rows) (of_rows test self.new.rows)) }
+        ensures single { OnOk result ((row : a_row) (m : ℕ)
+            → AreBoundTo row m self.old.rows bounds.now → IsLeftOneWay row m self.new.rows) }
         ensures err { OnErr result (self.new ≡ self.old) }
     {
-        let places = folded(alloc, self.rows.as_slice(), m)?;
+        let places = folded(alloc, self.rows.as_slice(), bounds)?;
         cut_all(&mut self.finders, 0);
         keep_at(&mut self.rows, places.as_slice());
+        self.lost = 0;
         Ok(())
+    }
+
+    /// Whether so many rows went out since the last fold that one is worth its cost, where `more`
+    /// is what it costs besides the rows. It decides speed alone: nothing is claimed of it.
+    pub fn is_spent(&self, more: usize) -> bool {
+        self.lost >= FEW_LOST && self.lost >= self.rows.len() / 3 && self.lost >= more / 4
     }
 
     /// Makes sure that rows are found by the atoms at these slots. It changes no answer and costs
@@ -160,7 +194,8 @@ impl RangeFile {
         lose_order(&mut self.finders, slot);
     }
 
-    pub(crate) fn rows(&self) -> &[SignedRow]
+    /// The signed rows in order. It takes no memory.
+    pub fn rows(&self) -> &[SignedRow]
         ensures rows { result.now ≡ self.now.rows }
         ensures numbered { AreNumbered 0 result.now }
         ensures numbers { HaveNumbers self.now.slot result.now }

@@ -95,6 +95,16 @@ impl View<'_> {
         }
     }
 
+    /// How many signed rows stand below the view. It takes no memory.
+    pub fn len(&self) -> usize
+        ensures { result ≡ length (rows_below self.now) }
+    {
+        match self {
+            View::Whole(file) => file.rows().len(),
+            View::Ranged { file, .. } => file.rows().len(),
+        }
+    }
+
     /// The signed row at a place.
     pub fn signed(&self, at: usize) -> &SignedRow
         requires { at < length (rows_below self.now) }

@@ -11,7 +11,7 @@ use crate::signed::SignedRow;
 use std::alloc::{AllocError, Global};
 
 /// A file of so many rows is large.
-const MANY_ROWS: usize = 1024;
+const MANY_ROWS: usize = 256;
 
 /// How many rows the index takes in at most with each row that the file gets, so that it reaches
 /// the last one although it began behind it.
@@ -82,12 +82,17 @@ fn whole_at(finders: &[Finder], width: usize) -> Option<usize>
 {
     for at in 0..finders.len() {
         if let Finder::Index(index) = &finders[at] {
-            if are_all_slots(index.slots(), width) {
+            if is_whole(index, width) {
                 return Some(at);
             }
         }
     }
     None
+}
+
+/// Whether the index is on whole rows of the width.
+pub(crate) fn is_whole(index: &Index, width: usize) -> bool {
+    are_all_slots(index.slots(), width)
 }
 
 /// Whether these are the slots of a row of the width, in order.
@@ -108,7 +113,7 @@ fn fill_some(finder: &mut Finder, rows: &[SignedRow]) -> Result<(), AllocError>
 }
 
 /// How wide the first row is.
-fn width_of(rows: &[SignedRow]) -> usize {
+pub(crate) fn width_of(rows: &[SignedRow]) -> usize {
     match rows.first() {
         Some(signed) => signed.row.len(),
         None => 0,

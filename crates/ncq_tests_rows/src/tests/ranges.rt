@@ -1,11 +1,11 @@
 //! Tables of intervals and files of range groups, worked out by hand. Each row has one value.
-ghost use Rattle.std.specs.Prelude.{◌≡◌, ◌<◌, ◌≤◌, length, IsTrue};
+ghost use Rattle.std.specs.Prelude.{◌≡◌, ◌<◌, ◌≤◌, length, vec_len, IsTrue, IfOk};
 ghost use Rattle.std.specs.List.{All, AllByRecursion};
 ghost use Rattle.ncq_midfile.specs.Shown.{rows_below};
 ghost use Rattle.ncq_midfile.specs.Views.{HasNumber};
 
 use super::making::value_rows;
-use ncq_base::{Atom, End, FileId, Interval, Steps, atom_of};
+use ncq_base::{Atom, End, FileId, Interval, Steps, atom_of, in_interval};
 use ncq_consttab::RangeTable;
 use ncq_midfile::{RangeFile, SignedRow, View};
 use ncq_row::Row;
@@ -65,12 +65,14 @@ enum Turn {
     Without(Interval, &'static [Interval]),
     Cut(u64),
     Fold(u64),
+    /// Each of the intervals has a bound of its own.
+    FoldEach(&'static [(Interval, u64)]),
     Index,
     Lose,
 }
 
 /// Turns of a file, and the value, the number and the sign of each row that it then has.
-const TURNS: [(&[Turn], &[(i128, u64, bool)]); 14] = [
+const TURNS: [(&[Turn], &[(i128, u64, bool)]); 17] = [
     (&[], &[]),
     (
         &[Turn::Index, Turn::Lose, Turn::Cut(0), Turn::Keep(&[])],
@@ -181,6 +183,47 @@ const TURNS: [(&[Turn], &[(i128, u64, bool)]); 14] = [
         ],
         &[(1_000_000, 1, true), (1_000_000, 3, false)],
     ),
+    // Of two intervals one has an earlier bound: its pair stays.
+    (
+        &[
+            Turn::Add("2", 1, true),
+            Turn::Add("5", 1, true),
+            Turn::Add("2", 3, false),
+            Turn::Add("5", 3, false),
+            Turn::FoldEach(&[(TWO_TO_FOUR, 3), (THREE_TO_FIVE, 2)]),
+        ],
+        &[(5_000_000, 1, true), (5_000_000, 3, false)],
+    ),
+    // A row of both has the lower of their bounds.
+    (
+        &[
+            Turn::Add("2", 1, true),
+            Turn::Add("3.5", 1, true),
+            Turn::Add("2", 2, false),
+            Turn::Add("3.5", 2, false),
+            Turn::FoldEach(&[(THREE_TO_FIVE, 1), (TWO_TO_FOUR, 2)]),
+        ],
+        &[(3_500_000, 1, true), (3_500_000, 2, false)],
+    ),
+    // Pairs go until none is left. A row above its bound strikes none out. Others stay in order.
+    (
+        &[
+            Turn::Add("2", 1, true),
+            Turn::Add("2", 1, true),
+            Turn::Add("5", 1, true),
+            Turn::Add("2", 2, false),
+            Turn::Add("5", 3, false),
+            Turn::Add("2", 4, false),
+            Turn::Index,
+            Turn::FoldEach(&[(TWO_TO_FOUR, 3), (THREE_TO_FIVE, 3)]),
+            Turn::Add("3", 4, true),
+        ],
+        &[
+            (2_000_000, 1, true),
+            (2_000_000, 4, false),
+            (3_000_000, 4, true),
+        ],
+    ),
 ];
 
 /// A table of the intervals, which have the files 0, 1 and so on.
@@ -246,6 +289,38 @@ pub fn keep_index(alloc: Global, file: &mut RangeFile) -> Result<(), AllocError>
     file.ensure_index(alloc, &[slot])
 }
 
+/// The least of the bounds of the intervals that hold the row.
+fn bound_of(row: &Row, bounds: &[(Interval, u64)]) -> u64 {
+    let mut least = u64::MAX;
+    for (interval, bound) in bounds {
+        if row.len() == 1 && in_interval(interval, row.atom(0)) && *bound < least {
+            least = *bound;
+        }
+    }
+    least
+}
+
+/// The bound of each row of the file.
+fn bounds_of(
+    alloc: Global,
+    file: &RangeFile,
+    bounds: &[(Interval, u64)],
+) -> Result<Vec<u64>, AllocError>
+    ensures { IfOk result (λ each. vec_len each ≡ length file.now.rows) }
+{
+    let mut each = Vec::new(alloc);
+    for signed in file.rows() {
+        each.push(bound_of(&signed.row, bounds))?;
+    }
+    Ok(each)
+}
+
+/// Pairs of rows are struck out up to the bounds of the intervals that hold them.
+fn fold(alloc: Global, file: &mut RangeFile, bounds: &[(Interval, u64)]) -> Result<(), AllocError> {
+    let each = bounds_of(alloc, file, bounds)?;
+    file.fold(alloc, each.as_slice())
+}
+
 /// The turn is taken.
 fn take_turn<L: Ledger>(
     alloc: Global,
@@ -261,7 +336,8 @@ fn take_turn<L: Ledger>(
             file.keep_without(gone, &table);
         }
         Turn::Cut(number) => file.cut(*number),
-        Turn::Fold(number) => file.fold(alloc, *number)?,
+        Turn::Fold(number) => fold(alloc, file, &[(ALL, *number)])?,
+        Turn::FoldEach(bounds) => fold(alloc, file, bounds)?,
         Turn::Index => keep_index(alloc, file)?,
         Turn::Lose => file.drop_index(&[0]),
     }

@@ -1,10 +1,10 @@
-use Rattle.std.proofs.Common.{◌≡◌, ℕ, ◌<◌, List, length, map, ap, ◌∙◌, sym, subst, arith}
+use Rattle.std.proofs.Common.{◌≡◌, ℕ, Bool, ◌<◌, List, length, map, ap, ◌∙◌, sym, subst, arith}
 use Rattle.std.specs.List.{All, range_with_len}
 use Rattle.std.proofs.lemmas.List.Elements.{All-from_recursion}
-use Rattle.ncq_midfile.specs.Content.{AreRising, IsPart, signed_at}
-use Rattle.ncq_midfile.specs.Folds.{IsFolded}
+use Rattle.ncq_midfile.specs.Content.{Row, AreRising, IsPart, signed_at}
+use Rattle.ncq_midfile.specs.Folds.{AreBoundBy, AreBoundTo, IsFolded, IsLeftOneWay}
 use Rattle.ncq_midfile.specs.Finders.{cut_finder}
-use Rattle.ncq_midfile.specs.Views.{RangeState}
+use Rattle.ncq_midfile.specs.Views.{RangeState, of_rows}
 use Rattle.ncq_midfile.specs.declared.signed.SignedRow.{SignedRow}
 use Rattle.ncq_midfile.proofs.Parts.{range_below, range_rises, part_all, part_rising}
 use Rattle.ncq_midfile.proofs.Rangeds.{ranged_at, cut_whole, ranged_as}
@@ -36,7 +36,17 @@ invariant_of-self c =
 pub returns-clause-ok : goal.returns-clause-ok
 returns-clause-ok c =
     let rows = c.self.inside.rows.items in
+    let bounds = c.args.bounds.now in
     let old : rows ≡ c.args.self.now.rows = ap (λ (f : RangeState). f.rows) c.self.view_is in
-    subst (λ (rs : List SignedRow). IsFolded c.args.m rs c.keep_at.new.rows.items) old
-    (subst (λ (rs : List SignedRow). IsFolded c.args.m rows rs) (sym (c.keep_at.ensures ∙ ap (λ ps. signed_at ps rows) c.as_slice-2.ensures))
-    (subst (λ (rs : List SignedRow). IsFolded c.args.m rs (signed_at c.in_ok-places.places rs)) c.as_slice.ensures.value c.in_ok-places.ensures.folded))
+    subst (λ (rs : List SignedRow). (test : Row → Bool) (m : ℕ) → AreBoundBy test m rs bounds → IsFolded m (of_rows test rs) (of_rows test c.keep_at.new.rows.items)) old
+    (subst (λ (rs : List SignedRow). (test : Row → Bool) (m : ℕ) → AreBoundBy test m rows bounds → IsFolded m (of_rows test rows) (of_rows test rs)) (sym (c.keep_at.ensures ∙ ap (λ ps. signed_at ps rows) c.as_slice-2.ensures))
+    (subst (λ (rs : List SignedRow). (test : Row → Bool) (m : ℕ) → AreBoundBy test m rs bounds → IsFolded m (of_rows test rs) (of_rows test (signed_at c.in_ok-places.places rs))) c.as_slice.ensures.value c.in_ok-places.ensures.folded))
+
+pub returns-clause-single : goal.returns-clause-single
+returns-clause-single c =
+    let rows = c.self.inside.rows.items in
+    let bounds = c.args.bounds.now in
+    let old : rows ≡ c.args.self.now.rows = ap (λ (f : RangeState). f.rows) c.self.view_is in
+    subst (λ (rs : List SignedRow). (row : Row) (m : ℕ) → AreBoundTo row m rs bounds → IsLeftOneWay row m c.keep_at.new.rows.items) old
+    (subst (λ (rs : List SignedRow). (row : Row) (m : ℕ) → AreBoundTo row m rows bounds → IsLeftOneWay row m rs) (sym (c.keep_at.ensures ∙ ap (λ ps. signed_at ps rows) c.as_slice-2.ensures))
+    (subst (λ (rs : List SignedRow). (row : Row) (m : ℕ) → AreBoundTo row m rs bounds → IsLeftOneWay row m (signed_at c.in_ok-places.places rs)) c.as_slice.ensures.value c.in_ok-places.ensures.single))
