@@ -1,8 +1,7 @@
 -- A table one of whose files has another base.
-use Rattle.std.proofs.Common.{◌≡◌, ◌≢◌, ℕ, ◌≤◌, true, false, cond, List, [], ◌∷◌, ◌++◌, map, filter, length, Some, ◌⊎◌, inl, inr, refl, sym, ap, ◌∙◌, subst, arith}
+use Rattle.std.proofs.Common.{◌≡◌, ℕ, ◌≤◌, true, false, cond, List, [], ◌∷◌, ◌++◌, map, filter, length, Some, ◌⊎◌, inl, inr, refl, sym, ap, ◌∙◌, subst, arith}
 use Rattle.std.specs.List.{AllByRecursion}
 use Rattle.std.specs.FinMap.{get, insert}
-use Rattle.std.proofs.lemmas.Bool.{cases_eq}
 use Rattle.ncq_base.specs.declared.interval.Interval.{Interval}
 use Rattle.ncq_plan.specs.declared.expr.Expr.{Expr}
 use Rattle.ncq_plan.specs.declared.expr.Expr.TheVariants.{RangeSel, rolls-RangeSel}
@@ -16,11 +15,10 @@ use Rattle.ncq_midfile.specs.Files.{IsThere}
 use Rattle.ncq_midfile.specs.declared.signed.SignedRow.{SignedRow}
 use Rattle.ncq_fill.proofs.FileLaws.{wide_same}
 use Rattle.ncq_shelf.specs.KeptFiles.{KeptFile, Files}
-use Rattle.ncq_shelf.specs.Contents.{IsUpTo, IsWide, HoldsItsContent, IsCompacted}
+use Rattle.ncq_shelf.specs.Contents.{IsUpTo, IsWide, HoldsItsContent, IsCompacted, IsRaised}
 use Rattle.ncq_shelf.specs.Ranges.{IsRange}
-use Rattle.ncq_shelf.proofs.CallerLemmas.{put_same, put_other, one_value}
 use Rattle.ncq_group.specs.Tables.{TableState, Facts}
-use Rattle.ncq_group.proofs.SameTable.{HaveLike, facts_like, wide_up_to}
+use Rattle.ncq_group.proofs.SameTable.{facts_put, wide_up_to}
 
 gains_wide : (width : ℕ) (rows : List SignedRow) → AllByRecursion (λ r. length r.row ≡ width) rows → AllByRecursion (λ row. length row ≡ width) (gains rows)
 gains_wide width [] all = tt
@@ -96,36 +94,21 @@ module _ (change now : ℕ) (old new : KeptFile) (is : IsCompacted change old ne
 module _ (table : TableState) (facts : Facts table) (number change : ℕ) (old next : KeptFile) (at : get table.files number ≡ Some old) (is : IsCompacted change old next)
     (holds : (IsRange old.expr → ⊥) → HoldsItsContent change old next) (kept : IsRange old.expr → next.content.rows ≡ old.content.rows) (last : AllByRecursion (λ r. r.number ≤ change) old.content.rows) (less : change ≤ table.number)
     (new : Files) (put : new ≡ insert table.files number next) where
-  here : get new number ≡ Some next
-  here = subst (λ f. get f number ≡ Some next) (sym put) (put_same table.files number next)
-
-  others : (other : ℕ) → other ≢ number → get new other ≡ get table.files other
-  others other differs = subst (λ f. get f other ≡ get table.files other) (sym put) (put_other table.files number next other differs)
-
-  put_up : HaveLike table.files new
-  put_up other file before = elim (cases_eq other number) [
-    | inl same ↦
-        let e : file ≡ old = one_value before (subst (λ n. get table.files n ≡ Some old) (sym same) at) in
-        record { file = next; at = subst (λ n. get new n ≡ Some next) (sym same) here; expr = is.expr ∙ ap (λ f. f.expr) (sym e); uses = is.uses ∙ ap (λ f. f.uses) (sym e) }
-    | inr differs ↦ record { file = file; at = others other differs ∙ before; expr = refl; uses = refl }
-  ]
-
-  put_back : HaveLike new table.files
-  put_back other file after = elim (cases_eq other number) [
-    | inl same ↦
-        let e : file ≡ next = one_value after (subst (λ n. get new n ≡ Some next) (sym same) here) in
-        record { file = old; at = subst (λ n. get table.files n ≡ Some old) (sym same) at; expr = sym is.expr ∙ ap (λ f. f.expr) (sym e); uses = sym is.uses ∙ ap (λ f. f.uses) (sym e) }
-    | inr differs ↦ record { file = file; at = sym (others other differs) ∙ after; expr = refl; uses = refl }
-  ]
-
   pub facts_compacted : Facts (record { files = new; next_file = table.next_file; number = table.number })
-  facts_compacted = facts_like table (record { files = new; next_file = table.next_file; number = table.number }) facts put_up put_back
-      (λ other file after. elim (cases_eq other number) [
-        | inl same ↦ subst IsWide (sym (one_value after (subst (λ n. get new n ≡ Some next) (sym same) here))) (compact_wide change table.number old next is holds kept (facts.wide number old at))
-        | inr differs ↦ facts.wide other file (sym (others other differs) ∙ after)
-      ])
-      (λ other file after. elim (cases_eq other number) [
-        | inl same ↦ subst (λ f. IsUpTo table.number f.content) (sym (one_value after (subst (λ n. get new n ≡ Some next) (sym same) here))) (compact_last change table.number old next is holds kept last less)
-        | inr differs ↦ facts.up_to other file (sym (others other differs) ∙ after)
-      ])
-      facts.below
+  facts_compacted =
+      facts_put table facts number old next at is.expr is.uses (compact_wide change table.number old next is holds kept (facts.wide number old at)) (compact_last change table.number old next is holds kept last less) new put
+
+-- a file whose base was raised
+raised_wide : (change : ℕ) (old next : KeptFile) → IsRaised change old next → IsWide old → IsWide next
+raised_wide change old next is wide =
+    subst (λ e. AllByRecursion (λ r. length r.row ≡ expr_width e) next.content.rows) (sym is.expr) (subst (λ rows. AllByRecursion (λ (r : SignedRow). length r.row ≡ expr_width old.expr) rows) (sym is.rows) wide)
+
+raised_last : (change now : ℕ) (old next : KeptFile) → IsRaised change old next → change ≤ now → IsUpTo now old.content → IsUpTo now next.content
+raised_last change now old next is less up = record {
+  base = let b = up.base in elim is.base [ inl same ↦ omega arith | inr there ↦ omega arith ];
+  last = subst (λ rows. AllByRecursion (λ (r : SignedRow). r.number ≤ now) rows) (sym is.rows) up.last;
+}
+
+module _ (table : TableState) (facts : Facts table) (number change : ℕ) (old next : KeptFile) (at : get table.files number ≡ Some old) (is : IsRaised change old next) (less : change ≤ table.number) (new : Files) (put : new ≡ insert table.files number next) where
+  pub facts_raised : Facts (record { files = new; next_file = table.next_file; number = table.number })
+  facts_raised = facts_put table facts number old next at is.expr is.uses (raised_wide change old next is (facts.wide number old at)) (raised_last change table.number old next is less (facts.up_to number old at)) new put

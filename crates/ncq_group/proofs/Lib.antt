@@ -13,3 +13,4 @@ pub mod Installed
 pub mod FedFacts
 pub mod SameTable
 pub mod CompactLaws
+pub mod FoldFacts

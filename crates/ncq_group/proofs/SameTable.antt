@@ -1,9 +1,9 @@
 -- A table whose files have other rows.
-use Rattle.std.proofs.Common.{◌≡◌, ℕ, ◌<◌, ◌≤◌, true, false, cond, nat_le, List, [], ◌∷◌, length, Some, None, refl, sym, ap, ◌∙◌, subst}
+use Rattle.std.proofs.Common.{◌≡◌, ◌≢◌, ℕ, ◌<◌, ◌≤◌, true, false, cond, nat_le, List, [], ◌∷◌, length, Some, None, inl, inr, refl, sym, ap, ◌∙◌, subst}
 use Rattle.std.specs.List.{AllByRecursion}
 use Rattle.std.specs.Option.{option_map}
-use Rattle.std.specs.FinMap.{get}
-use Rattle.std.proofs.lemmas.Bool.{leb-true}
+use Rattle.std.specs.FinMap.{get, insert}
+use Rattle.std.proofs.lemmas.Bool.{cases_eq, leb-true}
 use Rattle.ncq_plan.specs.declared.expr.Expr.{Expr}
 use Rattle.ncq_plan.specs.Exprs.{expr_width}
 use Rattle.ncq_plan.specs.WellFormed.{IsWellFormedExpr}
@@ -13,7 +13,7 @@ use Rattle.ncq_shelf.specs.Parts.{IsInput}
 use Rattle.ncq_shelf.specs.KeptFiles.{KeptFile, Files}
 use Rattle.ncq_shelf.specs.Stands.{Stands, IsReadIn}
 use Rattle.ncq_shelf.specs.Contents.{IsUpTo, AreUpTo, AreWide, IsWide, cut_to}
-use Rattle.ncq_shelf.proofs.CallerLemmas.{there, one_value}
+use Rattle.ncq_shelf.proofs.CallerLemmas.{put_same, put_other, there, one_value}
 use Rattle.ncq_group.specs.Tables.{TableState, Facts}
 
 -- at the number stands a file of the same expression and uses
@@ -52,6 +52,43 @@ facts_like old new facts up back wide last below = record {
       let h = back number file at in
       subst (IsReadIn new.files) h.expr (read_like old.files new.files up h.file.expr (facts.read number h.file h.at (h.uses ∙ unused)));
 }
+
+-- one file has other rows
+module _ (table : TableState) (facts : Facts table) (number : ℕ) (old next : KeptFile) (at : get table.files number ≡ Some old) (expr : next.expr ≡ old.expr) (uses : next.uses ≡ old.uses) (wide : IsWide next) (last : IsUpTo table.number next.content)
+    (new : Files) (put : new ≡ insert table.files number next) where
+  here : get new number ≡ Some next
+  here = subst (λ f. get f number ≡ Some next) (sym put) (put_same table.files number next)
+
+  others : (other : ℕ) → other ≢ number → get new other ≡ get table.files other
+  others other differs = subst (λ f. get f other ≡ get table.files other) (sym put) (put_other table.files number next other differs)
+
+  put_up : HaveLike table.files new
+  put_up other file before = elim (cases_eq other number) [
+    | inl same ↦
+        let e : file ≡ old = one_value before (subst (λ n. get table.files n ≡ Some old) (sym same) at) in
+        record { file = next; at = subst (λ n. get new n ≡ Some next) (sym same) here; expr = expr ∙ ap (λ f. f.expr) (sym e); uses = uses ∙ ap (λ f. f.uses) (sym e) }
+    | inr differs ↦ record { file = file; at = others other differs ∙ before; expr = refl; uses = refl }
+  ]
+
+  put_back : HaveLike new table.files
+  put_back other file after = elim (cases_eq other number) [
+    | inl same ↦
+        let e : file ≡ next = one_value after (subst (λ n. get new n ≡ Some next) (sym same) here) in
+        record { file = old; at = subst (λ n. get table.files n ≡ Some old) (sym same) at; expr = sym expr ∙ ap (λ f. f.expr) (sym e); uses = sym uses ∙ ap (λ f. f.uses) (sym e) }
+    | inr differs ↦ record { file = file; at = sym (others other differs) ∙ after; expr = refl; uses = refl }
+  ]
+
+  pub facts_put : Facts (record { files = new; next_file = table.next_file; number = table.number })
+  facts_put = facts_like table (record { files = new; next_file = table.next_file; number = table.number }) facts put_up put_back
+      (λ other file after. elim (cases_eq other number) [
+        | inl same ↦ subst IsWide (sym (one_value after (subst (λ n. get new n ≡ Some next) (sym same) here))) wide
+        | inr differs ↦ facts.wide other file (sym (others other differs) ∙ after)
+      ])
+      (λ other file after. elim (cases_eq other number) [
+        | inl same ↦ subst (λ f. IsUpTo table.number f.content) (sym (one_value after (subst (λ n. get new n ≡ Some next) (sym same) here))) last
+        | inr differs ↦ facts.up_to other file (sym (others other differs) ∙ after)
+      ])
+      facts.below
 
 -- rows up to a change are as wide as all
 pub wide_up_to : (change width : ℕ) (rows : List SignedRow) → AllByRecursion (λ r. length r.row ≡ width) rows → AllByRecursion (λ r. length r.row ≡ width) (up_to change rows)

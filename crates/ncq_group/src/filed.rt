@@ -10,11 +10,22 @@ use ncq_count::Groups;
 use ncq_shelf::{Inputs, Shelf};
 
 /// The files, how many of them each group has, and the number that the next new file gets.
-#[derive(Drop)]
 pub(crate) struct Filed {
     pub(crate) shelf: Shelf,
     pub(crate) groups: Groups,
     pub(crate) next: u64,
+}
+
+impl Drop for Filed {
+    fn drop(self) {
+        let Filed {
+            shelf,
+            groups,
+            next: _,
+        } = self;
+        drop(shelf);
+        drop(groups);
+    }
 }
 
 /// Takes an idle file out, and tells what it read. It takes no memory.

@@ -15,7 +15,9 @@ ghost use Rattle.ncq_signature.specs.Groups.{AreGroupLines};
 ghost use Rattle.ncq_shelf.specs.KeptFiles.{AtFile, EachFile, KeptFile};
 ghost use Rattle.ncq_shelf.specs.Stands.{IsThere};
 ghost use Rattle.ncq_shelf.specs.Ranges.{IsRange, IsRangeFile, SelectsRange, ShareRows};
+ghost use Rattle.ncq_shelf.specs.RowCounts.{CountsRows};
 ghost use Rattle.ncq_shelf.specs.Contents.{Fits, HoldsItsContent, IsCompacted, cut_to};
+ghost use Rattle.ncq_shelf.specs.Contents.{AreFolded, IsRaised};
 ghost use Rattle.ncq_feed.specs.Feeds.{IsPreparedFrom, AreFed, NamesTheFed, world_after, feed_work};
 ghost use Rattle.ncq_feed.specs.Feeds.{CountsHeld, plain_work, held_work};
 ghost use Rattle.ncq_count.specs.FileExprs.{exprs_of};
@@ -41,10 +43,16 @@ use std::sync::ledger::Ledger;
 
 /// The files of all installed expressions and their subexpressions, each once, the number that the
 /// next new file gets, and the change up to which the files stand.
-#[derive(Drop)]
 pub struct GroupTable {
     filed: Filed,
     number: u64,
+}
+
+impl Drop for GroupTable {
+    fn drop(self) {
+        let GroupTable { filed, number: _ } = self;
+        drop(filed);
+    }
 }
 
 impl Model for GroupTable {
@@ -105,6 +113,14 @@ impl GroupTable {
         ensures { result ≡ len self.now.files }
     {
         self.filed.shelf.len()
+    }
+
+    /// How many signed rows the files have in all: those that selections by intervals share count
+    /// once. It tells at most 2^64 - 1. It takes no memory, and time in proportion to the files.
+    pub fn rows(&self) -> u64
+        ensures { CountsRows self.now.files result }
+    {
+        self.filed.shelf.rows()
     }
 
     /// Whether there is a file of this number. It takes no memory.
@@ -278,5 +294,49 @@ impl GroupTable {
     {
         self.filed.shelf.compact(alloc, file.0, change)?;
         Ok(())
+    }
+
+    /// Makes a change the base of a file that selects by an interval, which keeps its rows; another
+    /// file stays as it is. It takes no memory.
+    pub fn raise_base(&mut self, file: FileId, change: u64)
+        requires there { IsThere self.old.files file.0 }
+        requires number { change ≤ self.old.number }
+        ensures raised { AtFile self.old.files file.0 (λ kept.
+            (next : KeptFile) × (self.new.files ≡ insert self.old.files file.0 next)
+            × IsRaised change kept next) }
+        ensures next_file { self.new.next_file ≡ self.old.next_file }
+        ensures number { self.new.number ≡ self.old.number }
+    {
+        self.filed.shelf.raise_base(file.0, change);
+    }
+
+    /// Where the file selects by an interval: of the rows that it shares with all that select so by
+    /// the slot of the input, pairs of equal ones are struck out, one that came in and one that went
+    /// out, both up to the base of each that takes the row. After an error the table is as it was.
+    /// The only error is that memory ran out.
+    pub fn fold(&mut self, alloc: Global, file: FileId) -> Result<(), AllocError>
+        requires { IsThere self.old.files file.0 }
+        ensures ok { OnOk result (AreFolded self.old.files self.new.files) }
+        ensures next_file { self.new.next_file ≡ self.old.next_file }
+        ensures number { self.new.number ≡ self.old.number }
+        ensures err { OnErr result (self.new ≡ self.old) }
+    {
+        self.filed.shelf.fold(alloc, file.0)?;
+        Ok(())
+    }
+
+    /// The files that select by intervals of the slot by which the file does, of the same input:
+    /// none where it does not select so. The only error is that memory ran out.
+    pub fn siblings(&self, alloc: Global, file: FileId) -> Result<Sequence<u64>, AllocError>
+        requires { IsThere self.now.files file.0 }
+        ensures { IfOk result (AllByRecursion (IsThere self.now.files)) }
+    {
+        self.filed.shelf.siblings(alloc, file.0)
+    }
+
+    /// Whether the file selects by an interval and a fold is worth its cost. It decides speed alone:
+    /// nothing is claimed of it.
+    pub fn is_spent(&self, file: FileId) -> bool {
+        self.filed.shelf.is_spent(file.0)
     }
 }

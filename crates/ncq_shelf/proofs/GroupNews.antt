@@ -1,5 +1,5 @@
 -- A group's file with more rows behind its own, and the files that are views of it.
-use Rattle.std.proofs.Common.{◌≡◌, ◌⊎◌, ◌<◌, ◌++◌, ℕ, length, map, Bool, true, false, cond, List, [], ◌∷◌, Some, None, Option, nat_eq, inl, inr, refl, sym, ap, ◌∙◌, subst, true≢false, append-nil}
+use Rattle.std.proofs.Common.{◌≡◌, ◌<◌, ◌++◌, ℕ, length, map, Bool, true, false, cond, List, [], ◌∷◌, Some, None, Option, nat_eq, inl, inr, refl, sym, ap, ◌∙◌, subst, true≢false, append-nil}
 use Rattle.std.specs.FinMap.{get, same_map, nat_cmp-IsAntisymmetric}
 use Rattle.std.proofs.lemmas.Cmp.{nat_cmp_total}
 use Rattle.std.specs.List.{AllByRecursion}
@@ -14,14 +14,13 @@ use Rattle.ncq_row.specs.Embeddings.{Row}
 use Rattle.ncq_row.specs.Values.{atom_at}
 use Rattle.ncq_plan.specs.declared.expr.Expr.{Expr}
 use Rattle.ncq_plan.specs.declared.expr.Expr.TheVariants.{RangeSel}
-use Rattle.ncq_plan.specs.declared.expr.Expr.TheViews.{out-Expr}
 use Rattle.ncq_plan.specs.Meets.{is_within}
 use Rattle.ncq_midfile.specs.Views.{HasNumber, RangeState, is_number, of_rows}
 use Rattle.ncq_midfile.specs.declared.signed.SignedRow.{SignedRow}
 use Rattle.ncq_midfile.proofs.Withins.{filter_append}
 use Rattle.ncq_readers.specs.ReaderTables.{ReaderTables}
 use Rattle.ncq_shelf.specs.Contents.{with_more}
-use Rattle.ncq_shelf.specs.Groups.{Groups, IsGrouped, IsRightFor, IsTaken, content_of, group_of, is_group, picked, rows_of_group}
+use Rattle.ncq_shelf.specs.Groups.{Groups, IsGrouped, IsTaken, content_of, group_of, is_group, rows_of_group}
 use Rattle.ncq_shelf.specs.KeptFiles.{KeptFile, Files}
 use Rattle.ncq_shelf.specs.Keyed.{AreHeld, IsHeld, IsKept, IsKey, IsKeyed}
 use Rattle.ncq_shelf.specs.Ranges.{AppendsHeld, IsHeldBy, SelectsRange, Takes}
@@ -33,15 +32,14 @@ use Rattle.ncq_shelf.specs.declared.file.File.{File}
 use Rattle.ncq_shelf.specs.declared.group.Group.{Group}
 use Rattle.ncq_shelf.specs.declared.keys.Keys.{Keys}
 use Rattle.ncq_shelf.specs.declared.rows.Rows.{Rows}
-use Rattle.ncq_shelf.specs.declared.rows.Rows.TheVariants.{Whole, Ranged}
 use Rattle.ncq_shelf.proofs.AnyGroups.{shelved_any}
 use Rattle.ncq_shelf.proofs.GroupGains.{all_both}
+use Rattle.ncq_shelf.proofs.GroupWrites.{IsViewOf, grouped_then, here, other_same, rows_in, same_base, view_or_other}
 use Rattle.ncq_shelf.proofs.Indexes.{shown_at, kept_at}
 use Rattle.ncq_shelf.proofs.KeyLaws.{all_among}
 use Rattle.ncq_shelf.proofs.KeyedLaws.{keyed_back}
-use Rattle.ncq_shelf.proofs.Maps.{one_value, there}
 use Rattle.ncq_shelf.proofs.ShownFiles.{get_shown}
-use Rattle.ncq_shelf.proofs.VirtualFiles.{group_is, group_itself, held_taken, selects_view, view_of_taken, view_selects}
+use Rattle.ncq_shelf.proofs.VirtualFiles.{held_taken, selects_view, view_of_taken, view_selects}
 use Rattle.ncq_shelf.proofs.Widths.{each_at, from_each, of_test, virtual_rows}
 
 -- what an interval has is a number
@@ -68,17 +66,8 @@ module _ (gs : Groups) (files : List (ℕ × File)) (numbers : List (Expr × ℕ
 -- the group's file has more rows, and all other groups are as before
 module _ (gs hs : Groups) (group : Group) (held w : RangeState) (at : lookup (is_group group) gs ≡ Some held)
     (now : (q : Group) → lookup (is_group q) hs ≡ cond (is_group group q) (Some w) (lookup (is_group q) gs)) (slot : w.slot ≡ held.slot) (news : List SignedRow) (rows : w.rows ≡ held.rows ++ news) where
-  abbrev rows_in : Option RangeState → List SignedRow
-  rows_in o = option_map_or (λ (h : RangeState). h.rows) o []
-
-  elsewhere : (q : Group) → is_group group q ≡ false → lookup (is_group q) hs ≡ lookup (is_group q) gs
-  elsewhere q other = now q ∙ ap (λ b. cond b (Some w) (lookup (is_group q) gs)) other
-
-  here : lookup (is_group group) hs ≡ Some w
-  here = now group ∙ ap (λ b. cond b (Some w) (lookup (is_group group) gs)) (group_itself group)
-
   rows_here : rows_of_group hs group ≡ rows_of_group gs group ++ news
-  rows_here = ap rows_in here ∙ rows ∙ ap (λ o. rows_in o ++ news) (sym at)
+  rows_here = ap rows_in (here gs hs group held w at now) ∙ rows ∙ ap (λ o. rows_in o ++ news) (sym at)
 
   view_rows : (expr inner : Expr) (content : Rows) (interval : Interval) → group_of content ≡ Some group → expr ≡ RangeSel inner group.slot interval
       → (content_of hs expr content).rows ≡ (content_of gs expr content).rows ++ of_rows (is_within group.slot interval) news
@@ -88,88 +77,20 @@ module _ (gs hs : Groups) (group : Group) (held w : RangeState) (at : lookup (is
       ∙ filter_append (λ (r : SignedRow). is_within group.slot interval r.row) (rows_of_group gs group) news
       ∙ ap (λ rs. rs ++ of_rows (is_within group.slot interval) news) (sym (virtual_rows gs expr inner content group interval of is))
 
-  same_base : (expr : Expr) (content : Rows) → (content_of hs expr content).base ≡ (content_of gs expr content).base
-  same_base expr (Whole file) = refl
-  same_base expr (Ranged g base) = refl
-
   -- a view has of the news what its interval has
   view_more : (file : File) (inner : Expr) (interval : Interval) → group_of file.content ≡ Some group → file.expr ≡ RangeSel inner group.slot interval
       → state_of hs file ≡ with_more (state_of gs file) (of_rows (is_within group.slot interval) news)
   view_more file inner interval of is = λ i. record {
     expr = file.expr;
     uses = file.uses;
-    content = record { base = same_base file.expr file.content i; rows = view_rows file.expr inner file.content interval of is i };
+    content = record { base = same_base gs hs group held w at now file.expr file.content i; rows = view_rows file.expr inner file.content interval of is i };
   }
 
-  -- what is no view of the group shows what it showed
-  other_content : (expr : Expr) (content : Rows) → ((g : Group) → group_of content ≡ Some g → is_group group g ≡ false) → content_of hs expr content ≡ content_of gs expr content
-  other_content expr (Whole file) h = refl
-  other_content expr (Ranged g base) h = λ i. record { base = base; rows = picked (out-Expr expr) (rows_in (elsewhere g (h g refl) i)) }
-
-  other_same : (file : File) → ((g : Group) → group_of file.content ≡ Some g → is_group group g ≡ false) → state_of hs file ≡ state_of gs file
-  other_same file h = λ i. record { expr = file.expr; uses = file.uses; content = other_content file.expr file.content h i }
-
   module _ (files : List (ℕ × File)) (grouped : IsGrouped files gs) where
-    -- a file is a view of the group, or not
-    pub record IsViewOf (file : File) : Type 0 where
-      pub inner : Expr
-      pub interval : Interval
-      pub of : group_of file.content ≡ Some group
-      pub is : file.expr ≡ RangeSel inner group.slot interval
-
-    abbrev IsOther : File → Type 0
-    IsOther file = (g : Group) → group_of file.content ≡ Some g → is_group group g ≡ false
-
-    view_or_other : (number : ℕ) (file : File) → lookup (nat_eq number) files ≡ Some file → IsViewOf file ⊎ IsOther file
-    view_or_other number file at = by (group_of file.content) refl
-      where
-        in_group : (g : Group) → group_of file.content ≡ Some g → (b : Bool) → is_group group g ≡ b → IsViewOf file ⊎ IsOther file
-        in_group g of true q =
-            let same : g ≡ group = sym (group_is group g q) in
-            let of_group : group_of file.content ≡ Some group = of ∙ ap Some same in
-            let v = subst (IsRightFor gs file.expr) of_group (grouped.right number file at) in
-            inl (record { inner = v.inner; interval = v.interval; of = of_group; is = v.is })
-        in_group g of false q = inr (λ k is. subst (λ (x : Group). is_group group x ≡ false) (one_value of is) q)
-
-        by : (o : Option Group) → group_of file.content ≡ o → IsViewOf file ⊎ IsOther file
-        by None e = inr (λ g of. absurd (there of e))
-        by (Some g) e = in_group g e (is_group group g) refl
-
     -- virtual files have their groups still, and each row is taken
     pub grouped_news : AllByRecursion (λ r. IsTaken files group r.row) news → IsGrouped files hs
-    grouped_news taken = record {
-      right = λ n file at. right_on file.expr (group_of file.content) (grouped.right n file at);
-      over = grouped.over;
-      slots = λ g h found. slots_on g h (is_group group g) refl found;
-      taken = λ g h found. taken_on g h (is_group group g) refl found;
-    }
-      where
-        right_some : (expr : Expr) (g : Group) (b : Bool) → is_group group g ≡ b → IsRightFor gs expr (Some g) → IsRightFor hs expr (Some g)
-        right_some expr g true q v =
-            let same : group ≡ g = group_is group g q in
-            let its : held ≡ v.held = one_value (subst (λ (x : Group). lookup (is_group x) gs ≡ Some held) same at) v.at in
-            record { inner = v.inner; interval = v.interval; is = v.is; held = w; at = subst (λ (x : Group). lookup (is_group x) hs ≡ Some w) same here; slot = slot ∙ ap (λ (s : RangeState). s.slot) its ∙ v.slot }
-        right_some expr g false q v = record { inner = v.inner; interval = v.interval; is = v.is; held = v.held; at = elsewhere g q ∙ v.at; slot = v.slot }
-
-        right_on : (expr : Expr) (o : Option Group) → IsRightFor gs expr o → IsRightFor hs expr o
-        right_on expr None h = h
-        right_on expr (Some g) v = right_some expr g (is_group group g) refl v
-
-        slots_on : (g : Group) (h : RangeState) (b : Bool) → is_group group g ≡ b → lookup (is_group g) hs ≡ Some h → h.slot ≡ g.slot
-        slots_on g h true q found =
-            let same : group ≡ g = group_is group g q in
-            let its : w ≡ h = one_value (subst (λ (x : Group). lookup (is_group x) hs ≡ Some w) same here) found in
-            ap (λ (s : RangeState). s.slot) (sym its) ∙ slot ∙ grouped.slots group held at ∙ ap (λ (x : Group). x.slot) same
-        slots_on g h false q found = grouped.slots g h (sym (elsewhere g q) ∙ found)
-
-        taken_on : (g : Group) (h : RangeState) (b : Bool) → is_group group g ≡ b → lookup (is_group g) hs ≡ Some h → AllByRecursion (λ r. IsTaken files g r.row) h.rows
-        taken_on g h true q found =
-            let same : group ≡ g = group_is group g q in
-            let its : w ≡ h = one_value (subst (λ (x : Group). lookup (is_group x) hs ≡ Some w) same here) found in
-            subst (λ (x : Group). AllByRecursion (λ r. IsTaken files x r.row) h.rows) same
-            (subst (AllByRecursion (λ r. IsTaken files group r.row)) (sym rows ∙ ap (λ (s : RangeState). s.rows) its)
-            (all_both (λ r. IsTaken files group r.row) held.rows news (grouped.taken group held at) taken))
-        taken_on g h false q found = grouped.taken g h (sym (elsewhere g q) ∙ found)
+    grouped_news taken = grouped_then gs hs group held w at now slot files grouped
+        (subst (AllByRecursion (λ r. IsTaken files group r.row)) (sym rows) (all_both (λ r. IsTaken files group r.row) held.rows news (grouped.taken group held at) taken))
 
     -- the rows are noted still, where the news are noted of the views that have them
     pub keyed_news : (keys : Keys) → ((number : ℕ) (file : File) (inner : Expr) (interval : Interval) → lookup (nat_eq number) files ≡ Some file → group_of file.content ≡ Some group → file.expr ≡ RangeSel inner group.slot interval
@@ -181,10 +102,10 @@ module _ (gs hs : Groups) (group : Group) (held w : RangeState) (at : lookup (is
         forth n t = let k = kept_at gs files n t.file t.at in record { file = state_of hs k.0; at = shown_at hs files n k.0 k.1 }
 
         rows_held : (n : ℕ) (file : File) → lookup (nat_eq n) files ≡ Some file → (s : ℕ) → IsKey keys n s → AreHeld keys.holders n s (state_of gs file).content.rows → AreHeld keys.holders n s (state_of hs file).content.rows
-        rows_held n file at s key was = elim (view_or_other n file at) as (λ _. AreHeld keys.holders n s (state_of hs file).content.rows) [
+        rows_held n file found s key was = elim (view_or_other gs files grouped group n file found) as (λ _. AreHeld keys.holders n s (state_of hs file).content.rows) [
           | inl v ↦ subst (λ (f : KeptFile). AreHeld keys.holders n s f.content.rows) (sym (view_more file v.inner v.interval v.of v.is))
-              (all_both (λ r. IsHeld keys.holders n s r.row) (state_of gs file).content.rows (of_rows (is_within group.slot v.interval) news) was (noted n file v.inner v.interval at v.of v.is s key))
-          | inr o ↦ subst (λ (f : KeptFile). AreHeld keys.holders n s f.content.rows) (sym (other_same file o)) was
+              (all_both (λ r. IsHeld keys.holders n s r.row) (state_of gs file).content.rows (of_rows (is_within group.slot v.interval) news) was (noted n file v.inner v.interval found v.of v.is s key))
+          | inr o ↦ subst (λ (f : KeptFile). AreHeld keys.holders n s f.content.rows) (sym (other_same gs hs group held w at now file o)) was
         ]
 
         back : (n : ℕ) (g : KeptFile) → get (shown hs files) n ≡ Some g → (f : KeptFile) × (get (shown gs files) n ≡ Some f) × (f.expr ≡ g.expr) × ((s : ℕ) → IsKey keys n s → AreHeld keys.holders n s f.content.rows → AreHeld keys.holders n s g.content.rows)
@@ -202,9 +123,9 @@ module _ (gs hs : Groups) (group : Group) (held w : RangeState) (at : lookup (is
         (λ q. get_shown hs files q ∙ by q (lookup (nat_eq q) files) refl ∙ sym (get_shown gs files q))
       where
         state_same : (q : ℕ) (file : File) → lookup (nat_eq q) files ≡ Some file → state_of hs file ≡ state_of gs file
-        state_same q file at = elim (view_or_other q file at) as (λ _. state_of hs file ≡ state_of gs file) [
+        state_same q file found = elim (view_or_other gs files grouped group q file found) as (λ _. state_of hs file ≡ state_of gs file) [
           | inl v ↦ view_more file v.inner v.interval v.of v.is ∙ ap (λ rs. with_more (state_of gs file) (of_rows (is_within group.slot v.interval) rs)) nothing ∙ with_none (state_of gs file)
-          | inr o ↦ other_same file o
+          | inr o ↦ other_same gs hs group held w at now file o
         ]
 
         by : (q : ℕ) (o : Option File) → lookup (nat_eq q) files ≡ o → option_map (state_of hs) (lookup (nat_eq q) files) ≡ option_map (state_of gs) (lookup (nat_eq q) files)
@@ -220,7 +141,7 @@ module _ (gs hs : Groups) (group : Group) (held w : RangeState) (at : lookup (is
           shown_at hs files number v.file v.at ∙ ap Some (view_more v.file v.inner t.interval v.of v.is ∙ ap (with_more (state_of gs v.file)) its)
           ∙ sym (ap (option_map (λ (f : KeptFile). with_more f (row ∷ []))) (shown_at gs files number v.file v.at))
 
-      not_within : (number : ℕ) (file : File) → lookup (nat_eq number) files ≡ Some file → (v : IsViewOf file) → (Takes (shown gs files) group.input group.slot row.row number → ⊥) → is_within group.slot v.interval row.row ≡ false
+      not_within : (number : ℕ) (file : File) → lookup (nat_eq number) files ≡ Some file → (v : IsViewOf group file) → (Takes (shown gs files) group.input group.slot row.row number → ⊥) → is_within group.slot v.interval row.row ≡ false
       not_within number file at v none = by (is_within group.slot v.interval row.row) refl
         where
           by : (b : Bool) → is_within group.slot v.interval row.row ≡ b → b ≡ false
@@ -228,11 +149,11 @@ module _ (gs hs : Groups) (group : Group) (held w : RangeState) (at : lookup (is
           by false e = refl
 
       other_state : (number : ℕ) → (Takes (shown gs files) group.input group.slot row.row number → ⊥) → (file : File) → lookup (nat_eq number) files ≡ Some file → state_of hs file ≡ state_of gs file
-      other_state number none file at = elim (view_or_other number file at) as (λ _. state_of hs file ≡ state_of gs file) [
+      other_state number none file found = elim (view_or_other gs files grouped group number file found) as (λ _. state_of hs file ≡ state_of gs file) [
         | inl v ↦
-            let its : of_rows (is_within group.slot v.interval) news ≡ [] = ap (of_rows (is_within group.slot v.interval)) one ∙ ap (λ b. cond b (row ∷ []) []) (not_within number file at v none) in
+            let its : of_rows (is_within group.slot v.interval) news ≡ [] = ap (of_rows (is_within group.slot v.interval)) one ∙ ap (λ b. cond b (row ∷ []) []) (not_within number file found v none) in
             view_more file v.inner v.interval v.of v.is ∙ ap (with_more (state_of gs file)) its ∙ with_none (state_of gs file)
-        | inr o ↦ other_same file o
+        | inr o ↦ other_same gs hs group held w at now file o
       ]
 
       -- each file that takes it has it behind its own, and all others are as before

@@ -33,6 +33,7 @@ pub mod MovedBases
 pub mod VirtualFiles
 pub mod TakenRows
 pub mod TakersTold
+pub mod GroupWrites
 pub mod GroupNews
 pub mod IntervalReaders
 pub mod GroupGains
@@ -44,3 +45,8 @@ pub mod Installed
 pub mod Arrivals
 pub mod Released
 pub mod GroupReleases
+pub mod FoldBounds
+pub mod GroupFolds
+pub mod SlotFiles
+pub mod RowSums
+pub mod RowCounts

@@ -1,5 +1,5 @@
 -- What a file shows once a change is its base: rows of its own, or those of its group as they are.
-use Rattle.std.proofs.Common.{◌≡◌, ◌≤◌, ℕ, List, Some, None, Option, Result, OnOk, OnErr, refl, sym, ap, ◌∙◌, subst}
+use Rattle.std.proofs.Common.{◌≡◌, ◌⊎◌, ◌≤◌, ℕ, List, Some, None, Option, Result, OnOk, OnErr, inl, inr, refl, sym, ap, ◌∙◌, subst}
 use Rattle.std.proofs.lemmas.Result.{on_ok_weaker}
 use Rattle.ncq_plan.specs.declared.expr.Expr.{Expr}
 use Rattle.ncq_row.specs.Embeddings.{Row}
@@ -39,3 +39,29 @@ module _ {T E : Type 0} (r : Result T E) (change : ℕ) (gs : Groups) (expr : Ex
       by : (o : Option Group) → group_of old ≡ o → AreHeld held number slot (content_of gs expr new).rows
       by None e = compacted_held gs r held number slot change gs expr old new (on_ok_weaker r (λ based. based e) own) err h
       by (Some group) e = subst (λ (s : FileState). AreHeld held number slot s.rows) (sym (raised group e)) h
+
+-- a file of which a virtual one has the change as its base, and another is as it was
+module _ (change : ℕ) (gs : Groups) (expr : Expr) (old new : Rows) (own : group_of old ≡ None → new ≡ old) (ranged : (group : Group) → group_of old ≡ Some group → new ≡ Ranged group change) where
+  pub same_group : group_of new ≡ group_of old
+  same_group = by (group_of old) refl
+    where
+      by : (o : Option Group) → group_of old ≡ o → group_of new ≡ group_of old
+      by None e = ap group_of (own e)
+      by (Some group) e = ap group_of (ranged group e) ∙ sym e
+
+  pub with_base : (group : Group) → group_of old ≡ Some group → (content_of gs expr new).base ≡ change
+  with_base group e = ap (λ (rows : Rows). (content_of gs expr rows).base) (ranged group e)
+
+  pub same_rows : (content_of gs expr new).rows ≡ (content_of gs expr old).rows
+  same_rows = by (group_of old) refl
+    where
+      by : (o : Option Group) → group_of old ≡ o → (content_of gs expr new).rows ≡ (content_of gs expr old).rows
+      by None e = ap (λ (rows : Rows). (content_of gs expr rows).rows) (own e)
+      by (Some group) e = ap (λ (s : FileState). s.rows) (ap (content_of gs expr) (ranged group e) ∙ raised_content gs expr old group change e)
+
+  pub either_base : ((content_of gs expr new).base ≡ (content_of gs expr old).base) ⊎ ((content_of gs expr new).base ≡ change)
+  either_base = by (group_of old) refl
+    where
+      by : (o : Option Group) → group_of old ≡ o → ((content_of gs expr new).base ≡ (content_of gs expr old).base) ⊎ ((content_of gs expr new).base ≡ change)
+      by None e = inl (ap (λ (rows : Rows). (content_of gs expr rows).base) (own e))
+      by (Some group) e = inr (with_base group e)

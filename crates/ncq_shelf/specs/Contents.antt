@@ -1,13 +1,13 @@
 -- The rows of files: against the sources, by a change, and in all.
-use Rattle.std.specs.Prelude.{◌≡◌, ℕ, ◌≤◌, List, ◌++◌, length}
+use Rattle.std.specs.Prelude.{◌≡◌, ◌⊎◌, ℕ, ◌≤◌, List, ◌++◌, length, Some, None}
 use Rattle.std.specs.List.{AllByRecursion}
-use Rattle.std.specs.FinMap.{entries}
+use Rattle.std.specs.FinMap.{entries, get}
 use Rattle.ncq_base.specs.Counts.{total_by}
 use Rattle.ncq_row.specs.Embeddings.{Row}
 use Rattle.ncq_plan.specs.declared.expr.Expr.{Expr}
 use Rattle.ncq_plan.specs.Exprs.{World, rows_in, expr_width}
 use Rattle.ncq_plan.specs.WellFormed.{IsWellFormedExpr}
-use Rattle.ncq_midfile.specs.Content.{IsContent, rows_of, up_to}
+use Rattle.ncq_midfile.specs.Content.{IsContent, rows_of, since, up_to}
 use Rattle.ncq_midfile.specs.Files.{FileState, IsThere}
 use Rattle.ncq_midfile.specs.declared.signed.SignedRow.{SignedRow}
 use Rattle.ncq_shelf.specs.KeptFiles.{EachFile, Files, KeptFile}
@@ -69,6 +69,30 @@ pub record IsCompacted (n : ℕ) (old new : KeptFile) : Type 0 where
   pub base : new.content.base ≡ n
   pub stays : (at : ℕ) (list : List Row) → n ≤ at → IsContent at old.content.rows list
       → IsContent at new.content.rows list
+
+-- the file after its base was made n, or stayed: it keeps its rows
+pub record IsRaised (n : ℕ) (old new : KeptFile) : Type 0 where
+  pub expr : new.expr ≡ old.expr
+  pub uses : new.uses ≡ old.uses
+  pub rows : new.content.rows ≡ old.content.rows
+  pub base : (new.content.base ≡ old.content.base) ⊎ (new.content.base ≡ n)
+
+-- the file after some of its rows went, none above its base: what was its content at a change from
+-- the base on is so still, and no signed row stands more often than before
+pub record KeepsContents (old new : KeptFile) : Type 0 where
+  pub expr : new.expr ≡ old.expr
+  pub uses : new.uses ≡ old.uses
+  pub base : new.content.base ≡ old.content.base
+  pub later : since old.content.base new.content.rows ≡ since old.content.base old.content.rows
+  pub stays : (at : ℕ) (list : List Row) → old.content.base ≤ at
+      → IsContent at old.content.rows list → IsContent at new.content.rows list
+  pub fewer : (f : SignedRow → ℕ) → total_by f new.content.rows ≤ total_by f old.content.rows
+
+-- each file is there after some of its rows went, none above its base, and no other file is there
+pub record AreFolded (old new : Files) : Type 0 where
+  pub each : EachFile old (λ number file.
+      (kept : KeptFile) × (get new number ≡ Some kept) × KeepsContents file kept)
+  pub only : (number : ℕ) → get old number ≡ None → get new number ≡ None
 
 -- the file's rows are the content that it had at n, each there from n on
 pub record HoldsItsContent (n : ℕ) (old new : KeptFile) : Type 0 where

@@ -1,3 +1,4 @@
+pub mod Bounds
 pub mod Contents
 pub mod Enrolled
 pub mod Indexed
@@ -12,3 +13,4 @@ pub mod Stands
 pub mod Wired
 pub mod Groups
 pub mod Ranges
+pub mod RowCounts

@@ -1,5 +1,5 @@
 -- What callers see of the files. Only the crate's private clauses cite it.
-use Rattle.std.specs.Prelude.{ℕ, ◌≤◌, List, map}
+use Rattle.std.specs.Prelude.{ℕ, ◌≤◌, List, length, map}
 use Rattle.std.specs.FinMap.{from_entries}
 use Rattle.ncq_midfile.specs.Content.{up_to}
 use Rattle.ncq_midfile.specs.Views.{RangeState}
@@ -43,6 +43,11 @@ cut_held change held = record { slot = held.slot; rows = up_to change held.rows 
 
 abbrev pub cut_group : ℕ → Group × RangeState → Group × RangeState
 cut_group change entry = (entry.0, cut_held change entry.1)
+
+-- how many signed rows are its own
+abbrev pub count_of : Rows → ℕ
+count_of (Whole file) = length file.rows
+count_of (Ranged group base) = 0
 
 -- what is seen of all files
 abbrev pub shown : Groups → List (ℕ × File) → Files

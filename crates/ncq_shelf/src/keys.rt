@@ -19,20 +19,40 @@ use ncq_row::Row;
 use std::alloc::{AllocError, Global};
 
 /// Where the rows of a file are noted, and the atoms under which they are.
-#[derive(Drop)]
 pub(crate) struct KeyedFile {
     slots: IndexSet<usize>,
     atoms: Vec<Atom>,
 }
 
+impl Drop for KeyedFile {
+    fn drop(self) {
+        let KeyedFile { slots, atoms } = self;
+        drop(slots);
+        drop(atoms);
+    }
+}
+
 /// The files whose rows are noted, the joins that are met whatever came, and the files of each
 /// atom.
-#[derive(Drop)]
 pub(crate) struct Keys {
     alloc: Global,
     files: IndexMap<u64, KeyedFile>,
     always: IndexSet<u64>,
     holders: Holders,
+}
+
+impl Drop for Keys {
+    fn drop(self) {
+        let Keys {
+            alloc: _,
+            files,
+            always,
+            holders,
+        } = self;
+        drop(files);
+        drop(always);
+        drop(holders);
+    }
 }
 
 impl Keys {

@@ -7,6 +7,7 @@
 #![tactic(auto)]
 
 mod admit;
+mod count;
 mod cut;
 mod enroll;
 mod file;

@@ -17,10 +17,29 @@ use std::alloc::{AllocError, Global};
 
 /// The rows of a file: its own, or those of its group's file that its interval has. The latter take
 /// nothing on the heap.
-#[derive(Drop)]
 pub(crate) enum Rows {
     Whole(MidFile),
     Ranged { group: Group, base: u64 },
+}
+
+impl Drop for Rows {
+    fn drop(self) {
+        match self {
+            Rows::Whole(whole) => drop(whole),
+            Rows::Ranged { group: _, base: _ } => {}
+        }
+    }
+}
+
+/// The change from which on a file tells its content.
+pub(crate) fn base_of(rows: &Rows) -> u64
+    ensures { (groups : Groups) (expr : an_expr)
+        → result ≡ (content_of groups expr rows.now).base }
+{
+    match rows {
+        Rows::Whole(content) => content.base(),
+        Rows::Ranged { base, .. } => *base,
+    }
 }
 
 /// One more signed row of a file that has its own.
@@ -63,6 +82,17 @@ pub(crate) fn compact_rows(alloc: Global, rows: &mut Rows, change: u64) -> Resul
             *base = change;
             Ok(())
         }
+    }
+}
+
+/// Makes a change the base of a virtual file; rows of a file's own stay. It takes no memory.
+pub(crate) fn raise_rows(rows: &mut Rows, change: u64)
+    ensures own { group_of rows.old ≡ None → rows.new ≡ rows.old }
+    ensures ranged { (group : a_group) → group_of rows.old ≡ Some group
+        → rows.new ≡ Ranged group change }
+{
+    if let Rows::Ranged { base, .. } = rows {
+        *base = change;
     }
 }
 
@@ -129,6 +159,17 @@ pub(crate) fn unorder_rows(rows: &mut Rows, slot: usize)
 {
     match rows {
         Rows::Whole(content) => content.drop_order(slot),
+        Rows::Ranged { .. } => {}
+    }
+}
+
+/// Gives up what finds rows by their atoms, but for what finds whole rows, if the file has its own.
+/// It takes no memory.
+pub(crate) fn unindex_rows(rows: &mut Rows)
+    ensures { rows.new ≡ rows.old }
+{
+    match rows {
+        Rows::Whole(content) => content.drop_indexes(),
         Rows::Ranged { .. } => {}
     }
 }

@@ -3,7 +3,7 @@ ghost use Rattle.std.specs.Prelude.{◌≡◌, ◌↔◌, ◌+◌, ◌-◌, ◌<
 ghost use Rattle.std.specs.Prelude.{nat_eq, length, map, filter, IfOk, OnOk, OnErr, IfSome, IfNone};
 ghost use Rattle.std.specs.Prelude.{IsTrue};
 ghost use Rattle.std.specs.FinMap.{empty, get, insert, remove, len};
-ghost use Rattle.std.specs.List.{AllByRecursion, IsDistinct};
+ghost use Rattle.std.specs.List.{All, AllByRecursion, IsDistinct};
 ghost use Rattle.std.specs.Option.{option_map};
 ghost use Rattle.ncq_base.specs.declared.interval.Interval.{Interval as an_interval};
 ghost use Rattle.ncq_plan.specs.Exprs.{World, expr_width, rows_in};
@@ -12,17 +12,21 @@ ghost use Rattle.ncq_midfile.specs.Content.{since, IsContent, IsSoundAt};
 ghost use Rattle.ncq_midfile.specs.Shown.{shown as what_is_shown, rows_below};
 ghost use Rattle.ncq_readers.specs.Passed.{size_of};
 ghost use Rattle.ncq_readers.specs.declared.ranges.HeldRows.{HeldRows as held_rows};
+ghost use Rattle.ncq_shelf.specs.Bounds.{AreBounds, IsBelowBase};
 ghost use Rattle.ncq_shelf.specs.Contents.{AreFormed, AreUpTo, AreWide, Fits, with_more, cut_to};
 ghost use Rattle.ncq_shelf.specs.Contents.{HoldsItsContent, IsCompacted, IsNewAt, sum_over};
+ghost use Rattle.ncq_shelf.specs.Contents.{AreFolded, IsRaised};
 ghost use Rattle.ncq_shelf.specs.Inputs.{AreInputs};
 ghost use Rattle.ncq_shelf.specs.KeptFiles.{AtFile, EachFile, KeptFile};
 ghost use Rattle.ncq_shelf.specs.Readers.{IsAmong, AreScansOf, AreJoinsMet};
 ghost use Rattle.ncq_shelf.specs.Readers.{ArePassedOn, AreBoundBy};
+ghost use Rattle.ncq_shelf.specs.RowCounts.{CountsRows};
 ghost use Rattle.ncq_shelf.specs.Ranges.{IsRange, IsNoRange, SelectsRange, Takes, TakesValue};
 ghost use Rattle.ncq_shelf.specs.Ranges.{IsHeldBy, AppendsHeld, AreHeldOf, IsRangeFile, ShareRows};
 ghost use Rattle.ncq_shelf.specs.Stands.{Finds, IsGrounded, IsIdle, IsThere, Stands, TellsIdle};
 
 use crate::admit::{admit, make_room};
+use crate::count::{own_rows, shared_rows};
 use crate::cut::{cut_all, cut_groups};
 use crate::enroll::strike;
 use crate::file::File;
@@ -32,10 +36,14 @@ use crate::install::{install, missing_at, put_file};
 use crate::keys::Keys;
 use crate::met::joins_in;
 use crate::ranged::{note_takers, release_of};
-use crate::rows::{Rows, append_own, compact_rows, index_rows, order_rows, unorder_rows};
+use crate::rows::{
+    Rows, append_own, base_of, compact_rows, index_rows, order_rows, raise_rows, unindex_rows,
+    unorder_rows,
+};
 use crate::scans::strike_scan;
 use indexmap::IndexMap;
 use ncq_base::{Atom, Bytes, FileId, Sequence, Steps};
+use ncq_consttab::RangeTable;
 use ncq_midfile::{MidFile, RangeFile, SignedRow, View};
 use ncq_plan::Expr;
 use ncq_readers::{HeldRows, Readers};
@@ -48,13 +56,29 @@ use std::sync::ledger::Ledger;
 const FEW_JOINS: usize = 4;
 
 /// Files by their numbers.
-#[derive(Drop)]
 pub struct Shelf {
     files: IndexMap<u64, File>,
     groups: IndexMap<Group, RangeFile>,
     numbers: IndexMap<Expr, u64>,
     scans: IndexMap<Bytes, Readers>,
     keys: Keys,
+}
+
+impl Drop for Shelf {
+    fn drop(self) {
+        let Shelf {
+            files,
+            groups,
+            numbers,
+            scans,
+            keys,
+        } = self;
+        drop(files);
+        drop(groups);
+        drop(numbers);
+        drop(scans);
+        drop(keys);
+    }
 }
 
 impl Model for Shelf {
@@ -91,6 +115,14 @@ impl Shelf {
         ensures { result ≡ len self.now }
     {
         self.files.len()
+    }
+
+    /// How many signed rows the files have in all: those that selections by intervals share count
+    /// once. It tells at most 2^64 - 1. It takes no memory, and time in proportion to the files.
+    pub fn rows(&self) -> u64
+        ensures { CountsRows self.now result }
+    {
+        own_rows(&self.files).saturating_add(shared_rows(&self.groups))
     }
 
     /// Whether there is a file of this number.
@@ -205,15 +237,66 @@ impl Shelf {
         ensures inputs { AtFile self.old number (λ file. AreInputs self.old file.expr result) }
     {
         let group = self.group_at(number);
+        let sides = self.sides_at(number);
         let inputs = self.take_out(number);
+        self.drop_indexes(sides);
         if let Some(group) = group {
             self.drop_order(group);
         }
         inputs
     }
 
-    /// The group of a file that selects by an interval.
-    fn group_at(&self, number: u64) -> Option<Group> {
+    /// The numbers of the files that a join reads; another file has no sides.
+    fn sides_at(&self, number: u64) -> Inputs {
+        let Some(file) = self.files.get(&number) else {
+            return Inputs::Nothing;
+        };
+        match &file.expr {
+            Expr::Join { .. } => file.inputs,
+            _ => Inputs::Nothing,
+        }
+    }
+
+    /// Where a join of these files has gone, those that no join reads any more keep no index for
+    /// joins. It takes no memory.
+    fn drop_indexes(&mut self, sides: Inputs)
+        ensures { self.new ≡ self.old }
+    {
+        match sides {
+            Inputs::Nothing => {}
+            Inputs::One(number) => self.drop_unjoined(number),
+            Inputs::Two(left, right) => {
+                self.drop_unjoined(left);
+                self.drop_unjoined(right);
+            }
+        }
+    }
+
+    /// Gives up a file's indexes for joins, where no join reads it. It takes no memory.
+    fn drop_unjoined(&mut self, number: u64)
+        ensures { self.new ≡ self.old }
+    {
+        if self.is_joined(number) {
+            return;
+        }
+        let Some(file) = self.files.get_mut(&number) else {
+            return;
+        };
+        unindex_rows(&mut file.content);
+    }
+
+    /// Whether a join reads the file.
+    fn is_joined(&self, number: u64) -> bool {
+        match self.files.get(&number) {
+            Some(file) => !file.readers.joins().is_empty(),
+            None => false,
+        }
+    }
+
+    /// The group of a file that selects by an interval. Its input is there.
+    fn group_at(&self, number: u64) -> Option<Group>
+        ensures { IfSome result (λ group. IsThere self.now group.input) }
+    {
         match self.files.get(&number)?.content {
             Rows::Ranged { group, .. } => Some(group),
             Rows::Whole(_) => None,
@@ -527,6 +610,131 @@ impl Shelf {
         compact_rows(alloc, &mut file.content, change)
     }
 
+    /// Makes a change the base of a file that selects by an interval, which keeps its rows; another
+    /// file stays as it is. It takes no memory.
+    pub fn raise_base(&mut self, number: u64, change: u64)
+        requires there { IsThere self.old number }
+        ensures raised { AtFile self.old number (λ file.
+            (kept : KeptFile) × (self.new ≡ insert self.old number kept)
+            × IsRaised change file kept) }
+        ensures ranged { AtFile self.old number (λ file. IsRange file.expr
+            → AtFile self.new number (λ kept. kept.content.base ≡ change)) }
+    {
+        let Some(file) = self.files.get_mut(&number) else {
+            unreachable!()
+        };
+        raise_rows(&mut file.content, change);
+    }
+
+    /// Where the file selects by an interval: of the rows that it shares with all that select so by
+    /// the slot of the input, pairs of equal ones are struck out, one that came in and one that went
+    /// out, both up to the base of each that takes the row. After an error all is as before.
+    pub fn fold(&mut self, alloc: Global, number: u64) -> Result<(), AllocError>
+        requires { IsThere self.old number }
+        ensures ok { OnOk result (AreFolded self.old self.new) }
+        ensures err { OnErr result (self.new ≡ self.old) }
+    {
+        let Some(group) = self.group_at(number) else {
+            return Ok(());
+        };
+        self.fold_group(alloc, group)
+    }
+
+    /// Strikes such pairs out of the rows of a group.
+    fn fold_group(&mut self, alloc: Global, group: Group) -> Result<(), AllocError>
+        requires { IsThere self.old group.input }
+        ensures ok { OnOk result (AreFolded self.old self.new) }
+        ensures err { OnErr result (self.new ≡ self.old) }
+    {
+        let Some(range) = self.groups.get(&group) else {
+            return Ok(());
+        };
+        let bounds = self.bounds_of(alloc, group, range.rows())?;
+        let Some(held) = self.groups.get_mut(&group) else {
+            unreachable!()
+        };
+        held.fold(alloc, bounds.as_slice())?;
+        Ok(())
+    }
+
+    /// For each of the rows the least base of the files that take it of the group's input by an
+    /// interval of its slot.
+    fn bounds_of(
+        &self,
+        alloc: Global,
+        group: Group,
+        rows: &[SignedRow],
+    ) -> Result<Sequence<u64>, AllocError>
+        requires there { IsThere self.now group.input }
+        requires slot { All (λ r. group.slot < length r.row) rows.now }
+        ensures { IfOk result (AreBounds self.now group.input group.slot rows.now) }
+    {
+        let mut bounds = Vec::new(alloc);
+        for signed in rows {
+            let value = signed.row.atom(group.slot);
+            let takers = self.takers(alloc, group.input, group.slot, value)?;
+            bounds.push(self.least_base(takers.as_slice()))?;
+        }
+        Ok(Sequence::from_vec(bounds))
+    }
+
+    /// The least base of the files that are there.
+    fn least_base(&self, files: &[FileId]) -> u64
+        ensures { AllByRecursion (λ file. IsBelowBase self.now result file.0) files.now }
+    {
+        let mut least = u64::MAX;
+        for file in files {
+            least = least.min(self.base_at(file.0));
+        }
+        least
+    }
+
+    /// The change from which on a file tells its content, if it is there.
+    fn base_at(&self, number: u64) -> u64
+        ensures { IsBelowBase self.now result number }
+    {
+        match self.files.get(&number) {
+            Some(file) => base_of(&file.content),
+            None => u64::MAX,
+        }
+    }
+
+    /// The files that select by intervals of the slot by which the file does, of the same input:
+    /// none where it does not select so.
+    pub fn siblings(&self, alloc: Global, number: u64) -> Result<Sequence<u64>, AllocError>
+        requires { IsThere self.now number }
+        ensures { IfOk result (AllByRecursion (IsThere self.now)) }
+    {
+        let Some(group) = self.group_at(number) else {
+            return Ok(Sequence::new(alloc));
+        };
+        match self.range_table(group) {
+            Some(table) => numbers_of(alloc, table.files()),
+            None => Ok(Sequence::new(alloc)),
+        }
+    }
+
+    /// The intervals by which files select at a group, each with its file.
+    fn range_table(&self, group: Group) -> Option<&RangeTable>
+        ensures { IfSome result (λ table.
+            AllByRecursion (λ entry. IsThere self.now entry.1.0) table.now) }
+    {
+        let input = self.files.get(&group.input)?;
+        input.readers.range_table(group.slot)
+    }
+
+    /// Whether the file selects by an interval and a fold is worth its cost. It decides speed alone:
+    /// nothing is claimed of it.
+    pub fn is_spent(&self, number: u64) -> bool {
+        let Some(group) = self.group_at(number) else {
+            return false;
+        };
+        match (self.groups.get(&group), self.range_table(group)) {
+            (Some(range), Some(table)) => range.is_spent(table.len()),
+            _ => false,
+        }
+    }
+
     /// Takes the signed rows of later changes away from each file. It takes no memory.
     pub fn roll_back(&mut self, change: u64)
         requires { EachFile self.old (λ number file. file.content.base ≤ change) }
@@ -646,6 +854,17 @@ impl Shelf {
         let view = view_of(&self.groups, file);
         file.readers.held(alloc, &view, number, steps)
     }
+}
+
+/// The numbers of the files.
+fn numbers_of(alloc: Global, files: &[FileId]) -> Result<Sequence<u64>, AllocError>
+    ensures { IfOk result (λ numbers. numbers ≡ map (λ file. file.0) files.now) }
+{
+    let mut numbers = Sequence::new(alloc);
+    for file in files {
+        numbers.push(file.0)?;
+    }
+    Ok(numbers)
 }
 
 /// The same numbers.
