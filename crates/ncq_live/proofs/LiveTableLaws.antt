@@ -11,6 +11,7 @@ use Rattle.ncq_plan.specs.Plans.{plan_of}
 use Rattle.ncq_plan.specs.WellFormed.{IsWellFormed}
 use Rattle.ncq_source.specs.declared.change.Portion.{Portion}
 use Rattle.ncq_source.specs.StoreStates.{StoreState}
+use Rattle.ncq_shelf.specs.Contents.{AreFolded, KeepsContents}
 use Rattle.ncq_shelf.specs.KeptFiles.{KeptFile, Files}
 use Rattle.ncq_shelf.specs.Stands.{Stands}
 use Rattle.ncq_shelf.proofs.CallerLemmas.{put_same, put_other, there, one_value}
@@ -210,6 +211,29 @@ module _ (store : StoreState) (change : List Portion) (old new : TableState) (su
     formed = live_table.formed;
     files = each_leads (HasFile old.files) (HasFile new.files) file_fed subscriptions live_table.files;
     uses = uses_fed;
+  }
+
+-- what a file was, before some of its rows were struck out
+pub was_folded : (old new : Files) → AreFolded old new → (number : ℕ) (file : KeptFile) → get new number ≡ Some file → (was : KeptFile) × (get old number ≡ Some was) × KeepsContents was file
+was_folded old new folded number file at = elim (get old number) as (λ o. get old number ≡ o → (was : KeptFile) × (o ≡ Some was) × KeepsContents was file) [
+  | Some was ↦ λ here. let f = folded.each number was here in (was, refl, subst (KeepsContents was) (one_value f.1 at) f.2)
+  | None ↦ λ none. absurd (there at (folded.only number none))
+] refl
+
+-- rows of the files were struck out
+module _ (old new : TableState) (subscriptions : List Subscription) (live_table : IsLiveTable old subscriptions) (folded : AreFolded old.files new.files) where
+  file_folded : (m : Subscription) → HasFile old.files m → HasFile new.files m
+  file_folded m s =
+      let f = folded.each m.file.0 s.file s.at in
+      record { file = f.0; at = f.1; of = f.2.expr ∙ s.of }
+
+  pub table_folded : IsLiveTable new subscriptions
+  table_folded = record {
+    formed = live_table.formed;
+    files = each_leads (HasFile old.files) (HasFile new.files) file_folded subscriptions live_table.files;
+    uses = λ number file at.
+        let was = was_folded old.files new.files folded number file at in
+        was.2.uses ∙ live_table.uses number was.0 was.1;
   }
 
 -- a file has other rows

@@ -11,8 +11,9 @@ use mathlib.Core.Bool.{or-false}
 use Rattle.ncq_midfile.specs.Files.{FileState}
 use Rattle.ncq_midfile.specs.Views.{IsLast}
 use Rattle.ncq_midfile.specs.declared.signed.SignedRow.{SignedRow}
+use Rattle.ncq_shelf.specs.Contents.{IsRaised}
 use Rattle.ncq_shelf.specs.KeptFiles.{KeptFile}
-use Rattle.ncq_shelf.proofs.CallerLemmas.{put_other}
+use Rattle.ncq_shelf.proofs.CallerLemmas.{put_same, put_other, one_value}
 use Rattle.ncq_group.specs.Tables.{TableState}
 use Rattle.ncq_book.specs.declared.subscription.Subscription.{Subscription}
 use Rattle.ncq_book.specs.Books.{is_of, is_timer_of, timers_of, InstallsRise}
@@ -66,6 +67,21 @@ pinned_put old new subscriptions pinned number next put same free are other has 
       omega arith,
       λ file at. elim (cases_eq other number) [
         | inl here ↦ absurd (true≢false (sym (subst (λ n. is_among n pinned ≡ true) here has) ∙ free))
+        | inr differs ↦ (are other has).1 file (sym ((λ i. get (put i) other) ∙ put_other old.files number next other differs) ∙ at)
+      ],
+    )
+
+-- a file that keeps its rows has another base
+pub pinned_raised : (old new : TableState) (subscriptions : List Subscription) (pinned : List ℕ) (number change : ℕ) (kept next : KeptFile) → get old.files number ≡ Some kept → IsRaised change kept next
+    → new.files ≡ insert old.files number next → new.next_file ≡ old.next_file → ArePinned old subscriptions pinned → ArePinned new subscriptions pinned
+pinned_raised old new subscriptions pinned number change kept next here raised put same are other has =
+    let under = (are other has).0 in (
+      omega arith,
+      λ file at. elim (cases_eq other number) [
+        | inl e ↦
+            let is : file ≡ next = one_value (subst (λ n. get new.files n ≡ Some file) e at) ((λ i. get (put i) number) ∙ put_same old.files number next) in
+            let rows : file.content.rows ≡ kept.content.rows = ap (λ (f : KeptFile). f.content.rows) is ∙ raised.rows in
+            subst (λ rs. is_pinned subscriptions other rs ≡ true) (sym rows) ((are other has).1 kept (subst (λ n. get old.files n ≡ Some kept) (sym e) here))
         | inr differs ↦ (are other has).1 file (sym ((λ i. get (put i) other) ∙ put_other old.files number next other differs) ∙ at)
       ],
     )

@@ -1,6 +1,6 @@
 -- How many rows files lost above their bases, at most: as files come and go, after a change of the sources and after a compaction.
 use Rattle.std.proofs.Common.{◌≡◌, ◌≢◌, ℕ, suc, ◌+◌, ◌-◌, ◌≤◌, ◌<◌, ◌⊎◌, true, false, not, cond, nat_le, nat_lt, ◌&&◌, ◌||◌, Bool, List, [], ◌∷◌, ◌++◌, filter, length, take, get_or, slice_get, inl, inr, refl, sym, ◌∙◌, ap, subst, true≢false, arith}
-use Rattle.std.specs.Prelude.{Option, Some, None, is_some, nat_eq, unwrap_or}
+use Rattle.std.specs.Prelude.{Option, Some, None, Result, Ok, Err, OnOk, OnErr, is_some, nat_eq, unwrap_or}
 use Rattle.std.specs.BTreeMap.{is_at}
 use Rattle.std.specs.BTreeSet.{BTreeSet, MovesPrefix}
 use Rattle.std.specs.FinMap.{get, insert, same_map, nat_cmp-IsAntisymmetric}
@@ -9,7 +9,7 @@ use Rattle.std.specs.Map.{lookup}
 use Rattle.std.specs.Option.{option_map}
 use Rattle.std.specs.Cmp.{unsigned_tied}
 use Rattle.std.specs.Ordering.{nat_cmp}
-use Rattle.std.proofs.lemmas.Bool.{cases_eq, cases_lt, eqb-true, le-leb, ne_eqb, or_cases}
+use Rattle.std.proofs.lemmas.Bool.{cases_eq, cases_lt, eqb-true, le-leb, lt-ltb, ltb-true, ne_eqb, or_cases}
 use mathlib.Core.Bool.{or-false}
 use Rattle.std.proofs.lemmas.Cmp.{nat_cmp_total}
 use Rattle.std.proofs.lemmas.List.{length-append}
@@ -25,7 +25,7 @@ use Rattle.ncq_midfile.specs.Views.{losses_above}
 use Rattle.ncq_midfile.specs.declared.signed.SignedRow.{SignedRow}
 use Rattle.ncq_midfile.proofs.CountsLaws.{losses_above_is}
 use Rattle.ncq_midfile.proofs.Parts.{signed_more}
-use Rattle.ncq_shelf.specs.Contents.{cut_to}
+use Rattle.ncq_shelf.specs.Contents.{AreFolded, IsRaised, cut_to}
 use Rattle.ncq_shelf.specs.KeptFiles.{AtFile, EachFile, Files, KeptFile}
 use Rattle.ncq_shelf.specs.Stands.{IsThere}
 use Rattle.ncq_shelf.proofs.CallerLemmas.{put_same, put_other, there, one_value}
@@ -37,8 +37,10 @@ use Rattle.ncq_group.specs.Tables.{TableState, Facts, mark_of}
 use Rattle.ncq_group.specs.declared.mark.GroupMark.{GroupMark}
 use Rattle.ncq_book.specs.declared.subscription.Subscription.{Subscription}
 use Rattle.ncq_book.proofs.Lists.{each_leads}
+use Rattle.ncq_live.specs.LiveTables.{IsLiveTable}
 use Rattle.ncq_live.specs.Wears.{Bounds, WearState, bound_of, is_among, is_pinned, losses_of, AreBounds, ArePinned, HasTheWorn, IsInOrder, KnowsTheWorn}
-use Rattle.ncq_live.proofs.PinLaws.{pinned_more, pinned_pushed}
+use Rattle.ncq_live.proofs.LiveTableLaws.{was_folded, table_folded}
+use Rattle.ncq_live.proofs.PinLaws.{pinned_more, pinned_none, pinned_pushed}
 use Rattle.ncq_live.proofs.TurnLaws.{cut_back}
 
 -- those of the rows that went out above a number
@@ -85,6 +87,21 @@ fewer_lost n change (r ∷ rows) =
     more : (t : Bool) → length (went n (up_to change rows)) ≤ length (went n rows) → length (went n (up_to change rows)) ≤ length (cond t (r ∷ went n rows) (went n rows))
     more true rest = omega arith
     more false rest = rest
+
+-- above a greater number no more went out
+fewer_above : (low high : ℕ) (rows : List SignedRow) → low ≤ high → losses_above high rows ≤ losses_above low rows
+fewer_above low high [] up = omega arith
+fewer_above low high (r ∷ rows) up =
+    one (nat_lt high r.number) (nat_lt low r.number) r.plus (λ e. let above = ltb-true high r.number e in lt-ltb low r.number (omega arith)) (fewer_above low high rows up)
+  where
+    one : (a b plus : Bool) → (a ≡ true → b ≡ true) → length (went high rows) ≤ length (went low rows)
+        → length (cond (a && not plus) (r ∷ went high rows) (went high rows)) ≤ length (cond (b && not plus) (r ∷ went low rows) (went low rows))
+    one true true true leads rest = rest
+    one true true false leads rest = omega arith
+    one true false plus leads rest = absurd (true≢false (sym (leads refl)))
+    one false true true leads rest = rest
+    one false true false leads rest = omega arith
+    one false false plus leads rest = rest
 
 -- the files are such as they were, but for some of their rows, or none of their rows went out
 abbrev LoseNoMore : Files → Files → Type 0
@@ -168,6 +185,38 @@ bounds_cut change old new cut bounds = bounds_left old new bounds (λ number fil
     let fewer = fewer_lost was.0.content.base change was.0.content.rows in
     inr (was.0, was.1, omega arith))
 
+-- rows up to the bases were struck out
+pub bounds_folded : (old new : Files) → AreFolded old new → (bounds : Bounds) → AreBounds old bounds → AreBounds new bounds
+bounds_folded old new folded bounds = bounds_left old new bounds (λ number file at.
+    let was = was_folded old new folded number file at in
+    let before : KeptFile = was.0 in
+    let base : ℕ = before.content.base in
+    inr (
+      before,
+      was.1,
+      as_many file before (
+          ap (λ n. losses_above n file.content.rows) was.2.base
+          ∙ losses_since base file.content.rows (since base before.content.rows) was.2.later
+          ∙ sym (losses_above_is base before.content.rows)
+          ),
+    ))
+
+-- a file that keeps its rows has another base
+raised_lost : (change : ℕ) (kept next : KeptFile) → kept.content.base ≤ change → IsRaised change kept next → losses_of next ≤ losses_of kept
+raised_lost change kept next up raised =
+    let base : kept.content.base ≤ next.content.base = elim raised.base [ inl same ↦ omega arith | inr there ↦ omega arith ] in
+    let fewer = fewer_above kept.content.base next.content.base kept.content.rows base in
+    subst (λ rows. losses_above next.content.base rows ≤ losses_of kept) (sym raised.rows) fewer
+
+pub bounds_raised : (old new : Files) (number change : ℕ) (kept next : KeptFile) → get old number ≡ Some kept → kept.content.base ≤ change → IsRaised change kept next → new ≡ insert old number next
+    → (bounds : Bounds) → AreBounds old bounds → AreBounds new bounds
+bounds_raised old new number change kept next here up raised put bounds = bounds_left old new bounds (λ other file at. inr (elim (cases_eq other number) [
+  | inl e ↦
+      let is : file ≡ next = one_value (subst (λ n. get new n ≡ Some file) e at) ((λ i. get (put i) number) ∙ put_same old number next) in
+      (kept, subst (λ n. get old n ≡ Some kept) (sym e) here, subst (λ f. losses_of f ≤ losses_of kept) (sym is) (raised_lost change kept next up raised))
+  | inr differs ↦ (file, sym ((λ i. get (put i) other) ∙ put_other old number next other differs) ∙ at, as_many file file refl)
+]))
+
 -- more is known
 pub bounds_more : (files : Files) (before after : Bounds) → NeverFall before after → AreBounds files before → AreBounds files after
 bounds_more files before after up known number file at =
@@ -187,6 +236,20 @@ order_same table subscriptions before after bounds pinned order = record {
   live_table = order.live_table;
   bounds = subst (AreBounds table.files) (sym bounds) order.bounds;
   pinned = subst (ArePinned table subscriptions) (sym pinned) order.pinned;
+}
+
+-- rows of the files were struck out, or the files are as they were, and no file counts as pinned
+pub order_folded : {T E : Type 0} (r : Result T E) (old new : TableState) (subscriptions : List Subscription) (before after : WearState) → OnOk r (AreFolded old.files new.files) → OnErr r (new ≡ old)
+    → after.bounds ≡ before.bounds → after.pinned ≡ [] → IsInOrder old subscriptions before → IsInOrder new subscriptions after
+order_folded (Ok x) old new subscriptions before after folded same bounds none order = record {
+  live_table = table_folded old new subscriptions order.live_table folded;
+  bounds = subst (AreBounds new.files) (sym bounds) (bounds_folded old.files new.files folded before.bounds order.bounds);
+  pinned = pinned_none new subscriptions after.pinned none;
+}
+order_folded (Err e) old new subscriptions before after folded same bounds none order = record {
+  live_table = subst (λ (t : TableState). IsLiveTable t subscriptions) (sym same) order.live_table;
+  bounds = subst (λ (t : TableState). AreBounds t.files after.bounds) (sym same) (subst (AreBounds old.files) (sym bounds) order.bounds);
+  pinned = pinned_none new subscriptions after.pinned none;
 }
 
 -- those that are worn and that no timer pins are listed
@@ -430,3 +493,8 @@ module _ (store : StoreState) (change : List Portion) (old mid : TableState) (fa
         by number (Some was) e =
             let f = fed.each number was e in
             ap (option_map (cut_to store.changes)) f.1 ∙ ap Some (cut_fed number was f.0 _ e f.2) ∙ sym e
+
+-- what holds whatever is answered holds of an Ok
+pub on_ok : {T E A : Type 0} (r : Result T E) → A → OnOk r A
+on_ok (Ok x) a = a
+on_ok (Err e) a = tt

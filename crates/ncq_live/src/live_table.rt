@@ -13,6 +13,7 @@ ghost use Rattle.ncq_midfile.specs.Shown.{shown};
 ghost use Rattle.ncq_midfile.specs.Views.{losses_above};
 ghost use Rattle.ncq_midfile.specs.declared.signed.SignedRow.{SignedRow as a_signed_row};
 ghost use Rattle.ncq_shelf.specs.Contents.{Fits, HoldsItsContent, IsCompacted, cut_to};
+ghost use Rattle.ncq_shelf.specs.Contents.{AreFolded, IsRaised};
 ghost use Rattle.ncq_shelf.specs.KeptFiles.{AtFile, EachFile, KeptFile};
 ghost use Rattle.ncq_feed.specs.Feeds.{IsPreparedFrom, AreFed, NamesTheFed, world_after, feed_work};
 ghost use Rattle.ncq_group.specs.Installs.{NamesTheMissing, rows_of_all};
@@ -43,11 +44,19 @@ use std::sync::ledger::Ledger;
 /// Live subscriptions at an instant of the clock, each with the file of its plan, and the table of
 /// these files. Contracts see the table, the subscriptions in the order of their creates and the
 /// instant.
-#[derive(Drop)]
 pub struct LiveTable {
     groups: GroupTable,
     book: Book,
     wear: Wear,
+}
+
+impl Drop for LiveTable {
+    fn drop(self) {
+        let LiveTable { groups, book, wear } = self;
+        drop(groups);
+        drop(book);
+        drop(wear);
+    }
 }
 
 impl Model for LiveTable {
@@ -244,8 +253,9 @@ impl LiveTable {
     }
 
     /// The numbers of the files that may be worn, each of a file that is there: those of which 64
-    /// rows or more went out above their base, and that no timer pins, are among them. This changes
-    /// nothing that is seen.
+    /// rows or more went out above their base, and that no timer pins, are among them. Others are
+    /// where fewer went out, but a third of the rows or more, or where a fold is worth its cost. This
+    /// changes nothing that is seen.
     pub fn worn(&mut self, alloc: Global) -> Result<Sequence<u64>, AllocError>
         ensures worn { IfOk result (HasTheWorn self.old.table.files self.old.subscriptions) }
         ensures there { IfOk result (AllByRecursion (IsThere self.old.table.files)) }
@@ -306,11 +316,47 @@ impl LiveTable {
         ensures err { OnErr result (self.new ≡ self.old) }
     {
         // Until it is looked at, the file counts as worn, and as one that no timer pins.
-        self.wear.raise(number, LOSSES)?;
+        self.wear.raise(number, LOSSES, LOSSES)?;
         self.wear.unpin(number)?;
         self.groups.compact(alloc, FileId(number), change)?;
         self.recount(number);
         Ok(())
+    }
+
+    /// Makes a change the base of a file that selects by an interval, which keeps its rows, and looks
+    /// anew at how worn it is; another file stays as it is. It takes no memory.
+    pub fn raise_base(&mut self, number: u64, change: u64)
+        requires there { IsThere self.old.table.files number }
+        requires base { AtFile self.old.table.files number (λ kept. kept.content.base ≤ change) }
+        requires number { change ≤ self.old.table.number }
+        ensures raised { AtFile self.old.table.files number (λ kept.
+            (next : KeptFile) × (self.new.table.files ≡ insert self.old.table.files number next)
+            × IsRaised change kept next) }
+        ensures next_file { self.new.table.next_file ≡ self.old.table.next_file }
+        ensures number { self.new.table.number ≡ self.old.table.number }
+        ensures subscriptions { self.new.subscriptions ≡ self.old.subscriptions }
+        ensures instant { self.new.instant ≡ self.old.instant }
+    {
+        self.groups.raise_base(FileId(number), change);
+        self.recount(number);
+    }
+
+    /// Where the file selects by an interval: of the rows that it shares with all that select so by
+    /// the slot of the input, pairs of equal ones are struck out, one that came in and one that went
+    /// out, both up to the base of each that takes the row. After an error the live table is as it
+    /// was. The only error is that memory ran out.
+    pub fn fold(&mut self, alloc: Global, number: u64) -> Result<(), AllocError>
+        requires { IsThere self.old.table.files number }
+        ensures ok { OnOk result (AreFolded self.old.table.files self.new.table.files) }
+        ensures next_file { self.new.table.next_file ≡ self.old.table.next_file }
+        ensures number { self.new.table.number ≡ self.old.table.number }
+        ensures subscriptions { self.new.subscriptions ≡ self.old.subscriptions }
+        ensures instant { self.new.instant ≡ self.old.instant }
+        ensures err { OnErr result (self.new ≡ self.old) }
+    {
+        // A timer that was behind rows of its file may be behind none of those that are left.
+        self.wear.loosen();
+        self.groups.fold(alloc, FileId(number))
     }
 
     /// Takes the signed rows of later changes than the mark's away from each file. It takes no
@@ -396,20 +442,39 @@ fn wear_out(
         ≤ bound_of other wear.new.bounds) ⊎ (64 ≤ bound_of other wear.new.bounds))) }
     ensures pinned { wear.new.pinned ≡ wear.old.pinned }
 {
+    let mut spent = None;
     for file in fed {
-        wear_one(alloc, groups, wear, *file, number)?;
+        let is_spent = wear_one(alloc, groups, wear, *file, number)?;
+        spent = last_spent(spent, *file, is_spent);
     }
-    Ok(())
+    list_spent(wear, spent)
 }
 
-/// Notes of a file, if it is there, the rows that went out after a change.
+/// The later one of two files whose shared rows are worth a fold: one of a group is enough.
+fn last_spent(before: Option<u64>, file: u64, is_spent: bool) -> Option<u64> {
+    if is_spent { Some(file) } else { before }
+}
+
+/// The file, if there is one, is among the worn until it is looked at.
+fn list_spent(wear: &mut Wear, spent: Option<u64>) -> Result<(), AllocError>
+    ensures bounds { wear.new.bounds ≡ wear.old.bounds }
+    ensures pinned { wear.new.pinned ≡ wear.old.pinned }
+{
+    match spent {
+        Some(file) => wear.list(file),
+        None => Ok(()),
+    }
+}
+
+/// Notes of a file, if it is there, the rows that went out after a change. It tells whether so many
+/// rows of its group went out that a fold is worth its cost, at as many intervals as there are files.
 fn wear_one(
     alloc: Global,
     groups: &GroupTable,
     wear: &mut Wear,
     number: u64,
     change: u64,
-) -> Result<(), AllocError>
+) -> Result<bool, AllocError>
     requires based { EachFile groups.now.files (λ other file. file.content.base ≤ change) }
     ensures more { (other : ℕ)
         → bound_of other wear.old.bounds ≤ bound_of other wear.new.bounds }
@@ -420,10 +485,21 @@ fn wear_one(
 {
     let file = FileId(number);
     if !groups.has(file) {
-        return Ok(());
+        return Ok(false);
     }
-    let losses = losses_since(alloc, &groups.file(file), change)?;
-    wear.raise(number, losses)
+    let view = groups.file(file);
+    let losses = losses_since(alloc, &view, change)?;
+    wear.raise(number, losses, view.len() as u64)?;
+    Ok(is_spent(&view, groups.files()))
+}
+
+/// Whether the rows of a view are shared, and so many went out since the last fold that one is worth
+/// its cost, where `more` is what it costs besides the rows.
+fn is_spent(view: &View<'_>, more: usize) -> bool {
+    match view {
+        View::Whole(_) => false,
+        View::Ranged { file, .. } => file.is_spent(more),
+    }
 }
 
 /// How many rows of a view went out above `n`. Only rows above `n` are looked at.

@@ -1,6 +1,6 @@
 //! How many rows files may have lost above their bases.
 ghost use Rattle.std.specs.Prelude.{◌≡◌, ◌+◌, ◌≤◌, ◌≢◌, ◌⊎◌, ℕ, [], true, false, min, is_some};
-ghost use Rattle.std.specs.Prelude.{OnOk};
+ghost use Rattle.std.specs.Prelude.{OnOk, IsTrue};
 ghost use Rattle.std.specs.FinMap.{get};
 ghost use Rattle.ncq_shelf.specs.KeptFiles.{EachFile};
 ghost use Rattle.ncq_live.specs.Wears.{bound_of, is_among, KnowsTheWorn, PinsNoMore};
@@ -15,16 +15,32 @@ use std::marker::Model;
 /// So many rows that went out above its base make a file worn.
 pub const LOSSES: u64 = 64;
 
-/// For each file a number, and the files whose numbers are those of worn ones: each is among the
-/// worn, or is pinned, so that it is not told of. Where the pinned are loose they do not count as
-/// pinned any more, but still stand apart. Contracts see the numbers by file, where one that is not
-/// there has 0, the worn, and the files that count as pinned.
-#[derive(Drop)]
+/// Where one in so many of its rows went out above its base, a file is listed before it is worn.
+const SHARE: u64 = 3;
+
+/// For each file a number, and the files whose numbers are those of worn ones: each is listed among
+/// the worn, or is pinned, so that it is not told of; others may be listed too. Where the pinned are
+/// loose they do not count as pinned any more, but still stand apart. Contracts see the numbers by
+/// file, where one that is not there has 0, the worn, and the files that count as pinned.
 pub(crate) struct Wear {
     bounds: IndexMap<u64, u64>,
     worn: BTreeSet<u64>,
     pinned: BTreeSet<u64>,
     is_loose: bool,
+}
+
+impl Drop for Wear {
+    fn drop(self) {
+        let Wear {
+            bounds,
+            worn,
+            pinned,
+            is_loose: _,
+        } = self;
+        drop(bounds);
+        drop(worn);
+        drop(pinned);
+    }
 }
 
 impl Model for Wear {
@@ -58,8 +74,9 @@ impl Wear {
         }
     }
 
-    /// So many more rows of the file went out. After an error no number is lower than it was.
-    pub(crate) fn raise(&mut self, file: u64, losses: u64) -> Result<(), AllocError>
+    /// So many more rows of the file went out, of which so many signed rows stand. After an error no
+    /// number is lower than it was.
+    pub(crate) fn raise(&mut self, file: u64, losses: u64, size: u64) -> Result<(), AllocError>
         ensures more { (other : ℕ)
             → bound_of other self.old.bounds ≤ bound_of other self.new.bounds }
         ensures here { OnOk result
@@ -69,10 +86,19 @@ impl Wear {
     {
         let bound = self.bounds.get(&file).copied().unwrap_or(0);
         let more = bound.saturating_add(losses);
-        if more >= LOSSES && !self.pinned.contains(&file) {
+        if is_listed(more, losses, size) && !self.pinned.contains(&file) {
             self.worn.insert(file)?;
         }
         self.bounds.insert(file, more)?;
+        Ok(())
+    }
+
+    /// The file is among the worn until it is looked at, however few of its rows went out.
+    pub(crate) fn list(&mut self, file: u64) -> Result<(), AllocError>
+        ensures bounds { self.new.bounds ≡ self.old.bounds }
+        ensures pinned { self.new.pinned ≡ self.old.pinned }
+    {
+        self.worn.insert(file)?;
         Ok(())
     }
 
@@ -158,6 +184,14 @@ impl Wear {
     {
         &self.worn
     }
+}
+
+/// Whether a file is to be looked at of which so many rows went out, these last ones among them, and
+/// so many signed rows stand: it is worn, or what went out is no small part of it.
+fn is_listed(all: u64, last: u64, size: u64) -> bool
+    ensures { 64 ≤ all → IsTrue result }
+{
+    all >= LOSSES || (last > 0 && all.saturating_mul(SHARE) >= size)
 }
 
 /// The number of the file is this one at most. It takes no memory.
