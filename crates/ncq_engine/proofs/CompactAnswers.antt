@@ -12,7 +12,7 @@ use Rattle.ncq_midfile.specs.declared.signed.SignedRow.{SignedRow}
 use Rattle.ncq_shelf.specs.Contents.{IsCompacted}
 use Rattle.ncq_shelf.specs.KeptFiles.{AtFile, KeptFile}
 use Rattle.ncq_shelf.specs.Stands.{IsThere}
-use Rattle.ncq_engine.specs.Compactions.{HasBase, IsWorn, least_of}
+use Rattle.ncq_engine.specs.Compactions.{CanMoveTo, HasBase, IsWorn, least_of}
 use Rattle.ncq_engine.specs.History.{History}
 use Rattle.ncq_engine.specs.Stands.{EngineState, Follows}
 use Rattle.ncq_engine.proofs.CompactedLaws.{follows_compacted, has_base, invariant_compacted, others, sound_early}
@@ -29,6 +29,10 @@ on_ok : {T E A B : Type 0} (r : Result T E) → (A → B) → OnOk r A → OnOk 
 on_ok (Ok x) f a = f a
 on_ok (Err x) f a = a
 
+pub ok_so : {T E A : Type 0} (r : Result T E) → A → OnOk r A
+ok_so (Ok x) a = a
+ok_so (Err x) a = tt
+
 pub on_err : {T E A B : Type 0} (r : Result T E) → (A → B) → OnErr r A → OnErr r B
 on_err (Ok x) f b = b
 on_err (Err x) f b = f b
@@ -43,12 +47,12 @@ module _ (e : EngineState) (holds : Invariant e) (number least : ℕ) (is_least 
   early = let few = least_few e.store number e.subscriptions in let now = holds.number in omega (arith, is_least, few, now)
 
   -- what a compaction asks
-  module _ (facts : Facts e.table) (content : FileState) (shows : AtFile e.table.files number (λ kept. content ≡ kept.content)) (worn : IsWorn least content) where
+  module _ (facts : Facts e.table) (content : FileState) (shows : AtFile e.table.files number (λ kept. content ≡ kept.content)) (can : CanMoveTo least content) where
     pub base_asked : AtFile e.table.files number (λ kept. kept.content.base ≤ least)
-    base_asked kept at = let above = worn.above in let same = ap (λ (c : FileState). c.base) (shows kept at) in omega (arith, above, same)
+    base_asked kept at = let above = can.above in let same = ap (λ (c : FileState). c.base) (shows kept at) in omega (arith, above, same)
 
     pub last_asked : AtFile e.table.files number (λ kept. AllByRecursion (λ r. r.number ≤ least) kept.content.rows)
-    last_asked kept at = subst (λ (c : FileState). AllByRecursion (λ (r : SignedRow). r.number ≤ least) c.rows) (shows kept at) worn.last
+    last_asked kept at = subst (λ (c : FileState). AllByRecursion (λ (r : SignedRow). r.number ≤ least) c.rows) (shows kept at) can.last
 
     pub sound_asked : AtFile e.table.files number (λ kept. IsSoundAt least kept.content.rows)
     sound_asked kept at =

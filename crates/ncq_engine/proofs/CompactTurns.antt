@@ -19,6 +19,7 @@ use Rattle.ncq_engine.specs.Engines.{latest_in, mark_in}
 use Rattle.ncq_engine.specs.History.{History}
 use Rattle.ncq_engine.specs.Stands.{EngineState, Follows}
 use Rattle.ncq_engine.proofs.LeastLaws.{IsUnder, least_under}
+use Rattle.ncq_engine.proofs.Lists.{each_more}
 
 -- each file is as it was, or was compacted to its least mark; the worn ones of those that had their turn were
 pub record HaveMet (old new : EngineState) (done : List ℕ) : Type 0 where
@@ -131,3 +132,7 @@ there_still old mid done m number there = elim (m.each number there.file there.a
   | inl stays ↦ record { file = there.file; at = stays }
   | inr had ↦ record { file = had.file; at = had.at }
 ]
+
+-- and so is each of a list
+pub each_still_there : (old mid : EngineState) (done : List ℕ) → HaveMet old mid done → (numbers : List ℕ) → AllByRecursion (IsThere old.table.files) numbers → AllByRecursion (IsThere mid.table.files) numbers
+each_still_there old mid done m numbers there = each_more (IsThere old.table.files) (IsThere mid.table.files) (there_still old mid done m) numbers there

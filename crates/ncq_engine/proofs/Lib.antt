@@ -46,6 +46,8 @@ pub mod OneCommand
 pub mod GivenUp
 pub mod LeastLaws
 pub mod CompactedLaws
+pub mod MovedBases
 pub mod CompactAnswers
+pub mod FoldAnswers
 pub mod CompactTurns
 pub mod BaseLaws

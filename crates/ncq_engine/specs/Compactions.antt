@@ -1,5 +1,5 @@
 -- Which files a change compacts before it is made, and to which number.
-use Rattle.std.specs.Prelude.{◌≡◌, ◌<◌, ◌≤◌, ◌==◌, ℕ, List, [], ◌∷◌, min}
+use Rattle.std.specs.Prelude.{◌≡◌, ◌<◌, ◌≤◌, ◌⊎◌, ◌==◌, ℕ, List, [], ◌∷◌, min}
 use Rattle.std.specs.Prelude.{Option, Some, None, if◌then◌else◌}
 use Rattle.std.specs.FinMap.{get}
 use Rattle.std.specs.List.{AllByRecursion}
@@ -60,6 +60,16 @@ IsChange command = ⊥
 abbrev pub KeepBases : EngineState → EngineState → Type 0
 KeepBases old new = EachFile old.table.files (λ number file.
     HasBase new.table.files number file.content.base)
+
+-- a file can be compacted to a number: it is above the base, and no row is above it
+pub record CanMoveTo (number : ℕ) (content : FileState) : Type 0 where
+  pub above : content.base < number
+  pub last : AllByRecursion (λ r. r.number ≤ number) content.rows
+
+-- each file that had a base has it still, or has the least mark as its base
+abbrev pub MoveBases : EngineState → EngineState → Type 0
+MoveBases old new = (number base : ℕ) → HasBase old.table.files number base
+    → HasBase new.table.files number base ⊎ HasBase new.table.files number (least_of old number)
 
 -- the lesser of a number and the mark of a subscription, if it is there
 abbrev pub least_at : StoreState → Option Kept → ℕ → ℕ

@@ -1,8 +1,10 @@
 //! Which number a file is compacted to.
-ghost use Rattle.std.specs.Prelude.{◌≡◌, ◌↔◌, IfOk, IsTrue};
+ghost use Rattle.std.specs.Prelude.{◌≡◌, ◌≤◌, IfOk, IsTrue};
 ghost use Rattle.ncq_book.specs.Books.{subscription_of};
-ghost use Rattle.ncq_engine.specs.Compactions.{IsWorn, least_among, least_at, least_mark};
+ghost use Rattle.ncq_engine.specs.Compactions.{CanMoveTo, IsWorn, least_among};
+ghost use Rattle.ncq_engine.specs.Compactions.{least_at, least_mark};
 ghost use Rattle.ncq_midfile.specs.Shown.{shown};
+ghost use Rattle.ncq_midfile.specs.Views.{losses_above};
 
 use crate::firing::mark_of;
 use ncq_book::Book;
@@ -55,10 +57,20 @@ fn least_at(book: &Book, store: &Store, install: u64, number: u64) -> u64
     }
 }
 
-/// Whether the file is to be compacted to the number: it is worn, the number is above its base, and
-/// no row of it is above the number.
-pub(crate) fn is_worn(view: &View<'_>, number: u64) -> bool
-    ensures { IsTrue result ↔ IsWorn number (shown view.now) }
+/// Whether the file is to be compacted to the number: it has lost much, the number is above its
+/// base, and no row of it is above the number.
+pub(crate) fn is_due(view: &View<'_>, number: u64) -> bool
+    ensures due { IsTrue result → CanMoveTo number (shown view.now) }
+    ensures worn { IsWorn number (shown view.now) → IsTrue result }
 {
-    view.minus() as u64 >= LOSSES && view.base() < number && view.last() <= number
+    has_lost_much(view) && view.base() < number && view.last() <= number
+}
+
+/// Whether as many rows went out above the base as make a file worn, or a third of the signed rows
+/// or more.
+fn has_lost_much(view: &View<'_>) -> bool
+    ensures { 64 ≤ losses_above (shown view.now).base (shown view.now).rows → IsTrue result }
+{
+    let losses = view.minus();
+    losses > 0 && (losses as u64 >= LOSSES || losses.saturating_mul(3) >= view.len())
 }

@@ -4,7 +4,7 @@ ghost use Rattle.std.specs.Prelude.{length, map};
 ghost use Rattle.std.specs.Prelude.{codes, decimal, IfOk, OnOk, OnErr, IfSome, IfNone, Err, None};
 ghost use Rattle.std.specs.Prelude.{Some, true, false};
 ghost use Rattle.std.specs.FinMap.{get};
-ghost use Rattle.std.specs.List.{flat_map, list_all};
+ghost use Rattle.std.specs.List.{flat_map, list_all, AllByRecursion};
 ghost use Rattle.std.specs.Option.{is_some, unwrap_or};
 ghost use Rattle.ncq_bind.specs.Bindings.{are_declared, roots_in};
 ghost use Rattle.ncq_callback.specs.Labels.{labels};
@@ -19,7 +19,7 @@ ghost use Rattle.ncq_engine.specs.Applies.{refused_change, change_refusal, refus
 ghost use Rattle.ncq_engine.specs.Applies.{query_refusal};
 ghost use Rattle.ncq_engine.specs.Applies.{OfFollowed};
 ghost use Rattle.ncq_engine.specs.Compactions.{AreCompacted, HasBase, IsChange, IsWorn, KeepBases};
-ghost use Rattle.ncq_engine.specs.Compactions.{least_of};
+ghost use Rattle.ncq_engine.specs.Compactions.{least_of, MoveBases};
 ghost use Rattle.ncq_engine.specs.Engines.{new_subscription};
 ghost use Rattle.ncq_engine.specs.History.{History, start_of};
 ghost use Rattle.ncq_engine.specs.Joins.{IsSubscriptionOf, OfStatement};
@@ -29,13 +29,14 @@ ghost use Rattle.ncq_engine.specs.Output.{is_at_odds, first_refusal, accepted_te
 ghost use Rattle.ncq_plan.specs.WellFormed.{IsWellFormed};
 ghost use Rattle.ncq_script.specs.Proper.{IsProperCommand};
 ghost use Rattle.ncq_shelf.specs.KeptFiles.{AtFile};
+ghost use Rattle.ncq_shelf.specs.RowCounts.{CountsRows};
 ghost use Rattle.ncq_shelf.specs.Stands.{IsThere};
 ghost use Rattle.ncq_source.specs.Proper.{puts_proper};
 ghost use Rattle.ncq_source.specs.StoreStates.{found, IsDeclared};
 ghost use Rattle.ncq_xmlql.specs.declared.model.Statement.{Statement as a_statement};
 ghost use Rattle.ncq_xmlql.specs.WellFormed.{IsWellFormed as StatementIsWellFormed};
 
-use crate::compaction::{is_worn, least_mark};
+use crate::compaction::{is_due, least_mark};
 use crate::expiry::{take_all, write_expired};
 use crate::span::{Span, Spans};
 use crate::telling::{Answered, answer_change, answer_create, note_all, tell, write_accepted};
@@ -93,7 +94,6 @@ impl From<AllocError> for ApplyError {
 
 /// The sources with their elements, and the live subscriptions with the clock and the files of
 /// their plans.
-#[derive(Drop)]
 pub struct Engine {
     store: Store,
     live_table: LiveTable,
@@ -101,6 +101,23 @@ pub struct Engine {
     creates: u64,
     labels: Vec<(Bytes, Kind)>,
     spans: Spans,
+}
+
+impl Drop for Engine {
+    fn drop(self) {
+        let Engine {
+            store,
+            live_table,
+            count: _,
+            creates: _,
+            labels,
+            spans,
+        } = self;
+        drop(store);
+        drop(live_table);
+        drop(labels);
+        drop(spans);
+    }
 }
 
 impl Model for Engine {
@@ -169,6 +186,14 @@ impl Engine {
         ensures { result ≡ length self.now.subscriptions }
     {
         self.live_table.book().len()
+    }
+
+    /// How many signed rows the files have in all: those that selections by intervals share count
+    /// once. It tells at most 2^64 - 1. It takes no memory, and time in proportion to the files.
+    pub fn rows(&self) -> u64
+        ensures { CountsRows self.now.table.files result }
+    {
+        self.live_table.groups().rows()
     }
 
     /// Answers a command. Ok appends the answer of an accepted one: the line `<k> ok` with its
@@ -384,7 +409,8 @@ impl Engine {
         self.make_change(alloc, sections, handlers, out, steps)
     }
 
-    /// Compacts the files that are worn. Where memory runs out, some of them are.
+    /// Compacts the files that are worn, and folds the rows that such files share with others, where
+    /// that is worth its cost. Where memory runs out, a part of this is done.
     fn compact_worn(&mut self, alloc: Global) -> Result<(), AllocError>
         ensures follows { OfFollowed self.old (Follows self.new) }
         ensures same { self.new ≡ record self.old { table = self.new.table } }
@@ -394,10 +420,10 @@ impl Engine {
         for number in worn.as_slice() {
             self.compact_file(alloc, *number)?;
         }
-        Ok(())
+        self.fold_worn(alloc, worn.as_slice())
     }
 
-    /// Compacts a file to the least mark of those who have it, where it is worn.
+    /// Compacts a file to the least mark of those who have it, where it is due.
     fn compact_file(&mut self, alloc: Global, number: u64) -> Result<(), AllocError>
         requires { IsThere self.old.table.files number }
         ensures follows { OfFollowed self.old (Follows self.new) }
@@ -414,11 +440,70 @@ impl Engine {
         let least = least_mark(alloc, self.live_table.book(), &self.store, number)?;
         self.live_table.facts();
         let view = self.live_table.groups().file(FileId(number));
-        if is_worn(&view, least) {
+        if is_due(&view, least) {
             self.live_table.compact(alloc, number, least)
         } else {
             self.live_table.look_at(alloc, number)
         }
+    }
+
+    /// Folds the rows that these files share with others, where that is worth its cost. Where
+    /// memory runs out, a part of this is done.
+    fn fold_worn(&mut self, alloc: Global, worn: &[u64]) -> Result<(), AllocError>
+        requires { AllByRecursion (IsThere self.old.table.files) worn.now }
+        ensures follows { OfFollowed self.old (Follows self.new) }
+        ensures same { self.new ≡ record self.old { table = self.new.table } }
+        ensures bases { MoveBases self.old self.new }
+    {
+        for number in worn {
+            if self.live_table.groups().is_spent(FileId(*number)) {
+                self.fold_group(alloc, *number)?;
+            }
+        }
+        Ok(())
+    }
+
+    /// Makes the least marks the bases of the files that share their rows with this one, and folds
+    /// these rows. Where memory runs out, a part of this is done.
+    fn fold_group(&mut self, alloc: Global, number: u64) -> Result<(), AllocError>
+        requires { IsThere self.old.table.files number }
+        ensures follows { OfFollowed self.old (Follows self.new) }
+        ensures same { self.new ≡ record self.old { table = self.new.table } }
+        ensures bases { MoveBases self.old self.new }
+    {
+        let siblings = self.live_table.groups().siblings(alloc, FileId(number))?;
+        for sibling in siblings.as_slice() {
+            self.raise_base(alloc, *sibling)?;
+        }
+        self.fold(alloc, number)
+    }
+
+    /// Makes the least mark of those who have a file its base, where the mark is above the base and
+    /// the file shares its rows.
+    fn raise_base(&mut self, alloc: Global, number: u64) -> Result<(), AllocError>
+        requires { IsThere self.old.table.files number }
+        ensures follows { OfFollowed self.old (Follows self.new) }
+        ensures same { self.new ≡ record self.old { table = self.new.table } }
+        ensures bases { MoveBases self.old self.new }
+    {
+        let least = least_mark(alloc, self.live_table.book(), &self.store, number)?;
+        self.live_table.facts();
+        let base = self.live_table.groups().file(FileId(number)).base();
+        if base < least {
+            self.live_table.raise_base(number, least);
+        }
+        Ok(())
+    }
+
+    /// Folds the rows that a file shares with others.
+    fn fold(&mut self, alloc: Global, number: u64) -> Result<(), AllocError>
+        requires { IsThere self.old.table.files number }
+        ensures follows { OfFollowed self.old (Follows self.new) }
+        ensures same { self.new ≡ record self.old { table = self.new.table } }
+        ensures bases { MoveBases self.old self.new }
+    {
+        self.live_table.facts();
+        self.live_table.fold(alloc, number)
     }
 
     /// Changes sources, and tells those that ask one of them.

@@ -6,8 +6,10 @@ use Rattle.ncq_live.specs.Wears.{HasTheWorn}
 use Rattle.ncq_shelf.specs.Stands.{IsThere}
 use Rattle.ncq_engine.specs.Compactions.{AreCompacted}
 use Rattle.ncq_engine.specs.Stands.{EngineState}
-use Rattle.ncq_engine.proofs.CompactTurns.{HaveMet, all_met, met_more, met_none, there_still}
+use Rattle.ncq_engine.proofs.CompactTurns.{HaveMet, all_met, each_still_there, met_more, met_none, there_still}
+use Rattle.ncq_engine.proofs.CompactAnswers.{ok_so}
 use Rattle.ncq_engine.proofs.GivenUp.{with_parts}
+use Rattle.ncq_engine.proofs.MovedBases.{compacted_moved}
 use Rattle.ncq_engine.proofs.TellingLoops.{each_here}
 use Rattle.ncq_engine.proofs.Views.{view_of}
 use Rattle.ncq_engine.proofs.engine.Engine.compact_worn.Goals.{After-as_slice-number-items}
@@ -48,6 +50,12 @@ loop-number-preserved c =
     met_more (asked before) c.loop-number.self c.compact_file.new.self (take at list) (get_or list at 0) c.loop-number.invariant c.compact_file.ensures.same c.compact_file.ensures.others c.compact_file.ensures.here
     (take (at + 1) list) (take_more list at 0 c.loop-number-test.true) c.compact_file.ensures.follows c.in_ok-compact_file.ensures.compacted
 
+pub fold_worn-requires : goal.fold_worn-requires
+fold_worn-requires c =
+    let before = (goal.at.fold_worn-requires c).After-as_slice-number-items in
+    subst (AllByRecursion (IsThere c.loop-number.self.table.files)) (c.as_slice-number-items.ensures ∙ sym c.as_slice.ensures)
+    (each_still_there (asked before) c.loop-number.self (take c.loop-number.number-index c.as_slice-number-items.result.now) c.loop-number.invariant c.as_slice-number-items.result.now (each_there before))
+
 pub returns-clause-compacted : goal.returns-clause-compacted
 returns-clause-compacted c =
     let before = (goal.at.returns-clause-compacted c).After-as_slice-number-items in
@@ -55,4 +63,7 @@ returns-clause-compacted c =
     let at = c.loop-number.number-index in
     let past : length list ≤ at = omega (arith, c.loop-number-test.false) in
     let met = subst (λ (xs : List ℕ). HaveMet (asked before) c.loop-number.self xs) (take_all at list past) c.loop-number.invariant in
-    subst (λ (e : EngineState). AreCompacted e c.loop-number.self) (asked_is before) (all_met (asked before) c.loop-number.self list (has before) met)
+    let compacted = all_met (asked before) c.loop-number.self list (has before) met in
+    ok_so c.fold_worn.result
+    (subst (λ (e : EngineState). AreCompacted e c.fold_worn.new.self) (asked_is before)
+    (compacted_moved (asked before) c.loop-number.self c.fold_worn.new.self c.loop-number.invariant.same compacted c.fold_worn.ensures.bases))

@@ -9,7 +9,7 @@ use Rattle.ncq_group.specs.Tables.{mark_of}
 use Rattle.ncq_group.specs.declared.mark.GroupMark.{GroupMark}
 use Rattle.ncq_script.specs.declared.command.Command.TheVariants.{Delta}
 use Rattle.ncq_shelf.specs.Contents.{cut_to}
-use Rattle.ncq_engine.specs.Applies.{Applies, GivesUp, change_refusal}
+use Rattle.ncq_engine.specs.Applies.{Applies, change_refusal}
 use Rattle.ncq_engine.specs.Stands.{EngineState}
 use Rattle.ncq_engine.specs.Tellings.{IsAnswered, started_of}
 use Rattle.ncq_engine.specs.Compactions.{KeepBases}
@@ -23,7 +23,7 @@ use Rattle.ncq_engine.proofs.TableLaws.{table_back}
 use Rattle.ncq_engine.proofs.Views.{view_of}
 use Rattle.ncq_engine.proofs.WorkAnswers.{change_work}
 use Rattle.ncq_engine.proofs.engine.Engine.make_change.Given.{Over}
-use Rattle.ncq_engine.proofs.engine.Engine.make_change.Goals.{After-facts-2, After-roll_back, In_err-fed, In_ok-reserve, in-One-3, in-Several-3}
+use Rattle.ncq_engine.proofs.engine.Engine.make_change.Goals.{After-facts-2, After-roll_back, In_err-fed, In_ok-reserve}
 use Rattle.ncq_engine.proofs.engine.Engine.make_change.Goals as goal
 
 -- the change was prepared, and there is room for it
@@ -120,13 +120,6 @@ invariant_of-self-in-Err-answer_change g c =
     let still = rolled_back g at.After-roll_back ready in
     invariant_same (record (view_of c.self.inside) { store = c.reserve.new.self }) c.roll_back.new.self still.subscriptions still.table (holds_ready ready)
 
-pub invariant_of-self-in-Err-answer_change-2 : goal.invariant_of-self-in-Err-answer_change-2
-invariant_of-self-in-Err-answer_change-2 g c =
-    let at = goal.at.invariant_of-self-in-Err-answer_change-2 g c in
-    let ready = reserved g at.In_ok-reserve in
-    let still = rolled_back g at.After-roll_back ready in
-    invariant_same (record (view_of c.self.inside) { store = c.reserve.new.self }) c.roll_back.new.self still.subscriptions still.table (holds_ready ready)
-
 pub returns-in-Ok-answer_change-clause-applies : goal.returns-in-Ok-answer_change-clause-applies
 returns-in-Ok-answer_change-clause-applies g c =
     let at = goal.at.returns-in-Ok-answer_change-clause-applies g c in
@@ -148,19 +141,11 @@ returns-in_err-fed-clause-applies g c =
     given_up c.self.view_is (Delta c.args.sections.now) c.args.out.now.items c.from_residual-in_err-fed.result (search rules) c.reserve.new.self c.in_ok-reserve.ensures.same
     c.feed.new.self (unfed g at.In_err-fed) c.args.out.now.items (take-length c.args.out.now.items)
 
--- the change that is dropped leaves the engine that is given up
-dropped : (was : EngineState) (out out' : List ℕ) → {left e : EngineState} → left ≡ e → GivesUp was out e out' → GivesUp was out left out'
-dropped was out out' is = subst (λ (e : EngineState). GivesUp was out e out') (sym is)
-
 pub returns-in-Err-answer_change-clause-applies : goal.returns-in-Err-answer_change-clause-applies
 returns-in-Err-answer_change-clause-applies g c =
     let at = goal.at.returns-in-Err-answer_change-clause-applies g c in
-    let given = given_up c.self.view_is (Delta c.args.sections.now) c.args.out.now.items (Err OutOfMemory) refl c.reserve.new.self c.in_ok-reserve.ensures.same
-    c.roll_back.new.self (rolled_back g at.After-roll_back (reserved g at.In_ok-reserve)) c.answer_change.new.out.items c.answer_change.ensures.front in
-    elim c.match-change-3.branch [
-      | in-One-3 w ↦ dropped c.args.self.now c.args.out.now.items c.answer_change.new.out.items w.self-is given
-      | in-Several-3 w ↦ dropped c.args.self.now c.args.out.now.items c.answer_change.new.out.items w.self-is given
-    ]
+    given_up c.self.view_is (Delta c.args.sections.now) c.args.out.now.items (Err OutOfMemory) refl c.reserve.new.self c.in_ok-reserve.ensures.same
+    c.roll_back.new.self (rolled_back g at.After-roll_back (reserved g at.In_ok-reserve)) c.answer_change.new.out.items c.answer_change.ensures.front
 
 pub returns-in-Ok-answer_change-clause-work : goal.returns-in-Ok-answer_change-clause-work
 returns-in-Ok-answer_change-clause-work g c = change_work c.self.view_is c.args.steps.now c.feed.new.steps (reserved g (goal.at.returns-in-Ok-answer_change-clause-work g c).In_ok-reserve) c.feed.ensures.cost
