@@ -27,6 +27,7 @@ mod cuts;
 mod declarations;
 mod faults;
 mod forms;
+mod held;
 mod installs;
 mod joins;
 mod limits;

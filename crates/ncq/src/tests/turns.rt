@@ -185,3 +185,78 @@ fn one_of_a_thousand_quotes_may_change_again_and_again(rt: HostRuntime) -> Resul
         "",
     )
 }
+
+/// Queries of the prices in two bands, in both at once at a timer's instants, and in a narrow one.
+const LOW: &str = "create low WHERE <Quotes><Quote><Symbol>$s</><Price>$p</></></> IN \"quotes\", \
+                   $p > 10, $p <= 20 CONSTRUCT <p>$p</> DO print\n.\n";
+
+const MID: &str = "create mid WHERE <Quotes><Quote><Symbol>$s</><Price>$p</></></> IN \"quotes\", \
+                   $p > 15, $p <= 40 CONSTRUCT <p>$p</> DO print\n.\n";
+
+const WIDE: &str =
+    "create wide WHERE <Quotes><Quote><Symbol>$s</><Price>$p</></></> IN \"quotes\", \
+                    $p > 0, $p <= 100 CONSTRUCT <p>$p</> DO print EVERY 10\n.\n";
+
+const NARROW: &str = "create narrow WHERE <Quotes><Quote><Symbol>$s</><Price>$p</></></> IN \
+                      \"quotes\", $p >= 18, $p < 19 CONSTRUCT <p>$p</> DO print\n.\n";
+
+/// The quote of S0 at 12, which `low` alone has, and at 18, which `mid` has too.
+const PUT_12: &str =
+    "delta quotes\n(Quote\n(Symbol\n-S0\n)Symbol\n(Price\n-12\n)Price\n)Quote\n.\n";
+
+const PUT_18: &str =
+    "delta quotes\n(Quote\n(Symbol\n-S0\n)Symbol\n(Price\n-18\n)Price\n)Quote\n.\n";
+
+/// What both are told of the one behind the other.
+const TOLD_18: &str = "notice low 0\nlose 1\n(p\n-12\n)p\ngain 1\n(p\n-18\n)p\nend\nnotice mid \
+                       0\ngain 1\n(p\n-18\n)p\nend\n";
+
+const TOLD_12: &str = "notice low 0\ngain 1\n(p\n-12\n)p\nlose 1\n(p\n-18\n)p\nend\nnotice mid \
+                       0\nlose 1\n(p\n-18\n)p\nend\n";
+
+/// A quote that comes into a band and leaves it 201 times, beside a timer with a band around both:
+/// rows that went are struck out up to the timer's mark, so it is told what differs since then.
+fn bands(alloc: Global) -> Result<Session, AllocError> {
+    let mut session = Session::new(alloc);
+    for command in [SOURCE, LOW, MID, WIDE] {
+        session.ask(command, "")?;
+    }
+    session.ask(PUT_12, "notice low 0\ngain 1\n(p\n-12\n)p\nend\n")?;
+    for _ in 0..200 {
+        session.ask(PUT_18, TOLD_18)?;
+        session.ask(PUT_12, TOLD_12)?;
+    }
+    session.ask("clock 10\n", "notice wide 10\ngain 1\n(p\n-12\n)p\nend\n")?;
+    session.ask(
+        PUT_18,
+        "notice low 10\nlose 1\n(p\n-12\n)p\ngain 1\n(p\n-18\n)p\nend\nnotice mid 10\ngain \
+         1\n(p\n-18\n)p\nend\n",
+    )?;
+    // A band that comes in now has what is there now, and nothing of what went.
+    session.ask(NARROW, "notice narrow 10\ngain 1\n(p\n-18\n)p\nend\n")?;
+    session.ask(
+        "clock 20\n",
+        "notice wide 20\nlose 1\n(p\n-12\n)p\ngain 1\n(p\n-18\n)p\nend\n",
+    )?;
+    session.ask("delete low\n", "")?;
+    session.ask(
+        "delta quotes\n!S0\n.\n",
+        "notice mid 20\nlose 1\n(p\n-18\n)p\nend\nnotice narrow 20\nlose 1\n(p\n-18\n)p\nend\n",
+    )?;
+    session.ask("clock 30\n", "notice wide 30\nlose 1\n(p\n-18\n)p\nend\n")?;
+    Ok(session)
+}
+
+#[test]
+fn a_quote_may_leave_a_band_and_come_again_and_again(rt: HostRuntime) -> Result<(), Fail> {
+    let session = bands(rt.alloc())?;
+    expect_end(
+        &rt,
+        &rt,
+        &session.script,
+        WHOLE,
+        Status::Done,
+        &session.want,
+        "",
+    )
+}
