@@ -1,5 +1,6 @@
 -- What is left where pairs are struck out of the rows with numbers up to their bounds, and of no other.
 use Rattle.std.proofs.Common.{◌≡◌, ℕ, zero, suc, ◌+◌, ◌<◌, ◌≤◌, inl, inr, Bool, true, false, cond, not, List, [], ◌∷◌, filter, length, get_or, slice_get, Option, Some, None, nat_le, nat_lt, zero-add, refl, sym, ◌∙◌, ap, subst, arith}
+use Rattle.std.specs.Borrow.{Bor}
 use Rattle.std.specs.List.{All, cons_option, range_with_len}
 use Rattle.std.proofs.lemmas.List.Elements.{All-from_recursion}
 use Rattle.std.proofs.lemmas.Bool.{le-leb, le-ltb, lt-leb, leb-true, leb-false}
@@ -8,15 +9,15 @@ use Rattle.ncq_base.specs.Keys.{times, weight}
 use Rattle.ncq_base.proofs.CountLaws.{total_by-congr, total_by-filter, total_by-map, total_by-zero}
 use Rattle.ncq_midfile.specs.Content.{Row, gains, losses, signed_at, up_to, since, IsPart}
 use Rattle.ncq_midfile.specs.Folds.{AreBoundBy, AreBoundTo, IsFolded, IsLeftOneWay, is_candidate}
-use Rattle.ncq_midfile.specs.LossCounts.{is_row, of_sign}
+use Rattle.ncq_midfile.specs.LossCounts.{is_row, loss_count, early_count, AreUnstruck, IsStruck}
 use Rattle.ncq_midfile.specs.Matching.{passes}
 use Rattle.ncq_midfile.specs.Views.{of_rows}
 use Rattle.ncq_midfile.specs.declared.signed.SignedRow.{SignedRow}
-use Rattle.ncq_midfile.proofs.Foldeds.{AreUnpaired, all_places, are_unpaired, part_total}
+use Rattle.ncq_midfile.proofs.Foldeds.{AreDealt, AreUnpaired, all_places, are_unpaired, part_total}
 use Rattle.ncq_midfile.proofs.Matches.{with_key}
-use Rattle.ncq_midfile.proofs.Parts.{range_below}
+use Rattle.ncq_midfile.proofs.Parts.{part_all, part_through, range_below}
 use Rattle.ncq_midfile.proofs.Sounds.{gains_total, losses_total, in_one, out_one}
-use Rattle.ncq_midfile.proofs.Strikes.{IsStruck, row_is, times_total}
+use Rattle.ncq_midfile.proofs.Strikes.{dealt_all, row_is, times_total}
 use Rattle.ncq_midfile.proofs.ViewLaws.{gains_of, losses_of}
 use Rattle.ncq_midfile.proofs.Wide.{all_filtered}
 
@@ -258,26 +259,23 @@ module _ (rows : List SignedRow) (bounds : List ℕ) where
     pub late : filter (λ place. not (is_candidate rows bounds place)) places ≡ filter (λ place. not (is_candidate rows bounds place)) (range_with_len 0 (length rows))
     pub alone : AreUnpaired (signed_at (filter (is_candidate rows bounds) (range_with_len 0 (length rows))) rows) (signed_at (filter (is_candidate rows bounds) places) rows)
 
-  -- so it is at the end
-  pub are_left : (places : List ℕ) (i : ℕ) (lost gained : Row → ℕ) → i ≡ length rows → IsPart places (range_with_len 0 i)
-      → filter (λ place. not (is_candidate rows bounds place)) places ≡ filter (λ place. not (is_candidate rows bounds place)) (range_with_len 0 i)
-      → ((q : Row) → IsStruck (times (is_row q) (of_sign true (signed_at (filter (is_candidate rows bounds) places) rows))) (lost q)
-      (times (is_row q) (of_sign false (signed_at (filter (is_candidate rows bounds) (range_with_len 0 (length rows))) rows)))
-      (times (is_row q) (of_sign true (signed_at (filter (is_candidate rows bounds) (range_with_len 0 i)) rows))))
-      → ((q : Row) → IsStruck (times (is_row q) (of_sign false (signed_at (filter (is_candidate rows bounds) places) rows))) (gained q)
-      (times (is_row q) (of_sign true (signed_at (filter (is_candidate rows bounds) (range_with_len 0 (length rows))) rows)))
-      (times (is_row q) (of_sign false (signed_at (filter (is_candidate rows bounds) (range_with_len 0 i)) rows))))
-      → AreLeft places
-  are_left places i lost gained whole part late came went =
-      let early = λ (n : ℕ). signed_at (filter (is_candidate rows bounds) (range_with_len 0 n)) rows in
-      let kept = signed_at (filter (is_candidate rows bounds) places) rows in
+  -- the rows that came in struck losses out, and what was left of these was dealt to the rows that went out
+  pub are_left : (unstruck places : List ℕ) (old new : List (Bor Row × ℕ)) → AreUnstruck rows bounds (range_with_len 0 (length rows)) unstruck old → AreDealt rows bounds unstruck places old new → AreLeft places
+  are_left unstruck places old new gone dealt =
+      let all = range_with_len 0 (length rows) in
       record {
-        part = subst (λ n. IsPart places (range_with_len 0 n)) whole part;
-        late = late ∙ ap (λ n. filter (λ place. not (is_candidate rows bounds place)) (range_with_len 0 n)) whole;
-        alone = are_unpaired (early (length rows)) kept lost gained
-            (λ q. subst (λ n. IsStruck (times (is_row q) (of_sign true kept)) (lost q) (times (is_row q) (of_sign false (early (length rows)))) (times (is_row q) (of_sign true (early n)))) whole (came q))
-            (λ q. subst (λ n. IsStruck (times (is_row q) (of_sign false kept)) (gained q) (times (is_row q) (of_sign true (early (length rows)))) (times (is_row q) (of_sign false (early n)))) whole (went q));
+        part = part_through places unstruck all dealt.part gone.part;
+        late = dealt.late ∙ gone.late;
+        alone = are_unpaired (signed_at (filter (is_candidate rows bounds) all) rows) (signed_at (filter (is_candidate rows bounds) places) rows) (λ q. loss_count q old)
+            (λ q. subst (λ n. IsStruck n (loss_count q old) (early_count false q rows bounds all) (early_count true q rows bounds all)) (sym (dealt.came q)) (gone.came q))
+            (λ q. let f = gone.fewer q in let w = gone.went q in dealt_all _ (loss_count q new) (loss_count q old) (early_count false q rows bounds unstruck) (omega arith) (dealt.went q));
       }
+
+  -- there are rows at the places of a part
+  pub places_below : (places : List ℕ) → IsPart places (range_with_len 0 (length rows)) → All (λ place. place < length rows) places
+  places_below places part =
+      let below = λ (place : ℕ). place < length rows in
+      All-from_recursion below places (part_all below places _ part (range_below 0 (length rows) (length rows) (omega arith)))
 
   module _ (places : List ℕ) (left : AreLeft places) where
     abbrev all : List ℕ

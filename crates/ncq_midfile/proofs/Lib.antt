@@ -23,6 +23,7 @@ pub mod Parts
 pub mod Rangeds
 pub mod SameAtoms
 pub mod SpotLaws
+pub mod StrikeLaws
 pub mod Strikes
 pub mod Sounds
 pub mod Takens

@@ -13,7 +13,7 @@ use Rattle.std.proofs.lemmas.Bool.Decides.{nat_tests}
 use Rattle.ncq_midfile.specs.Content.{AreRising}
 use Rattle.ncq_midfile.specs.Spots.{has_place}
 use Rattle.ncq_midfile.specs.declared.place_set.PlaceSet.{PlaceSet}
-use Rattle.ncq_midfile.specs.declared.place_set.PlaceSet.TheVariants.{One, Many}
+use Rattle.ncq_midfile.specs.declared.place_set.PlaceSet.TheVariants.{One, Two, Many}
 
 -- whether a place is not below one
 abbrev pub is_later : ℕ → ℕ → Bool
@@ -70,16 +70,31 @@ alone q only = grind (arith, nat_tests)
 below : (q only from : ℕ) → only < from → from ≤ q → false ≡ nat_eq only q
 below q only from low h = grind (arith, nat_tests)
 
-pub from_one : (set : PlaceSet) (only from : ℕ) (places : List ℕ) → set ≡ One only → places ≡ only ∷ [] → from ≤ only → AreFrom set from places
-from_one set only from places is all h = record {
-  rising = subst (AreRising from) (sym all) (h, tt);
-  same = λ q _. ap (list_any (nat_eq q)) all ∙ alone q only ∙ ap (λ s. has_place s q) (sym is);
+one_from : (only from : ℕ) → AreRising from (cond (nat_le from only) (only ∷ []) [])
+one_from only from =
+    elim (nat_le from only) as (λ b. nat_le from only ≡ b → AreRising from (cond b (only ∷ []) [])) [
+      | true ↦ λ e. (grind (arith, nat_tests), tt)
+      | false ↦ λ e. tt
+    ] refl
+
+one_same : (q only from : ℕ) → from ≤ q → list_any (nat_eq q) (cond (nat_le from only) (only ∷ []) []) ≡ nat_eq only q
+one_same q only from low =
+    elim (nat_le from only) as (λ b. nat_le from only ≡ b → list_any (nat_eq q) (cond b (only ∷ []) []) ≡ nat_eq only q) [
+      | true ↦ λ e. alone q only
+      | false ↦ λ e. below q only from (grind (arith, nat_tests)) low
+    ] refl
+
+pub from_one : (set : PlaceSet) (only from : ℕ) (places : List ℕ) → set ≡ One only → places ≡ cond (nat_le from only) (only ∷ []) [] → AreFrom set from places
+from_one set only from places is all = record {
+  rising = subst (AreRising from) (sym all) (one_from only from);
+  same = λ q low. ap (list_any (nat_eq q)) all ∙ one_same q only from low ∙ ap (λ s. has_place s q) (sym is);
 }
 
-pub from_none : (set : PlaceSet) (only from : ℕ) (places : List ℕ) → set ≡ One only → places ≡ [] → only < from → AreFrom set from places
-from_none set only from places is all h = record {
-  rising = subst (AreRising from) (sym all) tt;
-  same = λ q low. ap (list_any (nat_eq q)) all ∙ below q only from h low ∙ ap (λ s. has_place s q) (sym is);
+pub from_two : (set : PlaceSet) (one other from : ℕ) (made places : List ℕ) → set ≡ Two one other → places ≡ made → AreRising from made
+    → ((q : ℕ) → from ≤ q → list_any (nat_eq q) made ≡ (nat_eq one q || nat_eq other q)) → AreFrom set from places
+from_two set one other from made places is all rising same = record {
+  rising = subst (AreRising from) (sym all) rising;
+  same = λ q low. ap (list_any (nat_eq q)) all ∙ same q low ∙ ap (λ s. has_place s q) (sym is);
 }
 
 pub from_many : (set : PlaceSet) (all : BTreeSet ℕ) (from : ℕ) (places : List ℕ) → set ≡ Many all → places ≡ filter (is_later from) all.keys → IsStrictlySortedBy nat_cmp all.keys → AreFrom set from places

@@ -1,5 +1,5 @@
 -- What finds the rows of a file. Only the crate's private clauses cite it.
-use Rattle.std.specs.Prelude.{◌≡◌, ℕ, List, map}
+use Rattle.std.specs.Prelude.{◌≡◌, ℕ, List}
 use Rattle.std.specs.List.{All}
 use Rattle.ncq_midfile.specs.Files.{IsFile}
 use Rattle.ncq_midfile.specs.Indexes.{Covers, cut_index}

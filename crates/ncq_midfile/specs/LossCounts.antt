@@ -1,10 +1,13 @@
 -- How often rows came in or went out, as a map from rows. Only the crate's private clauses cite it.
-use Rattle.std.specs.Prelude.{◌≡◌, ℕ, ◌+◌, Bool, true, not, cond, ◌&&◌, List, filter}
+use Rattle.std.specs.Prelude.{◌≡◌, ◌⊎◌, ℕ, ◌+◌, ◌≤◌, Bool, true, false, not, cond, ◌&&◌, List}
+use Rattle.std.specs.Prelude.{filter, length}
+use Rattle.std.specs.List.{range_with_len}
 use Rattle.std.specs.Option.{unwrap_or}
 use Rattle.std.specs.Map.{lookup}
 use Rattle.std.specs.Borrow.{Bor}
 use Rattle.ncq_base.specs.Keys.{times}
-use Rattle.ncq_midfile.specs.Content.{Row, rows_of}
+use Rattle.ncq_midfile.specs.Content.{Row, rows_of, signed_at, IsPart}
+use Rattle.ncq_midfile.specs.Folds.{is_candidate}
 pub use Rattle.ncq_midfile.specs.Rows.{is_row}
 use Rattle.ncq_midfile.specs.declared.signed.SignedRow.{SignedRow}
 
@@ -32,8 +35,35 @@ pub record IsStrike (s plus kept : Bool) (before after : ℕ) : Type 0 where
   pub came : kept ≡ true → plus ≡ true
   pub free : s ≡ true → kept ≡ true → before ≡ 0
 
--- what one signed row does to the counts of those that can strike it out: own says whether they
--- can, s whether it is the row that is asked for, and kept whether none was left
-pub record IsUnpaired (s own kept : Bool) (before after : ℕ) : Type 0 where
-  pub counts : after + cond (own && not kept && s) 1 0 ≡ before
-  pub free : s ≡ true → own ≡ true → kept ≡ true → before ≡ 0
+-- what one signed row does to the losses of one row: own says whether it may take a loss, s whether
+-- it is that row, and taken whether one was left that it took
+pub record TakesLoss (s own taken : Bool) (before after : ℕ) : Type 0 where
+  pub counts : after + cond (own && taken && s) 1 0 ≡ before
+  pub free : s ≡ true → own ≡ true → taken ≡ false → before ≡ 0
+
+-- how it stands with one row while the places are gone through: how often it is kept, its losses
+-- that are left to strike, all its losses, and how often it came in so far
+pub record IsStruck (kept left all came : ℕ) : Type 0 where
+  pub counts : kept + all ≡ came + left
+  pub done : (left ≡ 0) ⊎ (kept ≡ 0)
+
+-- how often the row came in, or went out, at those of the places where it has a number up to the
+-- bound
+abbrev pub early_count : Bool → Row → List SignedRow → List ℕ → List ℕ → ℕ
+early_count plus q rows bounds places =
+    times (is_row q) (of_sign plus (signed_at (filter (is_candidate rows bounds) places) rows))
+
+-- of the first places those went where a row came in and struck a loss out; the entries count the
+-- losses that are left of those of all rows
+pub record AreUnstruck (rows : List SignedRow) (bounds front places : List ℕ)
+    (entries : List (Bor Row × ℕ)) : Type 0 where
+  pub part : IsPart places front
+  pub late : filter (λ p. not (is_candidate rows bounds p)) places
+      ≡ filter (λ p. not (is_candidate rows bounds p)) front
+  pub went : (q : Row) → early_count false q rows bounds places
+      ≡ early_count false q rows bounds front
+  pub came : (q : Row) → IsStruck (early_count true q rows bounds places) (loss_count q entries)
+      (early_count false q rows bounds (range_with_len 0 (length rows)))
+      (early_count true q rows bounds front)
+  pub fewer : (q : Row) → loss_count q entries
+      ≤ early_count false q rows bounds (range_with_len 0 (length rows))

@@ -48,6 +48,11 @@ impl Chains {
         self.numbers.len()
     }
 
+    /// The number at a place.
+    pub(crate) fn get(&self, place: usize) -> Option<u64> {
+        self.numbers.get(place).copied()
+    }
+
     /// One number more.
     pub(crate) fn push(&mut self, number: u64) -> Result<(), AllocError>
         ensures ok { OnOk result (self.new ≡ self.old ++ number ∷ []) }

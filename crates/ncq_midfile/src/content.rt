@@ -142,8 +142,11 @@ fn add_loss<'a>(lost: &mut IndexMap<&'a Row, u64>, row: &'a Row) -> Result<(), A
     ensures { OnOk result ((q : _) → loss_count q lost.new.entries
         ≡ loss_count q lost.old.entries + cond (is_row q row.now) 1 0) }
 {
-    let count = lost.get(&row).copied().unwrap_or(0);
-    lost.insert(row, count + 1)?;
+    if let Some(count) = lost.get_mut(&row) {
+        *count += 1;
+        return Ok(());
+    }
+    lost.insert(row, 1)?;
     Ok(())
 }
 
@@ -153,12 +156,12 @@ pub(crate) fn take_loss<'a>(lost: &mut IndexMap<&'a Row, u64>, row: &'a Row) -> 
     ensures counts { (q : _) → loss_count q lost.new.entries + cond (result && is_row q row.now) 1 0
         ≡ loss_count q lost.old.entries }
 {
-    let count = lost.get(&row).copied().unwrap_or(0);
-    if count == 0 {
+    let Some(count) = lost.get_mut(&row) else {
+        return false;
+    };
+    if *count == 0 {
         return false;
     }
-    match lost.insert(row, count - 1) {
-        Ok(_) => true,
-        Err(_) => unreachable!(),
-    }
+    *count -= 1;
+    true
 }

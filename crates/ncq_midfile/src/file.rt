@@ -8,17 +8,19 @@ ghost use Rattle.ncq_midfile.specs.Content.{AreRising, AreGains, signed_at};
 ghost use Rattle.ncq_midfile.specs.Files.{AreParted, IsFile, IsThere};
 ghost use Rattle.ncq_midfile.specs.Made.{gained_at};
 ghost use Rattle.ncq_midfile.specs.Matching.{HaveSlots, has_key};
-ghost use Rattle.ncq_midfile.specs.Views.{IsContentOf, is_within};
+ghost use Rattle.ncq_midfile.specs.Views.{IsContentOf, is_within, losses_above};
 ghost use Rattle.ncq_base.specs.Counts.{SameCounts};
 
 use crate::compact::gather;
 use crate::content::{count_up_to, first_places, left_over, places_from};
+use crate::counts::count_losses;
 use crate::finder::{Finder, cut_all, forget_all, keep_index, keep_order, lose_index, lose_order};
 use crate::key::{KeyAtom, atoms_of};
 use crate::lose::lose_indexes;
 use crate::matching::matching_in;
 use crate::pairs::pairs;
 use crate::signed::{Places, SignedRow};
+use crate::strike::{has_few, strike_all};
 use crate::taken::take_out;
 use crate::whole::{fill_whole, grow_whole, width_of};
 use crate::within::interval_in;
@@ -107,6 +109,14 @@ impl MidFile {
     {
         let rows = self.rows.as_slice();
         &rows[count_up_to(rows, n)..]
+    }
+
+    /// How many rows went out above `n`. Only rows above `n` are looked at.
+    pub(crate) fn losses(&self, n: u64) -> usize
+        requires { self.now.base ≤ n }
+        ensures { result ≡ losses_above n self.now.rows }
+    {
+        count_losses(self.rows.as_slice(), n)
     }
 
     /// The places of the signed rows with numbers above `n`.
@@ -297,7 +307,9 @@ impl MidFile {
 
     /// Makes `n` the base: the file has then the rows that are left at `n`, in any order. Rows that
     /// stay keep their numbers. It costs the rows since the base where the file is large and all
-    /// rows are as wide as the first, else all rows. After an error the file is as it was.
+    /// rows are as wide as the first, else all rows; where there are fewer than 256 and few of them
+    /// stay, at most all rows for each that went out, and no memory. After an error the file is as
+    /// it was.
     pub fn compact(&mut self, alloc: Global, n: u64) -> Result<(), AllocError>
         requires base { self.old.base ≤ n }
         requires last { AllByRecursion (λ r. r.number ≤ n) self.old.rows }
@@ -310,6 +322,10 @@ impl MidFile {
         ensures err { OnErr result (self.new ≡ self.old) }
     {
         let rows = self.rows.as_slice();
+        if has_few(rows) {
+            self.strike(n);
+            return Ok(());
+        }
         let Some(places) = pairs(alloc, rows, &mut self.finders, self.base)? else {
             return self.gather(alloc, n);
         };
@@ -317,6 +333,23 @@ impl MidFile {
         take_out(&mut self.rows, places.as_slice());
         self.base = n;
         Ok(())
+    }
+
+    /// Makes `n` the base by taking out pairs of rows one by one. No finder is kept. It takes no
+    /// memory.
+    fn strike(&mut self, n: u64)
+        requires base { self.old.base ≤ n }
+        requires last { AllByRecursion (λ r. r.number ≤ n) self.old.rows }
+        requires sound { IsSoundAt n self.old.rows }
+        ensures base { self.new.base ≡ n }
+        ensures there { AllByRecursion (IsThere n) self.new.rows }
+        ensures content { IsContent n self.old.rows (rows_of self.new.rows) }
+        ensures stays { (list : List a_row)
+            → IsContent n self.old.rows list → IsContent n self.new.rows list }
+    {
+        strike_all(&mut self.rows);
+        self.finders.clear();
+        self.base = n;
     }
 
     /// Makes `n` the base by going through all rows. No finder is kept.

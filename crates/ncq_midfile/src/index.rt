@@ -62,11 +62,9 @@ impl Index {
         self.slots.as_slice()
     }
 
-    /// The hash of the row's atoms in the slots.
-    pub(crate) fn hash(&self, row: &Row) -> u64
-        requires { All (λ slot. slot < length row.now) self.now.slots }
-    {
-        hash_at(row, self.slots.as_slice())
+    /// The hash that it has of the row at the place.
+    pub(crate) fn hash(&self, place: usize) -> Option<u64> {
+        self.hashes.get(place)
     }
 
     /// The first place from one on at which the hash stands.

@@ -26,6 +26,7 @@ mod place_set;
 mod range;
 mod signed;
 mod spots;
+mod strike;
 mod taken;
 mod view;
 mod whole;

@@ -2,7 +2,7 @@
 //!
 //! An order has an index of the first rows on its slot, and the numbers that they have there. Rows
 //! with a text there are in the index alone. A number stays when its last row goes, and then leads
-//! to no row.
+//! to no row; where most lead to none, the order begins anew.
 ghost use Rattle.std.specs.Prelude.{◌≡◌, ◌++◌, ◌∷◌, [], ◌<◌, true, List, length, take, drop};
 ghost use Rattle.std.specs.Prelude.{IfOk, OnOk, IsTrue};
 ghost use Rattle.std.specs.List.{flat_map, All};
@@ -28,6 +28,9 @@ use std::collections::btree_set::Range;
 
 /// How many rows can be gone through while one number is looked up.
 const ROWS_OF_A_LOOK_UP: usize = 8;
+
+/// So many numbers for each row are too many: some of them lead to no row.
+const MOST_NUMBERS: usize = 2;
 
 /// The first rows by the number in a slot.
 #[derive(Drop)]
@@ -111,9 +114,30 @@ impl Order {
     }
 
     /// Takes in the rows that it has not yet; where one of them has not its slot, it takes none,
-    /// and the answer is no. Numbers come first, so that none is wanting where memory runs out.
-    /// After an error it has some of the rows.
+    /// and the answer is no. After an error it has some of the rows.
     pub(crate) fn fill(&mut self, rows: &[SignedRow]) -> Result<bool, AllocError>
+        requires { IsOrder self.old rows.now }
+        ensures slot { self.new.slot ≡ self.old.slot }
+        ensures order { IsOrder self.new rows.now }
+        ensures full { IfOk result (λ all. IsTrue all → IsFull rows.now self.new.index) }
+    {
+        self.renew();
+        self.fill_up(rows)
+    }
+
+    /// Where it has no row, it has no number either from now on. It takes no memory.
+    fn renew(&mut self)
+        ensures slot { self.new.slot ≡ self.old.slot }
+        ensures order { (rows : List a_signed_row) → IsOrder self.old rows → IsOrder self.new rows }
+    {
+        if self.index.len() == 0 {
+            self.values.clear();
+        }
+    }
+
+    /// Takes in the rows that it has not yet, as `fill` says. Numbers come first, so that none is
+    /// wanting where memory runs out.
+    fn fill_up(&mut self, rows: &[SignedRow]) -> Result<bool, AllocError>
         requires { IsOrder self.old rows.now }
         ensures slot { self.new.slot ≡ self.old.slot }
         ensures order { IsOrder self.new rows.now }
@@ -129,7 +153,8 @@ impl Order {
         self.index.fill(rows)
     }
 
-    /// Takes the rows at the places out. Where memory runs out, it forgets all.
+    /// Takes the rows at the places out. Where memory runs out, or it has too many numbers, it
+    /// forgets all.
     pub(crate) fn forget(&mut self, rows: &[SignedRow], places: &[usize])
         requires rising { AreRising 0 places.now }
         requires within { All (λ place. place < length rows.now) places.now }
@@ -138,6 +163,9 @@ impl Order {
         ensures { IsOrder self.new (taken_out places.now rows.now) }
     {
         self.index.forget(rows, places);
+        if self.values.len() / MOST_NUMBERS > rows.len() {
+            self.index.cut(0);
+        }
     }
 
     /// Leaves the first rows. It takes no memory.

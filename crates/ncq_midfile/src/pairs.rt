@@ -1,5 +1,5 @@
 //! The rows that went out since a base, and the rows that they strike out.
-ghost use Rattle.std.specs.Prelude.{◌≡◌, ◌++◌, ◌<◌, ◌≤◌, true, not, length, drop, slice_get};
+ghost use Rattle.std.specs.Prelude.{◌≡◌, ◌++◌, ◌<◌, ◌≤◌, true, false, not, length, drop, slice_get};
 ghost use Rattle.std.specs.Prelude.{Some, IfOk, IfSome, OnOk, IsTrue};
 ghost use Rattle.std.specs.List.{All};
 ghost use Rattle.ncq_base.specs.Counts.{SameCounts};
@@ -12,7 +12,7 @@ ghost use Rattle.ncq_midfile.specs.declared.signed.SignedRow.{SignedRow as a_sig
 
 use crate::content::{count_up_to, push_where};
 use crate::finder::Finder;
-use crate::index::{Index, fits};
+use crate::index::Index;
 use crate::signed::{Places, SignedRow};
 use crate::whole::{fill_whole, find_whole};
 use indexmap::IndexMap;
@@ -81,11 +81,11 @@ fn partners(
     let mut found = Places::new(alloc);
     let mut starts = IndexMap::new(alloc);
     for place in lost {
-        let row = &rows[*place].row;
-        if !fits(row, index.slots()) {
+        let Some(hash) = index.hash(*place) else {
             return Ok(None);
-        }
-        let Some(partner) = next_partner(rows, index, row, &mut starts)? else {
+        };
+        let row = &rows[*place].row;
+        let Some(partner) = next_partner(rows, index, row, hash, &mut starts)? else {
             return Ok(None);
         };
         found.push(partner)?;
@@ -93,20 +93,20 @@ fn partners(
     Ok(Some(found))
 }
 
-/// The next place at which an equal row stands that came in. The table has for each hash the place
-/// from which on none is found yet; rows whose hashes meet share it, and may miss a place by that.
+/// The next place of the hash at which an equal row stands that came in. The table has for each
+/// hash the place from which on none is found yet; rows whose hashes meet share it, and may miss a
+/// place by that.
 fn next_partner(
     rows: &[SignedRow],
     index: &Index,
     row: &Row,
+    hash: u64,
     starts: &mut IndexMap<u64, usize>,
 ) -> Result<Option<usize>, AllocError>
-    requires { All (λ slot. slot < length row.now) index.now.slots }
     ensures within { IfOk result (λ o. IfSome o (λ place. place < length rows.now)) }
     ensures like { IfOk result (λ o. IfSome o (λ place. (r : a_signed_row)
         × (slice_get rows.now place ≡ Some r) × (r.plus ≡ true) × (r.row ≡ row.now))) }
 {
-    let hash = index.hash(row);
     let from = starts.get(&hash).copied().unwrap_or(0);
     let Some(partner) = first_partner(rows, index, row, hash, from) else {
         return Ok(None);
@@ -141,8 +141,9 @@ fn first_partner(
 }
 
 /// Whether the signed row came in and is the row.
-fn is_partner(signed: &SignedRow, row: &Row) -> bool
-    ensures { IsTrue result → (signed.now.plus ≡ true) × (signed.now.row ≡ row.now) }
+pub(crate) fn is_partner(signed: &SignedRow, row: &Row) -> bool
+    ensures is { IsTrue result → (signed.now.plus ≡ true) × (signed.now.row ≡ row.now) }
+    ensures none { result ≡ false → signed.now.plus ≡ true → signed.now.row ≡ row.now → ⊥ }
 {
     signed.plus && signed.row == *row
 }

@@ -1,5 +1,6 @@
 //! The places of one number.
-ghost use Rattle.std.specs.Prelude.{◌≡◌, ◌≤◌, ℕ, false, true, nat_eq};
+ghost use Rattle.std.specs.Prelude.{◌≡◌, ◌<◌, ◌≤◌, ◌||◌, ◌++◌, ◌∷◌, [], ℕ, false, true};
+ghost use Rattle.std.specs.Prelude.{cond, nat_eq, nat_le};
 ghost use Rattle.std.specs.Prelude.{IsTrue, IfOk, IfNone, IfSome, OnOk, OnErr};
 ghost use Rattle.std.specs.List.{list_any};
 ghost use Rattle.ncq_midfile.specs.Content.{AreRising};
@@ -9,10 +10,11 @@ use crate::signed::Places;
 use std::alloc::{AllocError, Global};
 use std::collections::BTreeSet;
 
-/// Some places: one alone, which takes no block of memory, or a set.
+/// Some places: one alone or two, which take no block of memory, or a set.
 #[derive(Drop)]
 pub(crate) enum PlaceSet {
     One(usize),
+    Two(usize, usize),
     Many(BTreeSet<usize>),
 }
 
@@ -23,12 +25,8 @@ impl PlaceSet {
         ensures err { OnErr result (HaveSamePlaces self.old self.new) }
     {
         match self {
-            PlaceSet::One(only) => {
-                let mut places = BTreeSet::new(alloc);
-                places.insert(*only)?;
-                places.insert(place)?;
-                *self = PlaceSet::Many(places);
-            }
+            PlaceSet::One(only) => *self = both(*only, place),
+            PlaceSet::Two(one, other) => *self = three(alloc, *one, *other, place)?,
             PlaceSet::Many(places) => {
                 places.insert(place)?;
             }
@@ -45,6 +43,18 @@ impl PlaceSet {
     {
         match self {
             PlaceSet::One(only) => *only != place,
+            PlaceSet::Two(one, other) => {
+                let (one, other) = (*one, *other);
+                if one == place && other == place {
+                    return false;
+                }
+                if one == place {
+                    *self = PlaceSet::One(other);
+                } else if other == place {
+                    *self = PlaceSet::One(one);
+                }
+                true
+            }
             PlaceSet::Many(places) => {
                 places.remove(&place);
                 !places.is_empty()
@@ -61,6 +71,7 @@ impl PlaceSet {
     {
         match self {
             PlaceSet::One(only) => *only = to,
+            PlaceSet::Two(one, other) => *self = moved(*one, *other, from, to),
             PlaceSet::Many(places) => {
                 places.insert(to)?;
                 places.remove(&from);
@@ -77,11 +88,8 @@ impl PlaceSet {
     {
         let mut places = Vec::new(alloc);
         match self {
-            PlaceSet::One(only) => {
-                if *only >= from {
-                    places.push(*only)?;
-                }
-            }
+            PlaceSet::One(only) => push_from(&mut places, from, *only)?,
+            PlaceSet::Two(one, other) => push_two(&mut places, from, *one, *other)?,
             PlaceSet::Many(all) => places.extend(all.range(from..).copied())?,
         }
         Ok(Places::from_vec(places))
@@ -96,8 +104,88 @@ impl PlaceSet {
         ensures none { IfNone result ((q : ℕ) → from ≤ q → has_place self.now q ≡ false) }
     {
         match self {
-            PlaceSet::One(only) => { if *only >= from { Some(*only) } else { None } }
+            PlaceSet::One(only) => from_on(from, *only),
+            PlaceSet::Two(one, other) => {
+                let (low, high) = (*one.min(other), *one.max(other));
+                from_on(from, low).or(from_on(from, high))
+            }
             PlaceSet::Many(all) => all.range(from..).next().copied(),
         }
     }
+}
+
+/// One place and another.
+fn both(one: usize, other: usize) -> PlaceSet
+    ensures { (q : ℕ) → has_place result q ≡ (nat_eq one q || nat_eq other q) }
+{
+    if one == other {
+        return PlaceSet::One(one);
+    }
+    PlaceSet::Two(one, other)
+}
+
+/// One place and another, of which one goes, and a third one.
+fn moved(one: usize, other: usize, from: usize, to: usize) -> PlaceSet
+    requires there { IsTrue (nat_eq one from || nat_eq other from) }
+    requires apart { from ≡ to → ⊥ }
+    ensures { (q : ℕ) → has_place result q ≡ cond (nat_eq from q) false
+        (cond (nat_eq to q) true (nat_eq one q || nat_eq other q)) }
+{
+    if one == other {
+        return PlaceSet::One(to);
+    }
+    if one == from {
+        return both(other, to);
+    }
+    both(one, to)
+}
+
+/// Three places.
+fn three(alloc: Global, one: usize, other: usize, third: usize) -> Result<PlaceSet, AllocError>
+    ensures { IfOk result (λ set. (q : ℕ)
+        → has_place set q ≡ (nat_eq one q || nat_eq other q || nat_eq third q)) }
+{
+    let mut places = BTreeSet::new(alloc);
+    places.insert(one)?;
+    places.insert(other)?;
+    places.insert(third)?;
+    Ok(PlaceSet::Many(places))
+}
+
+/// The place, if it is not below the first.
+fn from_on(from: usize, place: usize) -> Option<usize>
+    ensures some { IfSome result (λ at. (at ≡ place) × (from ≤ place)) }
+    ensures none { IfNone result (place < from) }
+{
+    if place >= from { Some(place) } else { None }
+}
+
+/// Adds the place, if it is not below the first.
+fn push_from(places: &mut Vec<usize>, from: usize, place: usize) -> Result<(), AllocError>
+    ensures { OnOk result (places.new.items
+        ≡ places.old.items ++ cond (nat_le from place) (place ∷ []) []) }
+{
+    if place >= from {
+        places.push(place)?;
+    }
+    Ok(())
+}
+
+/// Adds to an empty list one place and another, rising, but for those below the first.
+fn push_two(
+    places: &mut Vec<usize>,
+    from: usize,
+    one: usize,
+    other: usize,
+) -> Result<(), AllocError>
+    requires { places.old.items ≡ [] }
+    ensures rising { OnOk result (AreRising from places.new.items) }
+    ensures same { OnOk result ((q : ℕ) → from ≤ q
+        → list_any (nat_eq q) places.new.items ≡ (nat_eq one q || nat_eq other q)) }
+{
+    push_from(places, from, one.min(other))?;
+    if one != other {
+        push_from(places, from, one.max(other))?;
+    }
+    Ok(())
 }

@@ -262,6 +262,20 @@ impl View<'_> {
         }
     }
 
+    /// How many of the view's rows went out above `n`. Only rows above `n` are looked at. It takes
+    /// no memory.
+    pub fn losses(&self, n: u64) -> usize
+        requires { (shown self.now).base ≤ n }
+        ensures { result ≡ losses_above n (shown self.now).rows }
+    {
+        match self {
+            View::Whole(file) => file.losses(n),
+            View::Ranged { file, interval, .. } => {
+                count_losses_within(file.rows(), n, file.slot(), interval)
+            }
+        }
+    }
+
     /// How many of the view's rows went out above its base.
     pub fn minus(&self) -> usize
         ensures { result ≡ losses_above (shown self.now).base (shown self.now).rows }

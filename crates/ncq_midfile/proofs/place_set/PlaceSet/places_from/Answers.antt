@@ -1,22 +1,20 @@
-use Rattle.std.proofs.Common.{◌++◌, ◌∷◌, [], List, ℕ, ap, ◌∙◌, arith}
+use Rattle.std.proofs.Common.{◌++◌, ◌∷◌, [], List, ℕ, cond, nat_le, ap, ◌∙◌}
 use Rattle.std.specs.List.{filter}
 use Rattle.std.proofs.lemmas.Iterator.Consumers.{YieldsList-from_rest, YieldsList-from_copied}
 use Rattle.std.proofs.lemmas.Iterator.Adapters.{items_from_extend}
-use Rattle.ncq_midfile.proofs.SpotLaws.{AreFrom, is_later, from_one, from_none, from_many}
+use Rattle.ncq_midfile.proofs.SpotLaws.{AreFrom, is_later, from_one, from_two, from_many}
 use Rattle.ncq_midfile.proofs.place_set.PlaceSet.places_from.Goals as goal
-use Rattle.ncq_midfile.proofs.place_set.PlaceSet.places_from.Goals.{in-One+then-only-from+in_ok-push-in-One, in-One+else-only-from, in-Many+in_ok-extend-in-Many}
+use Rattle.ncq_midfile.proofs.place_set.PlaceSet.places_from.Goals.{in-One+in_ok-push_from-in-One, in-Two+in_ok-push_two-in-Two, in-Many+in_ok-extend-in-Many}
 
 are : (c : goal.After-from_vec) → AreFrom c.args.self.now c.args.from c.from_vec.result
 are c =
     elim c.match-self.branch [
-      | in-One+then-only-from+in_ok-push-in-One w ↦
-          let all = c.from_vec.ensures ∙ ap (λ v. v.items) w.places-is ∙ w.in_ok-push-in-One.ensures.items ∙ ap (λ (ks : List ℕ). ks ++ w.in-One.only ∷ []) c.new-places.ensures.items in
-          let late = w.if-only-from.true in
-          from_one c.args.self.now w.in-One.only c.args.from c.from_vec.result w.in-One.is all (omega arith)
-      | in-One+else-only-from w ↦
-          let all = c.from_vec.ensures ∙ ap (λ v. v.items) w.places-is ∙ c.new-places.ensures.items in
-          let early = w.if-only-from.false in
-          from_none c.args.self.now w.in-One.only c.args.from c.from_vec.result w.in-One.is all (omega arith)
+      | in-One+in_ok-push_from-in-One w ↦
+          let all = c.from_vec.ensures ∙ ap (λ v. v.items) w.places-is ∙ w.in_ok-push_from-in-One.ensures ∙ ap (λ (ks : List ℕ). ks ++ cond (nat_le c.args.from w.in-One.only) (w.in-One.only ∷ []) []) c.new-places.ensures.items in
+          from_one c.args.self.now w.in-One.only c.args.from c.from_vec.result w.in-One.is all
+      | in-Two+in_ok-push_two-in-Two w ↦
+          let all = c.from_vec.ensures ∙ ap (λ v. v.items) w.places-is in
+          from_two c.args.self.now w.in-Two.one w.in-Two.other c.args.from w.push_two.new.places.items c.from_vec.result w.in-Two.is all w.in_ok-push_two-in-Two.ensures.rising w.in_ok-push_two-in-Two.ensures.same
       | in-Many+in_ok-extend-in-Many w ↦
           let those = filter (is_later c.args.from) w.in-Many.all.keys in
           let extended = items_from_extend w.extend.result w.extend.ensures.ran (YieldsList-from_copied (YieldsList-from_rest those (w.copied.ensures.source ∙ w.range.ensures.between tt))) in

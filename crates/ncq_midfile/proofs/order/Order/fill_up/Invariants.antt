@@ -2,7 +2,7 @@ use Rattle.std.proofs.Common.{◌≡◌, take}
 use Rattle.std.specs.List.Sorted.{IsStrictlySortedBy}
 use Rattle.std.specs.Ordering.{int_cmp}
 use Rattle.ncq_midfile.specs.Orders.{AreValued}
-use Rattle.ncq_midfile.proofs.order.Order.fill.Given as goal
+use Rattle.ncq_midfile.proofs.order.Order.fill_up.Given as goal
 
 abbrev pub invariant-loop-at : goal.invariant-loop-at
 invariant-loop-at l = record {

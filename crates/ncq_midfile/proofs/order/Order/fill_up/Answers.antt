@@ -2,7 +2,7 @@ use Rattle.std.proofs.Common.{◌≡◌, true, get_or, take, subst, arith}
 use Rattle.ncq_row.specs.Values.{atom_at}
 use Rattle.ncq_midfile.specs.Orders.{is_known}
 use Rattle.ncq_midfile.proofs.OrderLaws.{order_wider, valued_wider, valued_more}
-use Rattle.ncq_midfile.proofs.order.Order.fill.Goals as goal
+use Rattle.ncq_midfile.proofs.order.Order.fill_up.Goals as goal
 
 pub returns-then-self-len-clause-order : goal.returns-then-self-len-clause-order
 returns-then-self-len-clause-order c =
