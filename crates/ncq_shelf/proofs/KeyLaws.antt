@@ -1,10 +1,12 @@
 -- Rows that are noted at the slots of their file.
-use Rattle.std.proofs.Common.{◌≡◌, ◌≢◌, ℕ, zero, suc, ◌+◌, ◌<◌, ◌≤◌, Bool, true, false, ◌||◌, cond, List, [], ◌∷◌, ◌++◌, length, take, get_or, map, filter, Some, None, Option, Ok, Err, Result, OnOk, OnErr, nat_eq, inl, inr, refl, sym, ap, ◌∙◌, subst, true≢false, arith}
+use Rattle.std.proofs.Common.{◌≡◌, ◌≢◌, ℕ, zero, suc, ◌+◌, ◌<◌, ◌≤◌, Bool, true, false, ◌&&◌, ◌||◌, cond, List, [], ◌∷◌, ◌++◌, length, take, get_or, map, filter, Some, None, Option, Ok, Err, Result, OnOk, OnErr, nat_eq, inl, inr, refl, sym, ap, ◌∙◌, subst, true≢false, arith}
 use Rattle.std.specs.Prelude.{nat_lt, nat_le, not, slice_get}
 use Rattle.std.specs.List.{AllByRecursion, list_any}
-use Rattle.std.specs.Option.{option_map}
-use Rattle.std.proofs.lemmas.Bool.{cases_lt, lt-ltb, le-ltb, le-leb, lt-leb, ne_eqb, eqb-true}
+use Rattle.std.specs.Map.{lookup}
+use Rattle.std.specs.Option.{option_map, option_map_or}
+use Rattle.std.proofs.lemmas.Bool.{cases_eq, eq-eqb, cases_lt, lt-ltb, le-ltb, le-leb, lt-leb, ne_eqb, eqb-true}
 use Rattle.std.proofs.lemmas.List.{take_all, take_more}
+use Rattle.ncq_base.specs.Atoms.{same_atom}
 use Rattle.ncq_base.specs.Counts.{total_by}
 use Rattle.ncq_base.proofs.CountLaws.{total_by-append}
 use Rattle.ncq_base.specs.declared.atom.Atom.{Atom}
@@ -14,8 +16,9 @@ use Rattle.ncq_midfile.specs.Content.{up_to, since, gains, losses, rows_of, rows
 use Rattle.ncq_midfile.specs.Files.{IsFile, IsBased}
 use Rattle.ncq_midfile.specs.declared.signed.SignedRow.{SignedRow}
 use Rattle.ncq_holders.specs.Held.{Held, is_holder, Notes, Forgets, HaveSame}
-use Rattle.ncq_holders.proofs.CallerLemmas.{noted_here, noted_kept, forgotten_kept}
-use Rattle.ncq_shelf.specs.Keyed.{IsHeld, AreHeld, HoldsMore, HoldsOthers}
+use Rattle.ncq_holders.proofs.CallerLemmas.{atoms_same, noted_here, noted_kept, forgotten_kept}
+use Rattle.ncq_shelf.specs.Keyed.{IsHeld, AreHeld, HoldsMore, HoldsOthers, HoldsBoth, HaveKept, slots_in}
+use Rattle.ncq_shelf.specs.declared.keys.KeyedFile.{KeyedFile}
 
 -- lists, item by item
 module _ {A : Type 0} where
@@ -102,6 +105,36 @@ others_itself number held atom n differs h = h
 -- one atom more is forgotten
 pub forgets_more : (number : ℕ) (a b c : Held) (atom : Atom) → HoldsOthers number a b → Forgets b atom number c → HoldsOthers number a c
 forgets_more number a b c atom f g other n differs h = forgotten_kept b c atom number g other n (ne_eqb number n (λ e. differs (sym e))) (f other n differs h)
+
+-- and it is none of the fresh ones
+pub forgets_stale : (fresh : Held) (number : ℕ) (a b c : Held) (atom : Atom) → HoldsBoth fresh number a b → is_holder fresh atom number ≡ false → Forgets b atom number c → HoldsBoth fresh number a c
+forgets_stale fresh number a b c atom f stale g other h was = g other number ∙ (λ i. f other h was i && not (differs (same_atom atom other) refl i && nat_eq number number))
+  where
+    differs : (same : Bool) → same_atom atom other ≡ same → same_atom atom other ≡ false
+    differs true e = absurd (true≢false (sym h ∙ subst (λ x. is_holder fresh x number ≡ false) (atoms_same atom other e) stale))
+    differs false e = e
+
+-- a row is noted that is so before and among the fresh ones
+pub held_both : (fresh : Held) (number : ℕ) (old new : Held) → HoldsBoth fresh number old new → (slot : ℕ) (row : Row) → IsHeld fresh number slot row → IsHeld old number slot row → IsHeld new number slot row
+held_both fresh number old new both slot row now was = by (not (nat_lt slot (length row))) now was
+  where
+    by : (b : Bool) → (b || is_holder fresh (atom_at row slot) number) ≡ true → (b || is_holder old (atom_at row slot) number) ≡ true → (b || is_holder new (atom_at row slot) number) ≡ true
+    by true now was = refl
+    by false now was = both (atom_at row slot) now was
+
+pub are_held_both : (fresh : Held) (number : ℕ) (old new : Held) → HoldsBoth fresh number old new → (slot : ℕ) (rows : List SignedRow) → AreHeld fresh number slot rows → AreHeld old number slot rows → AreHeld new number slot rows
+are_held_both fresh number old new both slot [] now was = tt
+are_held_both fresh number old new both slot (r ∷ rows) now was = (held_both fresh number old new both slot r.row now.0 was.0, are_held_both fresh number old new both slot rows now.1 was.1)
+
+abbrev slots_at : Option KeyedFile → List ℕ
+slots_at o = option_map_or (λ (f : KeyedFile). f.slots.keys) o []
+
+-- one file's atoms are others, and its slots are the same
+pub slots_kept : (old new : List (ℕ × KeyedFile)) (number : ℕ) (file w : KeyedFile) → lookup (nat_eq number) old ≡ Some file → w.slots.keys ≡ file.slots.keys → ((q : ℕ) → lookup (nat_eq q) new ≡ cond (nat_eq number q) (Some w) (lookup (nat_eq q) old)) → HaveKept old new
+slots_kept old new number file w at same is n = elim (cases_eq n number) as (λ _. slots_in new n ≡ slots_in old n) [
+  | inl here ↦ ap slots_at (is n ∙ ap (λ b. cond b (Some w) (lookup (nat_eq n) old)) (eq-eqb number n (sym here))) ∙ same ∙ sym (ap slots_at (subst (λ m. lookup (nat_eq m) old ≡ Some file) (sym here) at))
+  | inr differs ↦ ap slots_at (is n ∙ ap (λ b. cond b (Some w) (lookup (nat_eq n) old)) (ne_eqb number n (λ e. differs (sym e))))
+]
 
 -- the rows at places
 pub row_at_place : (rows : List SignedRow) (place : ℕ) (row : Row) → slice_get (map (λ (r : SignedRow). r.row) rows) place ≡ Some row → (r : SignedRow) → slice_get rows place ≡ Some r → r.row ≡ row

@@ -1,17 +1,19 @@
 -- Joins that are found when they are met, through each change of the files.
-use Rattle.std.proofs.Common.{◌≡◌, ◌≢◌, ◌⊎◌, ℕ, List, [], ◌∷◌, Some, None, nat_eq, inl, inr, refl, sym, ap, ◌∙◌, subst, true≢false}
+use Rattle.std.proofs.Common.{◌≡◌, ◌≢◌, ◌⊎◌, ℕ, List, [], ◌∷◌, cond, Some, None, nat_eq, inl, inr, refl, sym, ap, ◌∙◌, subst, true≢false}
 use Rattle.std.specs.List.{list_any}
 use Rattle.std.specs.Map.{lookup}
 use Rattle.std.specs.FinMap.{get, insert, remove}
 use Rattle.std.specs.Option.{option_map}
 use Rattle.std.proofs.lemmas.Bool.{cases_eq}
+use Rattle.ncq_readers.specs.ReaderTables.{ReaderTables}
 use Rattle.ncq_row.specs.declared.pair.Pair.{Pair}
 use Rattle.ncq_plan.specs.declared.expr.Expr.{Expr}
 use Rattle.ncq_plan.specs.declared.expr.Expr.TheVariants.{Join}
 use Rattle.ncq_shelf.specs.KeptFiles.{KeptFile, Files}
+use Rattle.ncq_shelf.specs.Readers.{IsAmong}
 use Rattle.ncq_shelf.specs.Stands.{Stands, IsThere}
 use Rattle.ncq_shelf.specs.Contents.{cut_to}
-use Rattle.ncq_shelf.specs.Keyed.{IsHeld, AreHeld, IsKey, Grows, ForgetsFile, IsFound, IsKeyed, AreNotedIn, slots_in}
+use Rattle.ncq_shelf.specs.Keyed.{IsHeld, AreHeld, IsKey, IsAlways, Grows, ForgetsFile, Renews, IsFound, IsKeyed, IsKept, AreNotedIn, slots_in}
 use Rattle.ncq_shelf.specs.Shown.{shown, state_of}
 use Rattle.ncq_shelf.specs.declared.file.File.{File}
 use Rattle.ncq_shelf.specs.declared.keys.Keys.{Keys}
@@ -19,7 +21,8 @@ use Rattle.ncq_shelf.proofs.Maps.{put_same, put_other, gone_same, gone_other, on
 use Rattle.ncq_shelf.proofs.ShownFiles.{get_shown}
 use Rattle.ncq_shelf.proofs.Indexes.{shown_at}
 use Rattle.ncq_shelf.proofs.KeyLaws.{all_map, are_held_more, held_others, more_on, all_part}
-use Rattle.ncq_shelf.specs.Groups.{Groups}
+use Rattle.ncq_shelf.proofs.SameFiles.{shown_written, shelved_written, grouped_written}
+use Rattle.ncq_shelf.specs.Groups.{Groups, group_of}
 
 module _ (gs : Groups) where
   -- more keys, and more again
@@ -49,9 +52,12 @@ module _ (gs : Groups) where
   pub noted_more : (files : List (ℕ × File)) (a b : Keys) (F : ℕ → ℕ → Type 0) → Grows F a b → (n s : ℕ) → AreNotedIn gs files a.holders n s → AreNotedIn gs files b.holders n s
   noted_more files a b F g n s h = record { file = h.file; at = h.at; noted = are_held_more a.holders b.holders g.held n s (state_of gs h.file).content.rows h.noted }
 
+  found_on : (a b : Keys) → ((n s : ℕ) → IsKey a n s → IsKey b n s) → ((n : ℕ) → IsAlways a n → IsAlways b n) → (n l r : ℕ) (pairs : List Pair) → IsFound a n l r pairs → IsFound b n l r pairs
+  found_on a b keys always n l r [] f = elim f as (λ _. IsFound b n l r []) [ inl h ↦ inl (always n h) | inr k ↦ absurd k ]
+  found_on a b keys always n l r (p ∷ ps) f = elim f as (λ _. IsFound b n l r (p ∷ ps)) [ inl h ↦ inl (always n h) | inr k ↦ inr (k.0, keys l p.left k.1, keys r p.right k.2) ]
+
   found_more : (F : ℕ → ℕ → Type 0) (a b : Keys) → Grows F a b → (n l r : ℕ) (pairs : List Pair) → IsFound a n l r pairs → IsFound b n l r pairs
-  found_more F a b g n l r [] f = elim f as (λ _. IsFound b n l r []) [ inl h ↦ inl (g.always n h) | inr k ↦ absurd k ]
-  found_more F a b g n l r (p ∷ ps) f = elim f as (λ _. IsFound b n l r (p ∷ ps)) [ inl h ↦ inl (g.always n h) | inr k ↦ inr (k.0, g.keys l p.left k.1, g.keys r p.right k.2) ]
+  found_more F a b g = found_on a b g.keys g.always
 
   -- keys come in
   pub keyed_grown : (files : Files) (F : ℕ → ℕ → Type 0) (a b : Keys) → Grows F a b → ((n s : ℕ) → F n s → (file : KeptFile) × (get files n ≡ Some file) × AreHeld b.holders n s file.content.rows) → IsKeyed files a → IsKeyed files b
@@ -131,6 +137,34 @@ module _ (gs : Groups) where
       still : (n l r : ℕ) (pairs : List Pair) → n ≢ number → l ≢ number → r ≢ number → IsFound a n l r pairs → IsFound b n l r pairs
       still n l r [] x y z h = elim h as (λ _. IsFound b n l r []) [ inl w ↦ inl (f.always n x w) | inr k ↦ absurd k ]
       still n l r (p ∷ ps) x y z h = elim h as (λ _. IsFound b n l r (p ∷ ps)) [ inl w ↦ inl (f.always n x w) | inr k ↦ inr (k.0, f.keys l p.left y k.1, f.keys r p.right z k.2) ]
+
+  -- a file is noted for fewer atoms
+  pub keyed_renewed : (files : Files) (number : ℕ) (file : KeptFile) (a b : Keys) → get files number ≡ Some file → Renews a number file.content.rows b → IsKeyed files a → IsKeyed files b
+  keyed_renewed files number file a b at r keyed = record {
+    there = λ n s k. keyed.there n s (was n s k);
+    noted = λ n s g here k. elim (cases_eq n number) as (λ _. AreHeld b.holders n s g.content.rows) [
+      | inl same ↦
+          let e : file ≡ g = one_value at (subst (λ m. get files m ≡ Some g) same here) in
+          let key : IsKey a number s = subst (λ m. IsKey a m s) same (was n s k) in
+          subst (λ m. AreHeld b.holders m s g.content.rows) (sym same) (subst (λ (x : KeptFile). AreHeld b.holders number s x.content.rows) e (r.held s key (keyed.noted number s file at key)))
+      | inr differs ↦ all_map (λ x. IsHeld a.holders n s x.row) (λ x. IsHeld b.holders n s x.row) (λ x. held_others number a.holders b.holders r.others n s x.row differs) g.content.rows (keyed.noted n s g here (was n s k))
+    ];
+    found = λ n l rt j. found_on a b (λ m s k. subst (IsAmong s) (sym (r.slots m)) k) r.always n l rt j.pairs (keyed.found n l rt j);
+  }
+    where
+      was : (n s : ℕ) → IsKey b n s → IsKey a n s
+      was n s k = subst (IsAmong s) (r.slots n) k
+
+  -- one file is written over by one of the same expression, inputs and readers
+  pub kept_written : (files : List (ℕ × File)) (numbers : List (Expr × ℕ)) (scans : List (List ℕ × ReaderTables)) (keys : Keys) (number : ℕ) (file w : File) → lookup (nat_eq number) files ≡ Some file → w.expr ≡ file.expr → w.inputs ≡ file.inputs → w.readers ≡ file.readers → group_of w.content ≡ group_of file.content
+      → (new : List (ℕ × File)) → ((q : ℕ) → lookup (nat_eq q) new ≡ cond (nat_eq number q) (Some w) (lookup (nat_eq q) files))
+      → ((slot : ℕ) → AreHeld keys.holders number slot (state_of gs file).content.rows → AreHeld keys.holders number slot (state_of gs w).content.rows) → IsKept gs files numbers scans keys → IsKept gs new numbers scans keys
+  kept_written files numbers scans keys number file w at expr inputs readers group new is rows kept = record {
+    shelved = shelved_written gs files number file w at expr inputs readers group new is numbers scans kept.shelved;
+    grouped = grouped_written gs files number file w at expr inputs readers group new is kept.grouped;
+    keyed = subst (λ m. IsKeyed m keys) (sym (shown_written gs files number file w at expr inputs readers group new is))
+        (keyed_put (shown gs files) number (state_of gs file) (state_of gs w) keys (shown_at gs files number file at) expr (λ slot _. rows slot) kept.keyed);
+  }
 
   -- no files
   pub keyed_none : (files : List (ℕ × File)) (keys : Keys) → keys.files.entries ≡ [] → files ≡ [] → IsKeyed (shown gs files) keys

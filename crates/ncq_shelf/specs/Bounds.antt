@@ -1,13 +1,20 @@
 -- The bounds of a fold. Only the crate's private clauses cite it.
 use Rattle.std.specs.Prelude.{ℕ, ◌≤◌, List, [], ◌∷◌}
+use Rattle.ncq_base.specs.declared.interval.Interval.{Interval}
 use Rattle.ncq_row.specs.Values.{atom_at}
 use Rattle.ncq_midfile.specs.declared.signed.SignedRow.{SignedRow}
 use Rattle.ncq_shelf.specs.KeptFiles.{AtFile, Files}
-use Rattle.ncq_shelf.specs.Ranges.{TakesValue}
+use Rattle.ncq_shelf.specs.Ranges.{SelectsRange, TakesValue}
 
 -- the bound is at most the base of the file of this number
 abbrev pub IsBelowBase : Files → ℕ → ℕ → Type 0
 IsBelowBase files bound number = AtFile files number (λ file. bound ≤ file.content.base)
+
+-- the bound is at most the base of each file that selects by an interval of the slot of the input
+abbrev pub IsBelowAll : Files → ℕ → ℕ → ℕ → Type 0
+IsBelowAll files input slot bound =
+    (interval : Interval) (number : ℕ) → SelectsRange files input slot interval number
+    → IsBelowBase files bound number
 
 -- the bound is at most the base of each file that takes the row of the input by an interval of the
 -- slot

@@ -49,6 +49,12 @@ HoldsOthers number old new =
     (atom : Atom) (n : ℕ) → n ≢ number → is_holder old atom n ≡ true
     → is_holder new atom n ≡ true
 
+-- the file is noted for what it was noted for, of the fresh atoms
+abbrev pub HoldsBoth : Held → ℕ → Held → Held → Type 0
+HoldsBoth fresh number old new =
+    (atom : Atom) → is_holder fresh atom number ≡ true → is_holder old atom number ≡ true
+    → is_holder new atom number ≡ true
+
 -- the slots at which the rows of a file are noted
 abbrev pub slots_in : List (ℕ × KeyedFile) → ℕ → List ℕ
 slots_in files number = option_map_or (λ file. file.slots.keys) (lookup (nat_eq number) files) []
@@ -86,6 +92,14 @@ pub record ForgetsFile (old : Keys) (number : ℕ) (new : Keys) : Type 0 where
   pub only : (other slot : ℕ) → IsKey new other slot → (other ≢ number) × IsKey old other slot
   pub held : HoldsOthers number old.holders new.holders
   pub always : (other : ℕ) → other ≢ number → IsAlways old other → IsAlways new other
+
+-- all is kept, but that the file is noted for atoms that none of these rows has at its slots
+pub record Renews (old : Keys) (number : ℕ) (rows : List SignedRow) (new : Keys) : Type 0 where
+  pub slots : HaveKept old.files.entries new.files.entries
+  pub held : (slot : ℕ) → IsKey old number slot → AreHeld old.holders number slot rows
+      → AreHeld new.holders number slot rows
+  pub others : HoldsOthers number old.holders new.holders
+  pub always : (other : ℕ) → IsAlways old other → IsAlways new other
 
 -- the rows of two files are noted where the first pair compares them
 abbrev pub AreKeyed : Keys → ℕ → ℕ → List Pair → Type 0

@@ -22,9 +22,9 @@ use ncq_plan::Expr;
 use ncq_readers::Readers;
 use std::alloc::{AllocError, Global};
 
-/// All that may fail before a new file that has rows of its own is put in: there is room for it, and
-/// what it reads knows it. The answer is two copies of its expression. After an error all know what
-/// they knew; rows may be noted at more slots.
+/// All that may fail before a new file that has rows of its own is put in: there is room for it,
+/// and what it reads knows it. The answer is two copies of its expression. After an error all know
+/// what they knew; rows may be noted at more slots.
 pub(crate) fn admit(
     alloc: Global,
     files: &mut IndexMap<u64, File>,
@@ -58,8 +58,8 @@ pub(crate) fn admit(
     announce(alloc, files, scans, expr, inputs, number).and(Ok(copies))
 }
 
-/// The files that the expression reads, and its source if it is a scan, know the number from now on.
-/// After an error all know what they knew.
+/// The files that the expression reads, and its source if it is a scan, know the number from now
+/// on. After an error all know what they knew.
 fn announce(
     alloc: Global,
     files: &mut IndexMap<u64, File>,

@@ -1,6 +1,7 @@
 //! What finds the joins that a row may meet: by which slots the rows of a file are noted, which
 //! files have had an atom there, and which joins are met whatever came. Rows come in as a file gets
-//! them. A file that joins compare stays noted for a row that was taken back, until the file goes.
+//! them. A file that joins compare stays noted for a row that was taken back, until the file is
+//! compacted and has few rows for all that it is noted for, or goes.
 ghost use Rattle.std.specs.Prelude.{◌≡◌, ◌<◌, [], ℕ, length, nat_eq, IsSome, OnOk};
 ghost use Rattle.std.specs.List.{All, AllByRecursion, list_any};
 ghost use Rattle.std.specs.Map.{lookup};
@@ -9,7 +10,7 @@ ghost use Rattle.ncq_midfile.specs.Content.{signed_at};
 ghost use Rattle.ncq_midfile.specs.Shown.{shown, rows_below};
 ghost use Rattle.ncq_shelf.specs.Keyed.{AreHeld, IsHeld, HoldsMore, HoldsOthers, HaveKept};
 ghost use Rattle.ncq_shelf.specs.Keyed.{IsKey, IsAlways, Grows, ForgetsFile, nowhere, noted_at};
-ghost use Rattle.ncq_shelf.specs.Keyed.{slots_in};
+ghost use Rattle.ncq_shelf.specs.Keyed.{HoldsBoth, Renews, slots_in};
 
 use indexmap::{IndexMap, IndexSet};
 use ncq_base::{Atom, Copied};
@@ -17,6 +18,9 @@ use ncq_holders::Holders;
 use ncq_midfile::View;
 use ncq_row::Row;
 use std::alloc::{AllocError, Global};
+
+/// So many atoms more than its rows can have are kept of a file: a look at the rows costs more.
+const FEW_ATOMS: usize = 64;
 
 /// Where the rows of a file are noted, and the atoms under which they are.
 pub(crate) struct KeyedFile {
@@ -126,6 +130,32 @@ impl Keys {
         Ok(())
     }
 
+    /// Forgets that a file was noted for atoms that none of its rows has now, where many may be
+    /// such. After an error all is as before.
+    pub(crate) fn renew(&mut self, number: u64, content: &View<'_>) -> Result<(), AllocError>
+        ensures { Renews self.old number (shown content.now).rows self.new }
+    {
+        let Some(keyed) = self.files.get_mut(&number) else {
+            return Ok(());
+        };
+        if !has_stale(keyed, content) {
+            return Ok(());
+        }
+        let mut fresh = Holders::new(self.alloc);
+        let mut atoms = Vec::new(self.alloc);
+        note_slots(
+            self.alloc,
+            &mut fresh,
+            &mut atoms,
+            keyed.slots.as_slice(),
+            number,
+            content,
+        )?;
+        forget_gone(&mut self.holders, keyed.atoms.as_slice(), &fresh, number);
+        keyed.atoms = atoms;
+        Ok(())
+    }
+
     /// Forgets the rows of a file, and that it is met whatever comes. It takes no memory.
     pub(crate) fn forget(&mut self, number: u64)
         ensures { ForgetsFile self.old number self.new }
@@ -194,6 +224,31 @@ fn note_at(
 {
     for slot in slots {
         note_slot(alloc, holders, atoms, *slot, number, row)?;
+    }
+    Ok(())
+}
+
+/// Whether a file is noted for far more atoms than its rows can have at its slots. It decides speed
+/// alone: nothing is claimed of it.
+fn has_stale(keyed: &KeyedFile, content: &View<'_>) -> bool {
+    let most = content.len().saturating_mul(keyed.slots.len());
+    keyed.atoms.len() > most.saturating_mul(2).saturating_add(FEW_ATOMS)
+}
+
+/// Notes each row of a file at each of these slots.
+fn note_slots(
+    alloc: Global,
+    holders: &mut Holders,
+    atoms: &mut Vec<Atom>,
+    slots: &[usize],
+    number: u64,
+    content: &View<'_>,
+) -> Result<(), AllocError>
+    ensures { OnOk result (AllByRecursion
+        (λ slot. AreHeld holders.new number slot (shown content.now).rows) slots.now) }
+{
+    for slot in slots {
+        note_content(alloc, holders, atoms, *slot, number, content)?;
     }
     Ok(())
 }
@@ -272,5 +327,17 @@ fn forget_atoms(holders: &mut Holders, atoms: &[Atom], number: u64)
 {
     for atom in atoms {
         holders.forget(atom, number);
+    }
+}
+
+/// The file has had none of the atoms but those that are fresh.
+fn forget_gone(holders: &mut Holders, atoms: &[Atom], fresh: &Holders, number: u64)
+    ensures others { HoldsOthers number holders.old holders.new }
+    ensures both { HoldsBoth fresh.now number holders.old holders.new }
+{
+    for atom in atoms {
+        if !fresh.is_holder(atom, number) {
+            holders.forget(atom, number);
+        }
     }
 }

@@ -12,7 +12,7 @@ ghost use Rattle.ncq_midfile.specs.Content.{since, IsContent, IsSoundAt};
 ghost use Rattle.ncq_midfile.specs.Shown.{shown as what_is_shown, rows_below};
 ghost use Rattle.ncq_readers.specs.Passed.{size_of};
 ghost use Rattle.ncq_readers.specs.declared.ranges.HeldRows.{HeldRows as held_rows};
-ghost use Rattle.ncq_shelf.specs.Bounds.{AreBounds, IsBelowBase};
+ghost use Rattle.ncq_shelf.specs.Bounds.{AreBounds, IsBelowAll, IsBelowBase, IsBound};
 ghost use Rattle.ncq_shelf.specs.Contents.{AreFormed, AreUpTo, AreWide, Fits, with_more, cut_to};
 ghost use Rattle.ncq_shelf.specs.Contents.{HoldsItsContent, IsCompacted, IsNewAt, sum_over};
 ghost use Rattle.ncq_shelf.specs.Contents.{AreFolded, IsRaised};
@@ -23,6 +23,7 @@ ghost use Rattle.ncq_shelf.specs.Readers.{ArePassedOn, AreBoundBy};
 ghost use Rattle.ncq_shelf.specs.RowCounts.{CountsRows};
 ghost use Rattle.ncq_shelf.specs.Ranges.{IsRange, IsNoRange, SelectsRange, Takes, TakesValue};
 ghost use Rattle.ncq_shelf.specs.Ranges.{IsHeldBy, AppendsHeld, AreHeldOf, IsRangeFile, ShareRows};
+ghost use Rattle.ncq_shelf.specs.Ranges.{NoneSelects};
 ghost use Rattle.ncq_shelf.specs.Stands.{Finds, IsGrounded, IsIdle, IsThere, Stands, TellsIdle};
 
 use crate::admit::{admit, make_room};
@@ -607,12 +608,42 @@ impl Shelf {
         let Some(file) = self.files.get_mut(&number) else {
             unreachable!()
         };
-        compact_rows(alloc, &mut file.content, change)
+        compact_rows(alloc, &mut file.content, change)?;
+        self.renew_keys(number);
+        Ok(())
+    }
+
+    /// Forgets that a file was noted for joins by atoms that its rows have no more, where many are
+    /// such. It changes no answer.
+    fn renew_keys(&mut self, number: u64)
+        ensures { self.new ≡ self.old }
+    {
+        let Some(file) = self.files.get(&number) else {
+            return;
+        };
+        let view = view_of(&self.groups, file);
+
+        // Where memory runs out the file stays noted for all of them: a join may then be met that
+        // finds nothing, as before. So the error is not the caller's.
+        let _ = self.keys.renew(number, &view);
     }
 
     /// Makes a change the base of a file that selects by an interval, which keeps its rows; another
-    /// file stays as it is. It takes no memory.
+    /// file stays as it is. No want of memory keeps it from that.
     pub fn raise_base(&mut self, number: u64, change: u64)
+        requires there { IsThere self.old number }
+        ensures raised { AtFile self.old number (λ file.
+            (kept : KeptFile) × (self.new ≡ insert self.old number kept)
+            × IsRaised change file kept) }
+        ensures ranged { AtFile self.old number (λ file. IsRange file.expr
+            → AtFile self.new number (λ kept. kept.content.base ≡ change)) }
+    {
+        self.set_base(number, change);
+        self.renew_keys(number);
+    }
+
+    /// Makes a change the base of a file, as `raise_base` says. It takes no memory.
+    fn set_base(&mut self, number: u64, change: u64)
         requires there { IsThere self.old number }
         ensures raised { AtFile self.old number (λ file.
             (kept : KeptFile) × (self.new ≡ insert self.old number kept)
@@ -627,8 +658,8 @@ impl Shelf {
     }
 
     /// Where the file selects by an interval: of the rows that it shares with all that select so by
-    /// the slot of the input, pairs of equal ones are struck out, one that came in and one that went
-    /// out, both up to the base of each that takes the row. After an error all is as before.
+    /// the slot of the input, pairs of equal ones are struck out, one that came in and one that
+    /// went out, both up to the base of each that takes the row. After an error all is as before.
     pub fn fold(&mut self, alloc: Global, number: u64) -> Result<(), AllocError>
         requires { IsThere self.old number }
         ensures ok { OnOk result (AreFolded self.old self.new) }
@@ -657,8 +688,9 @@ impl Shelf {
         Ok(())
     }
 
-    /// For each of the rows the least base of the files that take it of the group's input by an
-    /// interval of its slot.
+    /// For each of the rows a bound that is at most the base of each file which takes it of the
+    /// group's input by an interval of its slot: the least of these bases, or one that the row's
+    /// number is at most.
     fn bounds_of(
         &self,
         alloc: Global,
@@ -669,13 +701,45 @@ impl Shelf {
         requires slot { All (λ r. group.slot < length r.row) rows.now }
         ensures { IfOk result (AreBounds self.now group.input group.slot rows.now) }
     {
+        let least = self.least_of(group);
         let mut bounds = Vec::new(alloc);
         for signed in rows {
-            let value = signed.row.atom(group.slot);
-            let takers = self.takers(alloc, group.input, group.slot, value)?;
-            bounds.push(self.least_base(takers.as_slice()))?;
+            bounds.push(self.bound_of(alloc, group, least, signed)?)?;
         }
         Ok(Sequence::from_vec(bounds))
+    }
+
+    /// The least base of all files that select by an interval of the group's slot, of its input.
+    fn least_of(&self, group: Group) -> u64
+        ensures { IsBelowAll self.now group.input group.slot result }
+    {
+        match self.range_table(group) {
+            Some(table) => self.least_base(table.files()),
+            None => u64::MAX,
+        }
+    }
+
+    /// At most the base of each file of the group that takes the row. Where the row's number is at
+    /// most the least base of all, as nearly always, that one will do; else the files that take the
+    /// row are looked up.
+    fn bound_of(
+        &self,
+        alloc: Global,
+        group: Group,
+        least: u64,
+        signed: &SignedRow,
+    ) -> Result<u64, AllocError>
+        requires there { IsThere self.now group.input }
+        requires slot { group.slot < length signed.now.row }
+        requires least { IsBelowAll self.now group.input group.slot least }
+        ensures { IfOk result (IsBound self.now group.input group.slot signed.now) }
+    {
+        if signed.number <= least {
+            return Ok(least);
+        }
+        let value = signed.row.atom(group.slot);
+        let takers = self.takers(alloc, group.input, group.slot, value)?;
+        Ok(self.least_base(takers.as_slice()))
     }
 
     /// The least base of the files that are there.
@@ -716,15 +780,19 @@ impl Shelf {
 
     /// The intervals by which files select at a group, each with its file.
     fn range_table(&self, group: Group) -> Option<&RangeTable>
-        ensures { IfSome result (λ table.
+        ensures there { IfSome result (λ table.
             AllByRecursion (λ entry. IsThere self.now entry.1.0) table.now) }
+        ensures all { IfSome result (λ table. (interval : an_interval) (number : ℕ)
+            → SelectsRange self.now group.input group.slot interval number
+            → IsAmong number (map (λ file. file.0) (map (λ entry. entry.1) table.now))) }
+        ensures none { IfNone result (NoneSelects self.now group.input group.slot) }
     {
         let input = self.files.get(&group.input)?;
         input.readers.range_table(group.slot)
     }
 
-    /// Whether the file selects by an interval and a fold is worth its cost. It decides speed alone:
-    /// nothing is claimed of it.
+    /// Whether the file selects by an interval and a fold is worth its cost. It decides speed
+    /// alone: nothing is claimed of it.
     pub fn is_spent(&self, number: u64) -> bool {
         let Some(group) = self.group_at(number) else {
             return false;

@@ -1,11 +1,7 @@
-use Rattle.std.proofs.Common.{◌≡◌, ◌++◌, [], ◌∷◌, true, take, sym, ap, ◌∙◌, subst, arith}
+use Rattle.std.proofs.Common.{◌++◌, ℕ, List, [], ◌∷◌, take, sym, ap, ◌∙◌, subst, arith}
 use Rattle.std.proofs.lemmas.List.{take_all, take_more}
-use Rattle.std.specs.List.{AllByRecursion}
-use Rattle.ncq_base.specs.Intervals.{in_interval}
-use Rattle.ncq_base.specs.declared.atom.FileId.{FileId}
-use Rattle.ncq_shelf.specs.Bounds.{AreBounds, IsBelowBase, IsBound}
+use Rattle.ncq_shelf.specs.Bounds.{AreBounds}
 use Rattle.ncq_shelf.proofs.FoldBounds.{bound_more}
-use Rattle.ncq_shelf.proofs.GroupNews.{among_all}
 use Rattle.ncq_shelf.proofs.shelf.Shelf.bounds_of.Goals as goal
 
 pub loop-signed-preserved : goal.loop-signed-preserved
@@ -16,17 +12,9 @@ loop-signed-preserved c =
     let rows = c.args.rows.now in
     let i = c.loop-signed.signed-index in
     let r = c.signed-item.result in
-    let bound = c.least_base.result in
-    let here : IsBound files input slot r bound = λ number takes.
-    among_all (IsBelowBase files bound) c.in_ok-takers.takers (subst (AllByRecursion (λ (f : FileId). IsBelowBase files bound f.0)) c.as_slice.ensures c.least_base.ensures) number
-    ((c.in_ok-takers.ensures number).1 (record {
-      interval = takes.interval;
-      selects = takes.selects;
-      within = subst (λ a. in_interval takes.interval a ≡ true) (sym c.atom-value.ensures) takes.within;
-    })) in
     subst (λ rs. AreBounds files input slot rs c.push.new.self.items) (ap (λ x. take i rows ++ x ∷ []) c.signed-item.is ∙ sym (take_more rows i r c.loop-signed-test.true))
-    (subst (AreBounds files input slot (take i rows ++ r ∷ [])) (sym c.in_ok-push.ensures.items)
-    (bound_more files input slot (take i rows) c.loop-signed.bounds.items r bound c.loop-signed.invariant here))
+    (subst (AreBounds files input slot (take i rows ++ r ∷ [])) (sym {A = List ℕ} c.in_ok-push.ensures.items)
+    (bound_more files input slot (take i rows) c.loop-signed.bounds.items r _ c.loop-signed.invariant c.in_ok-bound_of.ensures))
 
 pub returns : goal.returns
 returns c =

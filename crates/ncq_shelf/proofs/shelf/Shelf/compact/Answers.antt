@@ -1,5 +1,4 @@
-use Rattle.std.proofs.Common.{◌≡◌, ◌≤◌, Some, None, sym, ap, ◌∙◌, subst, refl, rules}
-use Rattle.std.proofs.lemmas.Result.{on_ok_weaker, on_err_weaker}
+use Rattle.std.proofs.Common.{◌≡◌, ◌≤◌, Some, None, Ok, sym, ap, ◌∙◌, subst, refl, rules}
 use Rattle.std.specs.List.{AllByRecursion}
 use Rattle.std.specs.Option.{option_map}
 use Rattle.std.specs.FinMap.{get, insert}
@@ -14,11 +13,11 @@ use Rattle.ncq_shelf.specs.Ranges.{IsRange}
 use Rattle.ncq_shelf.proofs.Maps.{one_value, there, put_again, put_same}
 use Rattle.ncq_shelf.proofs.ShownFiles.{get_shown}
 use Rattle.ncq_shelf.proofs.Indexes.{shown_at}
-use Rattle.ncq_shelf.proofs.SameFiles.{shown_written, shelved_written, grouped_written}
+use Rattle.ncq_shelf.proofs.SameFiles.{shown_written}
 use Rattle.ncq_shelf.proofs.Grouped.{own_content, seen_there, no_group, has_group}
+use Rattle.ncq_shelf.proofs.Turns.{any_err}
 use Rattle.ncq_shelf.proofs.MovedBases.{moved_on, moved_rows, moved_held}
-use Rattle.ncq_shelf.specs.Keyed.{IsKeyed}
-use Rattle.ncq_shelf.proofs.KeyedLaws.{keyed_put}
+use Rattle.ncq_shelf.proofs.KeyedLaws.{kept_written}
 use Rattle.ncq_shelf.proofs.shelf.Shelf.compact.Goals as goal
 
 pub unreachable-requires : goal.unreachable-requires
@@ -40,81 +39,82 @@ compact_rows-requires-clause-sound c = λ own is.
     let file = c.in-Some.file.now in
     subst (λ (s : FileState). IsSoundAt c.args.change s.rows) (own_content c.self.inside.groups.entries file.expr file.content own is) (c.requires.sound (state_of c.self.inside.groups.entries file) (seen_there c.self.inside.groups.entries c.self.inside.files.entries c.args.self.now c.self.view_is c.self.invariant.grouped c.args.number c.in-Some.file.now (sym c.in-Some.ensures.value)))
 
+-- the file as `compact_rows` leaves it, before its keys are renewed
 pub invariant_of-self : goal.invariant_of-self
 invariant_of-self c =
+    let gs = c.self.inside.groups.entries in
     let file = c.in-Some.file.now in
-    let at = sym c.in-Some.ensures.value in
     let w : File = record file { content = c.compact_rows.new.rows } in
-    let written = shown_written c.self.inside.groups.entries c.self.inside.files.entries c.args.number file w at refl refl refl c.compact_rows.ensures.group
-    (c.get_mut.follows.lender w).entries ((c.get_mut.follows.holds w).3 (search rules)).0 in
-    record {
-      shelved = shelved_written c.self.inside.groups.entries c.self.inside.files.entries c.args.number file w at refl refl refl c.compact_rows.ensures.group
-          (c.get_mut.follows.lender w).entries ((c.get_mut.follows.holds w).3 (search rules)).0 c.self.inside.numbers.entries c.self.inside.scans.entries c.self.invariant.shelved;
-      grouped = grouped_written c.self.inside.groups.entries c.self.inside.files.entries c.args.number file w at refl refl refl c.compact_rows.ensures.group
-          (c.get_mut.follows.lender w).entries ((c.get_mut.follows.holds w).3 (search rules)).0 c.self.invariant.grouped;
-      keyed = subst (λ m. IsKeyed m c.self.inside.keys) (sym written)
-          (keyed_put c.self.inside.groups.entries (shown c.self.inside.groups.entries c.self.inside.files.entries) c.args.number (state_of c.self.inside.groups.entries file) (state_of c.self.inside.groups.entries w) c.self.inside.keys (shown_at c.self.inside.groups.entries c.self.inside.files.entries c.args.number file at) refl
-          (λ slot k. moved_held c.compact_rows.result c.args.change c.self.inside.groups.entries file.expr file.content c.compact_rows.new.rows c.compact_rows.ensures.own c.compact_rows.ensures.ranged c.compact_rows.ensures.err c.self.inside.keys.holders c.args.number slot) c.self.invariant.keyed);
-    }
+    kept_written gs c.self.inside.files.entries c.self.inside.numbers.entries c.self.inside.scans.entries c.self.inside.keys c.args.number file w (sym c.in-Some.ensures.value) refl refl refl c.compact_rows.ensures.group
+    (c.get_mut.follows.lender w).entries ((c.get_mut.follows.holds w).3 (search rules)).0
+    (moved_held c.compact_rows.result c.args.change gs file.expr file.content c.compact_rows.new.rows c.compact_rows.ensures.own c.compact_rows.ensures.ranged c.compact_rows.ensures.err c.self.inside.keys.holders c.args.number) c.self.invariant
+
+pub invariant_of-self-2 : goal.invariant_of-self-2
+invariant_of-self-2 c =
+    let gs = c.self.inside.groups.entries in
+    let file = c.in-Some.file.now in
+    let w : File = record file { content = c.compact_rows.new.rows } in
+    kept_written gs c.self.inside.files.entries c.self.inside.numbers.entries c.self.inside.scans.entries c.self.inside.keys c.args.number file w (sym c.in-Some.ensures.value) refl refl refl c.compact_rows.ensures.group
+    (c.get_mut.follows.lender w).entries ((c.get_mut.follows.holds w).3 (search rules)).0
+    (moved_held c.compact_rows.result c.args.change gs file.expr file.content c.compact_rows.new.rows c.compact_rows.ensures.own c.compact_rows.ensures.ranged c.compact_rows.ensures.err c.self.inside.keys.holders c.args.number) c.self.invariant
 
 pub returns-clause-ok : goal.returns-clause-ok
-returns-clause-ok c =
+returns-clause-ok c = λ state here.
+    let gs = c.self.inside.groups.entries in
+    let files = c.self.inside.files.entries in
     let file = c.in-Some.file.now in
     let at = sym c.in-Some.ensures.value in
     let w : File = record file { content = c.compact_rows.new.rows } in
-    let written = shown_written c.self.inside.groups.entries c.self.inside.files.entries c.args.number file w at refl refl refl c.compact_rows.ensures.group
+    let written = shown_written gs files c.args.number file w at refl refl refl c.compact_rows.ensures.group
     (c.get_mut.follows.lender w).entries ((c.get_mut.follows.holds w).3 (search rules)).0 in
-    let same : (state : KeptFile) → get c.args.self.now c.args.number ≡ Some state → state_of c.self.inside.groups.entries file ≡ state = λ state here.
-    one_value (shown_at c.self.inside.groups.entries c.self.inside.files.entries c.args.number file at) (subst (λ f. get f c.args.number ≡ Some state) (sym c.self.view_is) here) in
-    on_ok_weaker c.compact_rows.result
-    (λ both state here. (
-      state_of c.self.inside.groups.entries w,
-      written ∙ (λ i. insert (c.self.view_is i) c.args.number (state_of c.self.inside.groups.entries w)),
-      subst (λ (s : KeptFile). IsCompacted c.args.change s (state_of c.self.inside.groups.entries w)) (same state here)
-          (record { expr = refl; uses = refl; base = both.0; stays = both.1 }),
-    )) (moved_on c.compact_rows.result c.args.change c.self.inside.groups.entries file.expr file.content c.compact_rows.new.rows c.compact_rows.ensures.own c.compact_rows.ensures.ranged c.compact_rows.ensures.err)
+    let same : state_of gs file ≡ state = one_value (shown_at gs files c.args.number file at) (subst (λ f. get f c.args.number ≡ Some state) (sym c.self.view_is) here) in
+    let both = moved_on {E = ⊥} (Ok c.in_ok-compact_rows.field-0) c.args.change gs file.expr file.content c.compact_rows.new.rows c.in_ok-compact_rows.ensures.own c.compact_rows.ensures.ranged tt in (
+      state_of gs w,
+      c.renew_keys.ensures ∙ written ∙ (λ i. insert (c.self.view_is i) c.args.number (state_of gs w)),
+      subst (λ (s : KeptFile). IsCompacted c.args.change s (state_of gs w)) same (record { expr = refl; uses = refl; base = both.0; stays = both.1 }),
+    )
 
 pub returns-clause-rows : goal.returns-clause-rows
-returns-clause-rows c =
+returns-clause-rows c = λ state here is_no_range kept after.
+    let gs = c.self.inside.groups.entries in
+    let files = c.self.inside.files.entries in
     let file = c.in-Some.file.now in
     let at = sym c.in-Some.ensures.value in
     let w : File = record file { content = c.compact_rows.new.rows } in
-    let written = shown_written c.self.inside.groups.entries c.self.inside.files.entries c.args.number file w at refl refl refl c.compact_rows.ensures.group
+    let written = shown_written gs files c.args.number file w at refl refl refl c.compact_rows.ensures.group
     (c.get_mut.follows.lender w).entries ((c.get_mut.follows.holds w).3 (search rules)).0 in
-    let same : (state : KeptFile) → get c.args.self.now c.args.number ≡ Some state → state_of c.self.inside.groups.entries file ≡ state = λ state here.
-    one_value (shown_at c.self.inside.groups.entries c.self.inside.files.entries c.args.number file at) (subst (λ f. get f c.args.number ≡ Some state) (sym c.self.view_is) here) in
-    on_ok_weaker c.compact_rows.result
-    (λ based state here is_no_range kept after.
-    let kept_is : state_of c.self.inside.groups.entries w ≡ kept = one_value (ap (λ f. get f c.args.number) written ∙ put_same (shown c.self.inside.groups.entries c.self.inside.files.entries) c.args.number (state_of c.self.inside.groups.entries w)) after in
-    let own : group_of file.content ≡ None = no_group c.self.inside.groups.entries c.self.inside.files.entries c.args.self.now c.self.view_is c.self.invariant.grouped c.args.number c.in-Some.file.now (sym c.in-Some.ensures.value) (λ other there. subst (λ (s : KeptFile). IsRange s.expr → ⊥) (one_value here there) is_no_range) in
-    let is = based own c.self.inside.groups.entries file.expr in
+    let same : state_of gs file ≡ state = one_value (shown_at gs files c.args.number file at) (subst (λ f. get f c.args.number ≡ Some state) (sym c.self.view_is) here) in
+    let kept_is : state_of gs w ≡ kept = one_value (ap (λ f. get f c.args.number) (c.renew_keys.ensures ∙ written) ∙ put_same (shown gs files) c.args.number (state_of gs w)) after in
+    let own : group_of file.content ≡ None = no_group gs files c.args.self.now c.self.view_is c.self.invariant.grouped c.args.number file at (λ other there. subst (λ (s : KeptFile). IsRange s.expr → ⊥) (one_value here there) is_no_range) in
+    let is = c.in_ok-compact_rows.ensures.own own gs file.expr in
     subst (λ (k : KeptFile). HoldsItsContent c.args.change state k) kept_is
-    (subst (λ (s : KeptFile). HoldsItsContent c.args.change s (state_of c.self.inside.groups.entries w)) (same state here) (record { there = is.there; content = is.content }))) c.compact_rows.ensures.own
+    (subst (λ (s : KeptFile). HoldsItsContent c.args.change s (state_of gs w)) same (record { there = is.there; content = is.content }))
 
 pub returns-clause-ranged : goal.returns-clause-ranged
-returns-clause-ranged c =
+returns-clause-ranged c = λ state here is_range kept after.
+    let gs = c.self.inside.groups.entries in
+    let files = c.self.inside.files.entries in
     let file = c.in-Some.file.now in
     let at = sym c.in-Some.ensures.value in
-    let gs = c.self.inside.groups.entries in
     let w : File = record file { content = c.compact_rows.new.rows } in
-    let written = shown_written gs c.self.inside.files.entries c.args.number file w at refl refl refl c.compact_rows.ensures.group
+    let written = shown_written gs files c.args.number file w at refl refl refl c.compact_rows.ensures.group
     (c.get_mut.follows.lender w).entries ((c.get_mut.follows.holds w).3 (search rules)).0 in
-    let same : (state : KeptFile) → get c.args.self.now c.args.number ≡ Some state → state_of gs file ≡ state = λ state here.
-    one_value (shown_at gs c.self.inside.files.entries c.args.number file at) (subst (λ f. get f c.args.number ≡ Some state) (sym c.self.view_is) here) in
-    on_ok_weaker c.compact_rows.result
-    (λ based state here is_range kept after.
-    let kept_is : state_of gs w ≡ kept = one_value (ap (λ f. get f c.args.number) written ∙ put_same (shown gs c.self.inside.files.entries) c.args.number (state_of gs w)) after in
-    let g = has_group gs c.self.inside.files.entries c.args.self.now c.self.view_is c.self.invariant.grouped c.args.number file at (subst (λ (s : KeptFile). IsRange s.expr) (sym (same state here)) is_range) in
+    let same : state_of gs file ≡ state = one_value (shown_at gs files c.args.number file at) (subst (λ f. get f c.args.number ≡ Some state) (sym c.self.view_is) here) in
+    let kept_is : state_of gs w ≡ kept = one_value (ap (λ f. get f c.args.number) (c.renew_keys.ensures ∙ written) ∙ put_same (shown gs files) c.args.number (state_of gs w)) after in
+    let g = has_group gs files c.args.self.now c.self.view_is c.self.invariant.grouped c.args.number file at (subst (λ (s : KeptFile). IsRange s.expr) (sym same) is_range) in
     ap (λ (k : KeptFile). k.content.rows) (sym kept_is)
     ∙ moved_rows c.compact_rows.result c.args.change gs file.expr file.content c.compact_rows.new.rows c.compact_rows.ensures.own c.compact_rows.ensures.ranged c.compact_rows.ensures.err g.0 g.1
-    ∙ ap (λ (s : KeptFile). s.content.rows) (same state here)) c.compact_rows.ensures.own
+    ∙ ap (λ (s : KeptFile). s.content.rows) same
 
-pub returns-clause-err : goal.returns-clause-err
-returns-clause-err c =
+pub returns-in_err-compact_rows-clause-err : goal.returns-in_err-compact_rows-clause-err
+returns-in_err-compact_rows-clause-err c =
+    let gs = c.self.inside.groups.entries in
+    let files = c.self.inside.files.entries in
     let file = c.in-Some.file.now in
     let at = sym c.in-Some.ensures.value in
     let w : File = record file { content = c.compact_rows.new.rows } in
-    let written = shown_written c.self.inside.groups.entries c.self.inside.files.entries c.args.number file w at refl refl refl c.compact_rows.ensures.group
+    let written = shown_written gs files c.args.number file w at refl refl refl c.compact_rows.ensures.group
     (c.get_mut.follows.lender w).entries ((c.get_mut.follows.holds w).3 (search rules)).0 in
-    on_err_weaker c.compact_rows.result
-    (λ e. written ∙ (λ i. insert (shown c.self.inside.groups.entries c.self.inside.files.entries) c.args.number (record (state_of c.self.inside.groups.entries file) { content = content_of c.self.inside.groups.entries file.expr (e i) })) ∙ put_again (shown c.self.inside.groups.entries c.self.inside.files.entries) c.args.number (state_of c.self.inside.groups.entries file) (shown_at c.self.inside.groups.entries c.self.inside.files.entries c.args.number file at) ∙ c.self.view_is) c.compact_rows.ensures.err
+    any_err c.from_residual.result (written
+    ∙ (λ i. insert (shown gs files) c.args.number (record (state_of gs file) { content = content_of gs file.expr (c.in_err-compact_rows.ensures.err i) }))
+    ∙ put_again (shown gs files) c.args.number (state_of gs file) (shown_at gs files c.args.number file at) ∙ c.self.view_is)
