@@ -14,9 +14,10 @@ use Rattle.ncq_midfile.specs.Content.{gains, losses, rows_of, up_to}
 use Rattle.ncq_midfile.specs.Files.{IsThere}
 use Rattle.ncq_midfile.specs.declared.signed.SignedRow.{SignedRow}
 use Rattle.ncq_fill.proofs.FileLaws.{wide_same}
-use Rattle.ncq_shelf.specs.KeptFiles.{KeptFile, Files}
+use Rattle.ncq_shelf.specs.KeptFiles.{AtFile, KeptFile, Files}
 use Rattle.ncq_shelf.specs.Contents.{IsUpTo, IsWide, HoldsItsContent, IsCompacted, IsRaised}
 use Rattle.ncq_shelf.specs.Ranges.{IsRange}
+use Rattle.ncq_shelf.proofs.CallerLemmas.{put_same, one_value}
 use Rattle.ncq_group.specs.Tables.{TableState, Facts}
 use Rattle.ncq_group.proofs.SameTable.{facts_put, wide_up_to}
 
@@ -90,6 +91,13 @@ module _ (change now : ℕ) (old new : KeptFile) (is : IsCompacted change old ne
     }
     | inr own ↦ own_last change now old new is (holds own) less
   ]
+
+-- a file that was compacted has no row above the change
+pub is_settled : (old new : Files) (number change : ℕ) (kept : KeptFile) → AllByRecursion (λ r. r.number ≤ change) kept.content.rows → (next : KeptFile) × (new ≡ insert old number next) × IsCompacted change kept next
+    → ((IsRange kept.expr → ⊥) → AtFile new number (HoldsItsContent change kept)) → (IsRange kept.expr → AtFile new number (λ next. next.content.rows ≡ kept.content.rows)) → AtFile new number (λ next. IsUpTo change next.content)
+is_settled old new number change kept last put own range next at =
+    let same : put.0 ≡ next = one_value (ap (λ f. get f number) put.1 ∙ put_same old number put.0) at in
+    compact_last change change kept next (subst (IsCompacted change kept) same put.2) (λ h. own h next at) (λ h. range h next at) last (omega arith)
 
 module _ (table : TableState) (facts : Facts table) (number change : ℕ) (old next : KeptFile) (at : get table.files number ≡ Some old) (is : IsCompacted change old next)
     (holds : (IsRange old.expr → ⊥) → HoldsItsContent change old next) (kept : IsRange old.expr → next.content.rows ≡ old.content.rows) (last : AllByRecursion (λ r. r.number ≤ change) old.content.rows) (less : change ≤ table.number)

@@ -17,7 +17,7 @@ ghost use Rattle.ncq_shelf.specs.Stands.{IsThere};
 ghost use Rattle.ncq_shelf.specs.Ranges.{IsRange, IsRangeFile, SelectsRange, ShareRows};
 ghost use Rattle.ncq_shelf.specs.RowCounts.{CountsRows};
 ghost use Rattle.ncq_shelf.specs.Contents.{Fits, HoldsItsContent, IsCompacted, cut_to};
-ghost use Rattle.ncq_shelf.specs.Contents.{AreFolded, IsRaised};
+ghost use Rattle.ncq_shelf.specs.Contents.{AreFolded, IsRaised, IsUpTo};
 ghost use Rattle.ncq_feed.specs.Feeds.{IsPreparedFrom, AreFed, NamesTheFed, world_after, feed_work};
 ghost use Rattle.ncq_feed.specs.Feeds.{CountsHeld, plain_work, held_work};
 ghost use Rattle.ncq_count.specs.FileExprs.{exprs_of};
@@ -288,6 +288,8 @@ impl GroupTable {
         ensures rows { OnOk result (AtFile self.old.files file.0 (λ kept.
             (IsRange kept.expr → ⊥)
             → AtFile self.new.files file.0 (λ next. HoldsItsContent change kept next))) }
+        ensures settled { OnOk result
+            (AtFile self.new.files file.0 (λ next. IsUpTo change next.content)) }
         ensures err { OnErr result (self.new ≡ self.old) }
         ensures next_file { self.new.next_file ≡ self.old.next_file }
         ensures number { self.new.number ≡ self.old.number }
@@ -297,7 +299,7 @@ impl GroupTable {
     }
 
     /// Makes a change the base of a file that selects by an interval, which keeps its rows; another
-    /// file stays as it is. It takes no memory.
+    /// file stays as it is. No want of memory keeps it from that.
     pub fn raise_base(&mut self, file: FileId, change: u64)
         requires there { IsThere self.old.files file.0 }
         requires number { change ≤ self.old.number }
@@ -311,9 +313,9 @@ impl GroupTable {
     }
 
     /// Where the file selects by an interval: of the rows that it shares with all that select so by
-    /// the slot of the input, pairs of equal ones are struck out, one that came in and one that went
-    /// out, both up to the base of each that takes the row. After an error the table is as it was.
-    /// The only error is that memory ran out.
+    /// the slot of the input, pairs of equal ones are struck out, one that came in and one that
+    /// went out, both up to the base of each that takes the row. After an error the table is as it
+    /// was. The only error is that memory ran out.
     pub fn fold(&mut self, alloc: Global, file: FileId) -> Result<(), AllocError>
         requires { IsThere self.old.files file.0 }
         ensures ok { OnOk result (AreFolded self.old.files self.new.files) }
@@ -334,8 +336,8 @@ impl GroupTable {
         self.filed.shelf.siblings(alloc, file.0)
     }
 
-    /// Whether the file selects by an interval and a fold is worth its cost. It decides speed alone:
-    /// nothing is claimed of it.
+    /// Whether the file selects by an interval and a fold is worth its cost. It decides speed
+    /// alone: nothing is claimed of it.
     pub fn is_spent(&self, file: FileId) -> bool {
         self.filed.shelf.is_spent(file.0)
     }

@@ -4,7 +4,7 @@ use Rattle.ncq_shelf.proofs.CallerLemmas.{put_same}
 use Rattle.ncq_count.proofs.CallerLemmas.{counted_again, one_changed}
 use Rattle.ncq_group.specs.Inside.{table_of}
 use Rattle.ncq_group.specs.Tables.{TableState}
-use Rattle.ncq_group.proofs.CompactLaws.{facts_compacted}
+use Rattle.ncq_group.proofs.CompactLaws.{facts_compacted, is_settled}
 use Rattle.ncq_group.proofs.table.GroupTable.compact.Goals as goal
 
 pub invariant_of-self-2 : goal.invariant_of-self-2
@@ -26,3 +26,11 @@ returns-clause-ok c = λ kept at.
 
 pub returns-clause-rows : goal.returns-clause-rows
 returns-clause-rows c = λ kept at. c.in_ok-compact.ensures.rows kept (subst (λ (t : TableState). get t.files c.args.file.0 ≡ Some kept) (sym c.self.view_is) at)
+
+pub returns-clause-settled : goal.returns-clause-settled
+returns-clause-settled c =
+    let old = table_of c.self.inside.filed c.self.inside.number in
+    let kept = c.requires.there.file in
+    let at : get old.files c.args.file.0 ≡ Some kept = subst (λ (t : TableState). get t.files c.args.file.0 ≡ Some kept) (sym c.self.view_is) c.requires.there.at in
+    is_settled old.files c.compact.new.self c.args.file.0 c.args.change kept (c.requires.last kept c.requires.there.at) (c.in_ok-compact.ensures.ok kept at) (c.in_ok-compact.ensures.rows kept at)
+    (c.in_ok-compact.ensures.ranged kept at)
