@@ -25,7 +25,7 @@ use Rattle.ncq_midfile.specs.Views.{losses_above}
 use Rattle.ncq_midfile.specs.declared.signed.SignedRow.{SignedRow}
 use Rattle.ncq_midfile.proofs.CountsLaws.{losses_above_is}
 use Rattle.ncq_midfile.proofs.Parts.{signed_more}
-use Rattle.ncq_shelf.specs.Contents.{AreFolded, IsRaised, cut_to}
+use Rattle.ncq_shelf.specs.Contents.{AreFolded, IsRaised, IsUpTo, cut_to}
 use Rattle.ncq_shelf.specs.KeptFiles.{AtFile, EachFile, Files, KeptFile}
 use Rattle.ncq_shelf.specs.Stands.{IsThere}
 use Rattle.ncq_shelf.proofs.CallerLemmas.{put_same, put_other, there, one_value}
@@ -223,11 +223,16 @@ bounds_more files before after up known number file at =
     let no_less = up number in
     elim (known number file at) [ inl low ↦ inl (omega arith) | inr worn ↦ inr (omega arith) ]
 
--- a file that counts as worn is another
-pub bounds_put : (files : Files) (number : ℕ) (next : KeptFile) (bounds : Bounds) → 64 ≤ bound_of number bounds → AreBounds files bounds → AreBounds (insert files number next) bounds
-bounds_put files number next bounds worn known other file at = elim (cases_eq other number) [
-  | inl same ↦ inr (subst (λ n. 64 ≤ bound_of n bounds) (sym same) worn)
-  | inr differs ↦ known other file (sym (put_other files number next other differs) ∙ at)
+-- a file is another, none of whose rows is above its base
+pub bounds_settled : (files : Files) (number base : ℕ) (next : KeptFile) → next.content.base ≡ base → IsUpTo base next.content
+    → (before after : Bounds) → ((other : ℕ) → other ≢ number → bound_of other after ≡ bound_of other before) → AreBounds files before → AreBounds (insert files number next) after
+bounds_settled files number base next is settled before after others known other file at = elim (cases_eq other number) [
+  | inl here ↦
+      let same : file ≡ next = one_value (subst (λ n. get (insert files number next) n ≡ Some file) here at) (put_same files number next) in
+      let none : losses_of file ≡ 0 = ap losses_of same ∙ none_lost next.content.base next.content.rows (subst (λ n. AllByRecursion (λ r. r.number ≤ n) next.content.rows) (sym is) settled.last) in
+      inl (omega arith)
+  | inr differs ↦
+      subst (λ b. (losses_of file ≤ b) ⊎ (64 ≤ b)) (sym (others other differs)) (known other file (sym (put_other files number next other differs) ∙ at))
 ]
 
 -- what is known of files is the same

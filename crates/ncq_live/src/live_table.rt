@@ -237,13 +237,7 @@ impl LiveTable {
         self.groups.facts();
         let before = self.groups.mark();
         let fed = self.groups.feed(alloc, change, store, steps)?;
-        match wear_out(
-            alloc,
-            &self.groups,
-            &mut self.wear,
-            fed.as_slice(),
-            before.number,
-        ) {
+        match wear_out(&self.groups, &mut self.wear, fed.as_slice(), before.number) {
             Ok(()) => Ok(fed),
             Err(AllocError) => {
                 self.groups.roll_back(before);
@@ -254,8 +248,9 @@ impl LiveTable {
 
     /// The numbers of the files that may be worn, each of a file that is there: those of which 64
     /// rows or more went out above their base, and that no timer pins, are among them. Others are
-    /// where fewer went out, but a third of the rows or more, or where a fold is worth its cost. This
-    /// changes nothing that is seen.
+    /// where a fold is worth its cost, or where fewer went out, but a third of the rows or more:
+    /// such files wait until more than 512 rows went out of all that wait. This changes nothing
+    /// that is seen.
     pub fn worn(&mut self, alloc: Global) -> Result<Sequence<u64>, AllocError>
         ensures worn { IfOk result (HasTheWorn self.old.table.files self.old.subscriptions) }
         ensures there { IfOk result (AllByRecursion (IsThere self.old.table.files)) }
@@ -293,7 +288,7 @@ impl LiveTable {
         losses
     }
 
-    /// Makes a change the base of a file, and looks anew at how worn it is. After an error the live
+    /// Makes a change the base of a file, which is then worn no more. After an error the live
     /// table is as it was. The only error is that memory ran out.
     pub fn compact(&mut self, alloc: Global, number: u64, change: u64) -> Result<(), AllocError>
         requires there { IsThere self.old.table.files number }
@@ -315,16 +310,15 @@ impl LiveTable {
         ensures instant { self.new.instant ≡ self.old.instant }
         ensures err { OnErr result (self.new ≡ self.old) }
     {
-        // Until it is looked at, the file counts as worn, and as one that no timer pins.
-        self.wear.raise(number, LOSSES, LOSSES)?;
-        self.wear.unpin(number)?;
         self.groups.compact(alloc, FileId(number), change)?;
-        self.recount(number);
+        // No row is left above the base, so none went out above it, and no timer is behind one.
+        self.wear.lower(number, 0);
         Ok(())
     }
 
-    /// Makes a change the base of a file that selects by an interval, which keeps its rows, and looks
-    /// anew at how worn it is; another file stays as it is. It takes no memory.
+    /// Makes a change the base of a file that selects by an interval, which keeps its rows, and
+    /// looks anew at how worn it is; another file stays as it is. No want of memory keeps it from
+    /// that.
     pub fn raise_base(&mut self, number: u64, change: u64)
         requires there { IsThere self.old.table.files number }
         requires base { AtFile self.old.table.files number (λ kept. kept.content.base ≤ change) }
@@ -342,9 +336,9 @@ impl LiveTable {
     }
 
     /// Where the file selects by an interval: of the rows that it shares with all that select so by
-    /// the slot of the input, pairs of equal ones are struck out, one that came in and one that went
-    /// out, both up to the base of each that takes the row. After an error the live table is as it
-    /// was. The only error is that memory ran out.
+    /// the slot of the input, pairs of equal ones are struck out, one that came in and one that
+    /// went out, both up to the base of each that takes the row. After an error the live table is
+    /// as it was. The only error is that memory ran out.
     pub fn fold(&mut self, alloc: Global, number: u64) -> Result<(), AllocError>
         requires { IsThere self.old.table.files number }
         ensures ok { OnOk result (AreFolded self.old.table.files self.new.table.files) }
@@ -427,7 +421,6 @@ fn those_there(
 /// Notes of each of the files the rows that went out after a change. After an error nothing that
 /// was known is lost.
 fn wear_out(
-    alloc: Global,
     groups: &GroupTable,
     wear: &mut Wear,
     fed: &[u64],
@@ -444,10 +437,11 @@ fn wear_out(
 {
     let mut spent = None;
     for file in fed {
-        let is_spent = wear_one(alloc, groups, wear, *file, number)?;
+        let is_spent = wear_one(groups, wear, *file, number)?;
         spent = last_spent(spent, *file, is_spent);
     }
-    list_spent(wear, spent)
+    list_spent(wear, spent)?;
+    wear.list_waiting(groups)
 }
 
 /// The later one of two files whose shared rows are worth a fold: one of a group is enough.
@@ -467,9 +461,9 @@ fn list_spent(wear: &mut Wear, spent: Option<u64>) -> Result<(), AllocError>
 }
 
 /// Notes of a file, if it is there, the rows that went out after a change. It tells whether so many
-/// rows of its group went out that a fold is worth its cost, at as many intervals as there are files.
+/// rows of its group went out that a fold is worth its cost, at as many intervals as there are
+/// files.
 fn wear_one(
-    alloc: Global,
     groups: &GroupTable,
     wear: &mut Wear,
     number: u64,
@@ -488,33 +482,26 @@ fn wear_one(
         return Ok(false);
     }
     let view = groups.file(file);
-    let losses = losses_since(alloc, &view, change)?;
-    wear.raise(number, losses, view.len() as u64)?;
+    let losses = view.losses(change) as u64;
+    wear.raise(number, losses, own_rows(&view))?;
     Ok(is_spent(&view, groups.files()))
 }
 
-/// Whether the rows of a view are shared, and so many went out since the last fold that one is worth
-/// its cost, where `more` is what it costs besides the rows.
+/// How many signed rows a file has of its own.
+fn own_rows(view: &View<'_>) -> Option<u64> {
+    match view {
+        View::Whole(_) => Some(view.len() as u64),
+        View::Ranged { .. } => None,
+    }
+}
+
+/// Whether the rows of a view are shared, and so many went out since the last fold that one is
+/// worth its cost, where `more` is what it costs besides the rows.
 fn is_spent(view: &View<'_>, more: usize) -> bool {
     match view {
         View::Whole(_) => false,
         View::Ranged { file, .. } => file.is_spent(more),
     }
-}
-
-/// How many rows of a view went out above `n`. Only rows above `n` are looked at.
-fn losses_since(alloc: Global, view: &View<'_>, n: u64) -> Result<u64, AllocError>
-    requires { (shown view.now).base ≤ n }
-    ensures { IfOk result (λ losses. losses ≡ losses_above n (shown view.now).rows) }
-{
-    let places = view.since(alloc, n)?;
-    let mut losses = 0;
-    for place in places.as_slice() {
-        if !view.signed(*place).plus {
-            losses += 1;
-        }
-    }
-    Ok(losses)
 }
 
 /// The greatest number of the rows of a view, if it is above the base, and else 0: whoever was told

@@ -1,10 +1,11 @@
 //! How many rows files may have lost above their bases.
-ghost use Rattle.std.specs.Prelude.{◌≡◌, ◌+◌, ◌≤◌, ◌≢◌, ◌⊎◌, ℕ, [], true, false, min, is_some};
-ghost use Rattle.std.specs.Prelude.{OnOk, IsTrue};
+ghost use Rattle.std.specs.Prelude.{◌≡◌, ◌+◌, ◌<◌, ◌≤◌, ◌≢◌, ◌⊎◌, ℕ, [], true, false, min, is_some};
+ghost use Rattle.std.specs.Prelude.{OnOk};
 ghost use Rattle.std.specs.FinMap.{get};
 ghost use Rattle.ncq_shelf.specs.KeptFiles.{EachFile};
 ghost use Rattle.ncq_live.specs.Wears.{bound_of, is_among, KnowsTheWorn, PinsNoMore};
 
+use crate::waiting::Waiting;
 use indexmap::IndexMap;
 use ncq_base::FileId;
 use ncq_group::GroupTable;
@@ -15,18 +16,21 @@ use std::marker::Model;
 /// So many rows that went out above its base make a file worn.
 pub const LOSSES: u64 = 64;
 
-/// Where one in so many of its rows went out above its base, a file is listed before it is worn.
+/// Where one in so many of its rows went out above its base, a file waits to be listed before it is
+/// worn.
 const SHARE: u64 = 3;
 
 /// For each file a number, and the files whose numbers are those of worn ones: each is listed among
-/// the worn, or is pinned, so that it is not told of; others may be listed too. Where the pinned are
-/// loose they do not count as pinned any more, but still stand apart. Contracts see the numbers by
-/// file, where one that is not there has 0, the worn, and the files that count as pinned.
+/// the worn, or is pinned, so that it is not told of; others may be listed too, such as have
+/// waited. Where the pinned are loose they do not count as pinned any more, but still stand apart.
+/// Contracts see the numbers by file, where one that is not there has 0, the worn, and the files
+/// that count as pinned.
 pub(crate) struct Wear {
     bounds: IndexMap<u64, u64>,
     worn: BTreeSet<u64>,
     pinned: BTreeSet<u64>,
     is_loose: bool,
+    waiting: Waiting,
 }
 
 impl Drop for Wear {
@@ -36,10 +40,12 @@ impl Drop for Wear {
             worn,
             pinned,
             is_loose: _,
+            waiting,
         } = self;
         drop(bounds);
         drop(worn);
         drop(pinned);
+        drop(waiting);
     }
 }
 
@@ -71,12 +77,19 @@ impl Wear {
             worn: BTreeSet::new(alloc),
             pinned: BTreeSet::new(alloc),
             is_loose: false,
+            waiting: Waiting::new(alloc),
         }
     }
 
-    /// So many more rows of the file went out, of which so many signed rows stand. After an error no
-    /// number is lower than it was.
-    pub(crate) fn raise(&mut self, file: u64, losses: u64, size: u64) -> Result<(), AllocError>
+    /// So many more rows of the file went out. Where it has signed rows of its own, here with their
+    /// count, and lost no small part of them, it waits. After an error no number is lower than it
+    /// was.
+    pub(crate) fn raise(
+        &mut self,
+        file: u64,
+        losses: u64,
+        size: Option<u64>,
+    ) -> Result<(), AllocError>
         ensures more { (other : ℕ)
             → bound_of other self.old.bounds ≤ bound_of other self.new.bounds }
         ensures here { OnOk result
@@ -84,12 +97,36 @@ impl Wear {
             ⊎ (64 ≤ bound_of file self.new.bounds)) }
         ensures pinned { self.new.pinned ≡ self.old.pinned }
     {
+        if losses == 0 {
+            return Ok(());
+        }
         let bound = self.bounds.get(&file).copied().unwrap_or(0);
         let more = bound.saturating_add(losses);
-        if is_listed(more, losses, size) && !self.pinned.contains(&file) {
-            self.worn.insert(file)?;
+        if more >= LOSSES {
+            if !self.pinned.contains(&file) {
+                self.worn.insert(file)?;
+            }
+        } else if is_large(more, size) {
+            self.waiting.put(file, more)?;
         }
         self.bounds.insert(file, more)?;
+        Ok(())
+    }
+
+    /// Lists files that have waited, as long as more rows went out of such files than are let
+    /// stand, but for those that are gone.
+    pub(crate) fn list_waiting(&mut self, groups: &GroupTable) -> Result<(), AllocError>
+        ensures bounds { self.new.bounds ≡ self.old.bounds }
+        ensures pinned { self.new.pinned ≡ self.old.pinned }
+    {
+        for _ in 0..self.waiting.len() {
+            let Some(file) = self.waiting.next() else {
+                return Ok(());
+            };
+            if is_there(groups, file) {
+                self.worn.insert(file)?;
+            }
+        }
         Ok(())
     }
 
@@ -109,8 +146,10 @@ impl Wear {
         ensures others { (other : ℕ) → other ≢ file
             → bound_of other self.new.bounds ≡ bound_of other self.old.bounds }
         ensures pinned { PinsNoMore self.old self.new }
+        ensures free { losses < 64 → is_among file self.new.pinned ≡ false }
     {
         cap(&mut self.bounds, file, losses);
+        self.waiting.take(file);
         if losses < LOSSES {
             self.worn.remove(&file);
             self.pinned.remove(&file);
@@ -141,17 +180,6 @@ impl Wear {
         // It comes in before it goes out, so that an error loses nothing.
         self.pinned.insert(file)?;
         self.worn.remove(&file);
-        Ok(())
-    }
-
-    /// The file does not count as pinned any more, and is among the worn.
-    pub(crate) fn unpin(&mut self, file: u64) -> Result<(), AllocError>
-        ensures bounds { self.new.bounds ≡ self.old.bounds }
-        ensures ok { OnOk result (is_among file self.new.pinned ≡ false) }
-        ensures pinned { PinsNoMore self.old self.new }
-    {
-        self.worn.insert(file)?;
-        self.pinned.remove(&file);
         Ok(())
     }
 
@@ -186,12 +214,12 @@ impl Wear {
     }
 }
 
-/// Whether a file is to be looked at of which so many rows went out, these last ones among them, and
-/// so many signed rows stand: it is worn, or what went out is no small part of it.
-fn is_listed(all: u64, last: u64, size: u64) -> bool
-    ensures { 64 ≤ all → IsTrue result }
-{
-    all >= LOSSES || (last > 0 && all.saturating_mul(SHARE) >= size)
+/// Whether so many rows that went out are no small part of so many signed rows.
+fn is_large(losses: u64, size: Option<u64>) -> bool {
+    match size {
+        Some(size) => losses.saturating_mul(SHARE) >= size,
+        None => false,
+    }
 }
 
 /// The number of the file is this one at most. It takes no memory.

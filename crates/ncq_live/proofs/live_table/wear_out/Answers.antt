@@ -16,6 +16,6 @@ loop-file-preserved c = record {
 pub returns-clause-fed : goal.returns-clause-fed
 returns-clause-fed c =
     let end = c.loop-file-test.false in
-    on_ok c.list_spent.result
-    (subst (λ (b : Bounds). AreNoted c.args.groups.now.files c.args.number c.args.wear.now.bounds b c.args.fed.now) (sym c.list_spent.ensures.bounds)
+    on_ok c.list_waiting.result
+    (subst (λ (b : Bounds). AreNoted c.args.groups.now.files c.args.number c.args.wear.now.bounds b c.args.fed.now) (sym (c.list_waiting.ensures.bounds ∙ c.list_spent.ensures.bounds))
     (subst (AreNoted c.args.groups.now.files c.args.number c.args.wear.now.bounds c.loop-file.wear.bounds) (take_all c.loop-file.file-index c.args.fed.now (omega arith)) c.loop-file.invariant.noted))

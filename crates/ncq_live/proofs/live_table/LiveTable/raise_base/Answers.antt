@@ -1,4 +1,4 @@
-use Rattle.std.proofs.Common.{◌≡◌, ◌∙◌, List, sym, ap, subst}
+use Rattle.std.proofs.Common.{◌≡◌, ◌∙◌, List, ap}
 use Rattle.std.specs.Prelude.{Some}
 use Rattle.std.specs.FinMap.{get, insert}
 use Rattle.ncq_shelf.specs.KeptFiles.{Files}
