@@ -409,8 +409,8 @@ impl Engine {
         self.make_change(alloc, sections, handlers, out, steps)
     }
 
-    /// Compacts the files that are worn, and folds the rows that such files share with others, where
-    /// that is worth its cost. Where memory runs out, a part of this is done.
+    /// Compacts the files that are worn, and folds the rows that such files share with others,
+    /// where that is worth its cost. Where memory runs out, a part of this is done.
     fn compact_worn(&mut self, alloc: Global) -> Result<(), AllocError>
         ensures follows { OfFollowed self.old (Follows self.new) }
         ensures same { self.new ≡ record self.old { table = self.new.table } }
