@@ -294,8 +294,9 @@ fn expect_noted(rt: &impl Abort, book: &mut Book) {
     assert!(rt; book.len() == 3);
 }
 
-fn expect_removed(rt: &impl Abort, alloc: Global, book: &mut Book) -> Result<(), AllocError>
+fn expect_gone(rt: &impl Abort, alloc: Global, book: &mut Book) -> Result<(), AllocError>
     requires { AllByRecursion (λ m. m.install < 4) book.old.subscriptions }
+    ensures { OnOk result (AllByRecursion (λ m. m.install < 4) book.new.subscriptions) }
 {
     assert!(rt; take(alloc, book, "changes")?);
     assert!(rt; !take(alloc, book, "changes")?);
@@ -306,18 +307,39 @@ fn expect_removed(rt: &impl Abort, alloc: Global, book: &mut Book) -> Result<(),
         book,
         &[(&[7], &[3]), (&[9, 7], &[3]), (&[9], &[])],
     )?;
-    expect_expired(rt, alloc, book, &[(51, &[3])])?;
+    expect_expired(rt, alloc, book, &[(51, &[3])])
+}
+
+fn expect_new(rt: &impl Abort, alloc: Global, book: &mut Book) -> Result<(), AllocError>
+    requires { AllByRecursion (λ m. m.install < 4) book.old.subscriptions }
+{
     assert!(rt; put(alloc, book, 4, &CHANGES)?);
     assert!(rt; !put(alloc, book, 5, &CHANGES)?);
     assert!(rt; put(alloc, book, 6, &SHARER)?);
     expect_watchers(rt, alloc, book, &[(&[7], &[3, 6]), (&[9, 7], &[3, 4, 6])])
 }
 
-fn expect_left(rt: &impl Abort, alloc: Global, book: &mut Book) -> Result<(), AllocError> {
+fn expect_removed(rt: &impl Abort, alloc: Global, book: &mut Book) -> Result<(), AllocError>
+    requires { AllByRecursion (λ m. m.install < 4) book.old.subscriptions }
+{
+    expect_gone(rt, alloc, book)?;
+    expect_new(rt, alloc, book)
+}
+
+/// Takes the subscription of the number away, and tells whether it was there.
+fn is_taken(book: &mut Book, install: u64) -> bool {
+    book.take(install).is_some()
+}
+
+fn expect_taken(rt: &impl Abort, book: &mut Book) {
     for install in &[4, 6, 1] {
-        assert!(rt; book.take(*install).is_some());
+        assert!(rt; is_taken(book, *install));
     }
-    assert!(rt; book.take(2).is_none());
+    assert!(rt; !is_taken(book, 2));
+}
+
+fn expect_left(rt: &impl Abort, alloc: Global, book: &mut Book) -> Result<(), AllocError> {
+    expect_taken(rt, book);
     assert!(rt; book.len() == 1 && book.get(3).is_some());
     expect_watchers(rt, alloc, book, &[(&[7, 9], &[3])])?;
     expect_due(rt, alloc, book, &[(99, &[(30, 3)])])

@@ -15,7 +15,7 @@ use super::making::value_shape;
 use super::views::{range_of, view_of};
 use ncq_base::{End, Interval, Op, Steps, atom_of, bytes_of};
 use ncq_callback::Entries;
-use ncq_midfile::View;
+use ncq_midfile::{MidFile, RangeFile, View};
 use ncq_news::news;
 use ncq_plan::{
     Arm, Arms, EqualTos, NormalQuery, Pairs, Side, SlotAttributes, SlotTemplate, SlotTemplates,
@@ -44,7 +44,14 @@ const B: &str = "(R\n-b\n)R\n";
 const C: &str = "(R\n-c\n)R\n";
 
 /// How many rows of the history have come, the mark, the number of changes, and what is told.
-const FIRINGS: [(usize, Option<u64>, u64, &[(bool, u64, &str)]); 14] = [
+type Firing = (
+    usize,
+    Option<u64>,
+    u64,
+    &'static [(bool, u64, &'static str)],
+);
+
+const FIRINGS: [Firing; 14] = [
     // Nothing came.
     (0, None, 0, &[]),
     (0, Some(0), 3, &[]),
@@ -197,23 +204,83 @@ fn are_entries(entries: &Entries, want: &[(bool, u64, &str)]) -> bool {
     true
 }
 
+/// Whether this is told of the view.
+fn tells(
+    alloc: Global,
+    view: &View<'_>,
+    mark: Option<u64>,
+    now: u64,
+    want: &[(bool, u64, &str)],
+) -> Result<bool, AllocError>
+    requires sound { IsSound (shown view.now).rows }
+    requires wide { AllByRecursion (λ r. length r.row ≡ 1) (rows_below view.now) }
+{
+    let entries = told(alloc, view, mark, now)?;
+    Ok(are_entries(&entries, want))
+}
+
+/// Whether a firing tells what was worked out.
+fn is_right<L: Ledger>(
+    alloc: Global,
+    firing: &Firing,
+    steps: &mut Steps<L>,
+) -> Result<bool, AllocError> {
+    let (come, mark, now, want) = firing;
+    let history = &HISTORY[..(*come).min(HISTORY.len())];
+    let file = file_of(alloc, history, HISTORY.len(), steps)?;
+    tells(alloc, &View::Whole(&file), *mark, *now, want)
+}
+
+/// How many of the firings tell what was worked out, up to the first that does not.
+fn firings_told<L: Ledger>(alloc: Global, steps: &mut Steps<L>) -> Result<usize, AllocError> {
+    let all = &FIRINGS;
+    for at in 0..all.len() {
+        if !is_right(alloc, &all[at], steps)? {
+            return Ok(at);
+        }
+    }
+    Ok(all.len())
+}
+
 /// How many of the firings tell what was worked out, up to the first that does not.
 fn right_firings<L: Ledger>(rt: &HostRuntime, blank: Blank) -> Result<usize, AllocError>
     requires name { blank.name ≡ L.name }
     requires parts { blank.parts ≡ L.parts }
     requires some { 0 < L.parts }
 {
-    let alloc = rt.alloc();
     let mut steps = Steps::<L>::new(rt, blank);
-    for at in 0..FIRINGS.len() {
-        let (come, mark, now, want) = FIRINGS[at];
-        let history = &HISTORY[..come.min(HISTORY.len())];
-        let file = file_of(alloc, history, HISTORY.len(), &mut steps)?;
-        if !are_entries(&told(alloc, &View::Whole(&file), mark, now)?, want) {
+    firings_told(rt.alloc(), &mut steps)
+}
+
+/// How many of the parts tell what was worked out, up to the first that does not.
+fn parts_told(alloc: Global, whole: &MidFile, file: &RangeFile) -> Result<usize, AllocError>
+    requires whole_sound { IsSound whole.now.rows }
+    requires whole_one { AllByRecursion (λ r. length r.row ≡ 1) whole.now.rows }
+    requires sound { IsSound file.now.rows }
+    requires one { AllByRecursion (λ r. length r.row ≡ 1) file.now.rows }
+{
+    let all = &PARTS;
+    for at in 0..all.len() {
+        let (low, high, mark, want) = all[at];
+        let part = Some((Interval { low, high }, 0));
+        if !tells(alloc, &view_of(whole, file, &part), mark, 7, want)? {
             return Ok(at);
         }
     }
-    Ok(FIRINGS.len())
+    Ok(all.len())
+}
+
+/// How many of the parts of a range file with the numbers tell it.
+fn parts_of_numbers<L: Ledger>(
+    alloc: Global,
+    whole: &MidFile,
+    steps: &mut Steps<L>,
+) -> Result<usize, AllocError>
+    requires sound { IsSound whole.now.rows }
+    requires one { AllByRecursion (λ r. length r.row ≡ 1) whole.now.rows }
+{
+    let file = range_of(alloc, &NUMBERS, steps)?;
+    parts_told(alloc, whole, &file)
 }
 
 /// How many of the parts tell what was worked out, up to the first that does not.
@@ -222,19 +289,9 @@ fn right_parts<L: Ledger>(rt: &HostRuntime, blank: Blank) -> Result<usize, Alloc
     requires parts { blank.parts ≡ L.parts }
     requires some { 0 < L.parts }
 {
-    let alloc = rt.alloc();
     let mut steps = Steps::<L>::new(rt, blank);
-    let whole = file_of(alloc, &[], 0, &mut steps)?;
-    let file = range_of(alloc, &NUMBERS, &mut steps)?;
-    for at in 0..PARTS.len() {
-        let (low, high, mark, want) = PARTS[at];
-        let part = Some((Interval { low, high }, 0));
-        let view = view_of(&whole, &file, &part);
-        if !are_entries(&told(alloc, &view, mark, 7)?, want) {
-            return Ok(at);
-        }
-    }
-    Ok(PARTS.len())
+    let whole = file_of(rt.alloc(), &[], 0, &mut steps)?;
+    parts_of_numbers(rt.alloc(), &whole, &mut steps)
 }
 
 #[test]

@@ -1,6 +1,6 @@
 //! Rows of an interval, of whole files and of views that find them by their numbers, worked out by
 //! hand.
-ghost use Rattle.std.specs.Prelude.{◌≡◌, ◌<◌, ◌∷◌, [], length, IfOk};
+ghost use Rattle.std.specs.Prelude.{◌≡◌, ◌<◌, ◌∷◌, [], length, IfOk, OnOk};
 ghost use Rattle.std.specs.List.{AllByRecursion};
 ghost use Rattle.ncq_midfile.specs.Content.{IsSound};
 ghost use Rattle.ncq_midfile.specs.Matching.{HaveSlots};
@@ -11,8 +11,8 @@ use super::making::value_rows;
 use super::ranges::{ALL, add as add_text};
 use super::views::{BACK, BELOW_3, FROM_5, GAP, THREES, add};
 use ncq_base::{End, Interval, Steps};
-use ncq_midfile::{MidFile, RangeFile, View};
-use ncq_row::Row;
+use ncq_midfile::{MidFile, Places, RangeFile, View};
+use ncq_row::{Row, Rows};
 use std::alloc::{AllocError, Global};
 use std::marker::Brand;
 use std::sync::ledger::{Blank, Ledger};
@@ -32,8 +32,11 @@ const HISTORY: [(u8, u64, u64); 8] = [
     (b'3', 9, 0),
 ];
 
+/// An interval, a change, and places.
+type Asked = (Interval, u64, &'static [usize]);
+
 /// An interval, a change and the places of the rows of the interval that are left there.
-const FOUND: [(Interval, u64, &[usize]); 18] = [
+const FOUND: [Asked; 18] = [
     (THREES, 0, &[]),
     (THREES, 1, &[0]),
     (THREES, 5, &[0]),
@@ -57,7 +60,7 @@ const FOUND: [(Interval, u64, &[usize]); 18] = [
 
 /// An interval, a change above which all rows are taken away, and the places of the rows of the
 /// interval when 4 has come then.
-const AGAIN: [(Interval, u64, &[usize]); 8] = [
+const AGAIN: [Asked; 8] = [
     (THREES, 0, &[0]),
     (THREES, 1, &[0, 2]),
     (ALL, 1, &[0, 2]),
@@ -69,13 +72,15 @@ const AGAIN: [(Interval, u64, &[usize]); 8] = [
 ];
 
 /// An interval, a change that becomes the base, and the places of the rows of the interval then.
-const SETTLED: [(Interval, u64, &[usize]); 7] = [
+/// The pairs of a row that went and an equal one go from behind, and each time the last rows come
+/// to the two places: with 7 the rows are 3, `a`, 3, 4 and 5, with 9 they are 3, `a`, 3, 3 and 5.
+const SETTLED: [Asked; 7] = [
     (THREES, 0, &[]),
     (THREES, 4, &[0]),
     (FROM_5, 4, &[]),
     (ALL, 5, &[0, 2]),
-    (THREES, 7, &[0, 3, 4]),
-    (FROM_5, 7, &[2]),
+    (THREES, 7, &[0, 2, 3]),
+    (FROM_5, 7, &[4]),
     (ALL, 9, &[0, 2, 3, 4]),
 ];
 
@@ -155,78 +160,122 @@ fn is_found(
 /// rows are taken away.
 fn stays_found(
     alloc: Global,
-    mut file: MidFile,
+    file: &mut MidFile,
     interval: &Interval,
     n: u64,
     want: &[usize],
 ) -> Result<bool, AllocError>
-    requires sound { IsSound file.rows }
-    requires one { AllByRecursion (λ r. length r.row ≡ 1) file.rows }
-    requires wide { HaveSlots (0 ∷ []) file.rows }
+    requires sound { IsSound file.old.rows }
+    requires one { AllByRecursion (λ r. length r.row ≡ 1) file.old.rows }
+    requires wide { HaveSlots (0 ∷ []) file.old.rows }
 {
     if n < file.base() {
         return Ok(false);
     }
-    let found = is_found(alloc, &file, interval, n, want)?;
-    roll(&mut file, n);
-    let kept = is_found(alloc, &file, interval, n, want)?;
+    let found = is_found(alloc, file, interval, n, want)?;
+    roll(file, n);
+    let kept = is_found(alloc, file, interval, n, want)?;
     Ok(found && kept)
 }
 
 /// Whether the rows are found where all later ones are taken away and 4 comes then.
 fn is_found_again<L: Ledger>(
     alloc: Global,
-    mut file: MidFile,
+    file: &mut MidFile,
     interval: &Interval,
     n: u64,
     want: &[usize],
     steps: &mut Steps<L>,
 ) -> Result<bool, AllocError>
-    requires sound { IsSound file.rows }
-    requires one { AllByRecursion (λ r. length r.row ≡ 1) file.rows }
+    requires sound { IsSound file.old.rows }
+    requires one { AllByRecursion (λ r. length r.row ≡ 1) file.old.rows }
 {
     if n < file.base() {
         return Ok(false);
     }
-    roll(&mut file, n);
-    bring_again(alloc, &mut file, b'4', 10, steps)?;
-    is_found(alloc, &file, interval, 10, want)
+    roll(file, n);
+    bring_again(alloc, file, b'4', 10, steps)?;
+    is_found(alloc, file, interval, 10, want)
 }
 
 /// Whether the rows are found where the change is the base.
 fn is_settled(
     alloc: Global,
-    mut file: MidFile,
+    file: &mut MidFile,
     interval: &Interval,
     n: u64,
     want: &[usize],
 ) -> Result<bool, AllocError>
-    requires sound { IsSound file.rows }
-    requires one { AllByRecursion (λ r. length r.row ≡ 1) file.rows }
+    requires sound { IsSound file.old.rows }
+    requires one { AllByRecursion (λ r. length r.row ≡ 1) file.old.rows }
 {
     if n < file.base() {
         return Ok(false);
     }
-    settle(alloc, &mut file, n)?;
-    is_found(alloc, &file, interval, n, want)
+    settle(alloc, file, n)?;
+    is_found(alloc, file, interval, n, want)
+}
+
+/// Whether the rows stay found in a file with the history.
+fn stays_in<L: Ledger>(
+    alloc: Global,
+    asked: &Asked,
+    steps: &mut Steps<L>,
+) -> Result<bool, AllocError> {
+    let mut file = file_of(alloc, &HISTORY, HISTORY.len(), steps)?;
+    stays_found(alloc, &mut file, &asked.0, asked.1, asked.2)
+}
+
+/// Whether the rows are found again in a file with the history.
+fn comes_again_in<L: Ledger>(
+    alloc: Global,
+    asked: &Asked,
+    steps: &mut Steps<L>,
+) -> Result<bool, AllocError> {
+    let mut file = file_of(alloc, &HISTORY, HISTORY.len(), steps)?;
+    is_found_again(alloc, &mut file, &asked.0, asked.1, asked.2, steps)
+}
+
+/// Whether the rows are found in a file with the history that is settled.
+fn is_settled_in<L: Ledger>(
+    alloc: Global,
+    asked: &Asked,
+    steps: &mut Steps<L>,
+) -> Result<bool, AllocError> {
+    let mut file = file_of(alloc, &HISTORY, HISTORY.len(), steps)?;
+    is_settled(alloc, &mut file, &asked.0, asked.1, asked.2)
+}
+
+/// Whether the rows of `FOUND` are found.
+fn all_stay<L: Ledger>(alloc: Global, steps: &mut Steps<L>) -> Result<bool, AllocError> {
+    let mut right = true;
+    for asked in &FOUND {
+        right &= stays_in(alloc, asked, steps)?;
+    }
+    Ok(right)
+}
+
+/// Whether the rows of `AGAIN` are found.
+fn all_come_again<L: Ledger>(alloc: Global, steps: &mut Steps<L>) -> Result<bool, AllocError> {
+    let mut right = true;
+    for asked in &AGAIN {
+        right &= comes_again_in(alloc, asked, steps)?;
+    }
+    Ok(right)
+}
+
+/// Whether the rows of `SETTLED` are found.
+fn all_settled<L: Ledger>(alloc: Global, steps: &mut Steps<L>) -> Result<bool, AllocError> {
+    let mut right = true;
+    for asked in &SETTLED {
+        right &= is_settled_in(alloc, asked, steps)?;
+    }
+    Ok(right)
 }
 
 /// Whether all is found as was worked out.
 fn all_found<L: Ledger>(alloc: Global, steps: &mut Steps<L>) -> Result<bool, AllocError> {
-    let mut right = true;
-    for (interval, n, want) in FOUND {
-        let file = file_of(alloc, &HISTORY, HISTORY.len(), steps)?;
-        right = right && stays_found(alloc, file, &interval, n, want)?;
-    }
-    for (interval, n, want) in AGAIN {
-        let file = file_of(alloc, &HISTORY, HISTORY.len(), steps)?;
-        right = right && is_found_again(alloc, file, &interval, n, want, steps)?;
-    }
-    for (interval, n, want) in SETTLED {
-        let file = file_of(alloc, &HISTORY, HISTORY.len(), steps)?;
-        right = right && is_settled(alloc, file, &interval, n, want)?;
-    }
-    Ok(right)
+    Ok(all_stay(alloc, steps)? && all_come_again(alloc, steps)? && all_settled(alloc, steps)?)
 }
 
 /// Whether all is found as was worked out.
@@ -240,6 +289,38 @@ fn is_all_found<L: Ledger>(rt: &HostRuntime, blank: Blank) -> Result<bool, Alloc
     all_found(alloc, &mut steps)
 }
 
+/// The values of one row behind those of the other, where they are two.
+fn joined<L: Ledger>(
+    alloc: Global,
+    left: &Row,
+    right: &Row,
+    steps: &mut Steps<L>,
+) -> Result<Row, AllocError>
+    ensures { IfOk result (λ row. length row ≡ 2) }
+{
+    let row = left.join(alloc, right, steps)?;
+    if row.len() != 2 {
+        return Err(AllocError);
+    }
+    Ok(row)
+}
+
+/// The row of the value of the digit behind those of the rows, where they are one.
+fn with_second<L: Ledger>(
+    alloc: Global,
+    firsts: &Rows,
+    second: u8,
+    steps: &mut Steps<L>,
+) -> Result<Row, AllocError>
+    ensures { IfOk result (λ row. length row ≡ 2) }
+{
+    let seconds = value_rows(alloc, &[second], steps)?;
+    match (firsts.get(0), seconds.get(0)) {
+        (Some(left), Some(right)) => joined(alloc, left, right, steps),
+        _ => Err(AllocError),
+    }
+}
+
 /// The row of the values of two digits.
 fn pair<L: Ledger>(
     alloc: Global,
@@ -250,15 +331,42 @@ fn pair<L: Ledger>(
     ensures { IfOk result (λ row. length row ≡ 2) }
 {
     let firsts = value_rows(alloc, &[first], steps)?;
-    let seconds = value_rows(alloc, &[second], steps)?;
-    let (Some(left), Some(right)) = (firsts.get(0), seconds.get(0)) else {
-        return Err(AllocError);
-    };
-    let row = left.join(alloc, right, steps)?;
-    if row.len() != 2 {
-        return Err(AllocError);
+    with_second(alloc, &firsts, second, steps)
+}
+
+/// The pair comes with one change and goes with another.
+fn add_pair<L: Ledger>(
+    alloc: Global,
+    file: &mut RangeFile,
+    pair: (u8, u8),
+    come: u64,
+    go: u64,
+    steps: &mut Steps<L>,
+) -> Result<(), AllocError>
+    requires sound { IsSound file.old.rows }
+    requires two { AllByRecursion (λ r. length r.row ≡ 2) file.old.rows }
+    ensures sound { OnOk result (IsSound file.new.rows) }
+    ensures two { OnOk result (AllByRecursion (λ r. length r.row ≡ 2) file.new.rows) }
+{
+    let row = self::pair(alloc, pair.0, pair.1, steps)?;
+    add(alloc, file, &row, come, go, steps)
+}
+
+/// The pairs come and go.
+fn add_pairs<L: Ledger>(
+    alloc: Global,
+    file: &mut RangeFile,
+    steps: &mut Steps<L>,
+) -> Result<(), AllocError>
+    requires sound { IsSound file.old.rows }
+    requires two { AllByRecursion (λ r. length r.row ≡ 2) file.old.rows }
+    ensures sound { OnOk result (IsSound file.new.rows) }
+    ensures two { OnOk result (AllByRecursion (λ r. length r.row ≡ 2) file.new.rows) }
+{
+    for (first, second, come, go) in &PAIRS {
+        add_pair(alloc, file, (*first, *second), *come, *go, steps)?;
     }
-    Ok(row)
+    Ok(())
 }
 
 /// A range file with the pairs.
@@ -267,10 +375,7 @@ fn pairs<L: Ledger>(alloc: Global, steps: &mut Steps<L>) -> Result<RangeFile, Al
     ensures two { IfOk result (λ f. AllByRecursion (λ r. length r.row ≡ 2) f.rows) }
 {
     let mut file = RangeFile::new(alloc, 0);
-    for (first, second, come, go) in PAIRS {
-        let row = pair(alloc, first, second, steps)?;
-        add(alloc, &mut file, &row, come, go, steps)?;
-    }
+    add_pairs(alloc, &mut file, steps)?;
     Ok(file)
 }
 
@@ -297,38 +402,98 @@ fn is_within(
 }
 
 /// How many of the views have the rows that were worked out, up to the first that has not.
+fn within(alloc: Global, file: &RangeFile) -> Result<usize, AllocError>
+    requires sound { IsSound file.now.rows }
+    requires two { AllByRecursion (λ r. length r.row ≡ 2) file.now.rows }
+{
+    let all = &WITHIN;
+    for at in 0..all.len() {
+        let (outer, interval, n, want) = all[at];
+        if !is_within(alloc, file, &outer, &interval, n, want)? {
+            return Ok(at);
+        }
+    }
+    Ok(all.len())
+}
+
+/// How many of the views have the rows that were worked out, up to the first that has not.
 fn right_pairs<L: Ledger>(rt: &HostRuntime, blank: Blank) -> Result<usize, AllocError>
     requires name { blank.name ≡ L.name }
     requires parts { blank.parts ≡ L.parts }
     requires some { 0 < L.parts }
 {
-    let alloc = rt.alloc();
     let mut steps = Steps::<L>::new(rt, blank);
-    let file = pairs(alloc, &mut steps)?;
-    for at in 0..WITHIN.len() {
-        let (outer, interval, n, want) = WITHIN[at];
-        if !is_within(alloc, &file, &outer, &interval, n, want)? {
+    let file = pairs(rt.alloc(), &mut steps)?;
+    within(rt.alloc(), &file)
+}
+
+/// 3 comes with 1, 4 comes with 2 and goes with 3.
+fn add_few<L: Ledger>(
+    alloc: Global,
+    file: &mut RangeFile,
+    steps: &mut Steps<L>,
+) -> Result<(), AllocError> {
+    add_text(alloc, file, "3", 1, true, steps)?;
+    add_text(alloc, file, "4", 2, true, steps)?;
+    add_text(alloc, file, "4", 3, false, steps)
+}
+
+/// So many numbers come with 5.
+fn add_many<L: Ledger>(
+    alloc: Global,
+    file: &mut RangeFile,
+    count: usize,
+    steps: &mut Steps<L>,
+) -> Result<(), AllocError> {
+    for text in LARGE.iter().take(count) {
+        add_text(alloc, file, text, 5, true, steps)?;
+    }
+    Ok(())
+}
+
+/// The places of the rows of `THREES` above the change.
+fn threes_since(alloc: Global, file: &RangeFile, n: u64) -> Result<Places, AllocError> {
+    let view = View::Ranged {
+        file,
+        interval: &THREES,
+        base: 0,
+    };
+    view.since(alloc, n)
+}
+
+/// Whether these are the places of the rows of `THREES` above the change.
+fn are_since(alloc: Global, file: &RangeFile, n: u64, want: &[usize]) -> Result<bool, AllocError> {
+    let places = threes_since(alloc, file, n)?;
+    Ok(places.as_slice() == want)
+}
+
+/// Whether they are in a range file in which 3 came with 1, 4 came with 2 and went with 3, and so
+/// many numbers came with 5.
+fn are_since_in<L: Ledger>(
+    alloc: Global,
+    file: &mut RangeFile,
+    count: usize,
+    n: u64,
+    want: &[usize],
+    steps: &mut Steps<L>,
+) -> Result<bool, AllocError> {
+    add_few(alloc, file, steps)?;
+    add_many(alloc, file, count, steps)?;
+    are_since(alloc, file, n, want)
+}
+
+/// How many of the files have the rows above the change that were worked out, up to the first that
+/// has not.
+fn since<L: Ledger>(alloc: Global, steps: &mut Steps<L>) -> Result<usize, AllocError> {
+    let all = &SINCE;
+    for at in 0..all.len() {
+        let (count, n, want) = all[at];
+        let mut file = RangeFile::new(alloc, 0);
+        if !are_since_in(alloc, &mut file, count, n, want, steps)? {
             return Ok(at);
         }
     }
-    Ok(WITHIN.len())
-}
-
-/// A range file in which 3 came with 1, 4 came with 2 and went with 3, and so many numbers came
-/// with 5.
-fn large<L: Ledger>(
-    alloc: Global,
-    count: usize,
-    steps: &mut Steps<L>,
-) -> Result<RangeFile, AllocError> {
-    let mut file = RangeFile::new(alloc, 0);
-    add_text(alloc, &mut file, "3", 1, true, steps)?;
-    add_text(alloc, &mut file, "4", 2, true, steps)?;
-    add_text(alloc, &mut file, "4", 3, false, steps)?;
-    for text in LARGE.iter().take(count) {
-        add_text(alloc, &mut file, text, 5, true, steps)?;
-    }
-    Ok(file)
+    Ok(all.len())
 }
 
 /// How many of the files have the rows above the change that were worked out, up to the first that
@@ -338,21 +503,8 @@ fn right_since<L: Ledger>(rt: &HostRuntime, blank: Blank) -> Result<usize, Alloc
     requires parts { blank.parts ≡ L.parts }
     requires some { 0 < L.parts }
 {
-    let alloc = rt.alloc();
     let mut steps = Steps::<L>::new(rt, blank);
-    for at in 0..SINCE.len() {
-        let (count, n, want) = SINCE[at];
-        let file = large(alloc, count, &mut steps)?;
-        let view = View::Ranged {
-            file: &file,
-            interval: &THREES,
-            base: 0,
-        };
-        if view.since(alloc, n)?.as_slice() != want {
-            return Ok(at);
-        }
-    }
-    Ok(SINCE.len())
+    since(rt.alloc(), &mut steps)
 }
 
 #[test]

@@ -77,6 +77,28 @@ pub fn text_element(alloc: Global, name: &[u8], text: &[u8]) -> Result<Element, 
     element_with(alloc, name, children)
 }
 
+/// The rows of the shape in the element.
+fn plain_rows<L: Ledger>(
+    alloc: Global,
+    shape: &Shape,
+    element: &Element,
+    steps: &mut Steps<L>,
+) -> Result<Rows, AllocError> {
+    let mut rows = Rows::new(alloc);
+    match_shape(alloc, shape, element, &mut rows, steps)?;
+    Ok(rows)
+}
+
+/// The row of the value of the element.
+fn rows_of_value<L: Ledger>(
+    alloc: Global,
+    element: &Element,
+    steps: &mut Steps<L>,
+) -> Result<Rows, AllocError> {
+    let shape = value_shape(alloc, b"E")?;
+    plain_rows(alloc, &shape, element, steps)
+}
+
 /// The one row of the text in an element.
 pub fn value_rows<L: Ledger>(
     alloc: Global,
@@ -84,10 +106,48 @@ pub fn value_rows<L: Ledger>(
     steps: &mut Steps<L>,
 ) -> Result<Rows, AllocError> {
     let element = text_element(alloc, b"E", text)?;
-    let shape = value_shape(alloc, b"E")?;
+    rows_of_value(alloc, &element, steps)
+}
+
+/// The element, shared.
+pub fn shared(alloc: Global, element: &Element) -> Result<Shared<Written>, AllocError> {
+    let written = Written::new(alloc, element.copy(alloc)?)?;
+    Shared::new(alloc, written)
+}
+
+/// The rows of the shape in the element that is shared.
+fn shared_rows<L: Ledger>(
+    alloc: Global,
+    shape: &Shape,
+    element: &Shared<Written>,
+    steps: &mut Steps<L>,
+) -> Result<Rows, AllocError> {
     let mut rows = Rows::new(alloc);
-    match_shape(alloc, &shape, &element, &mut rows, steps)?;
+    match_written(alloc, shape, element, &mut rows, steps)?;
     Ok(rows)
+}
+
+/// The rows of the shape in the same element shared.
+fn sharing_rows<L: Ledger>(
+    alloc: Global,
+    shape: &Shape,
+    element: &Element,
+    steps: &mut Steps<L>,
+) -> Result<Rows, AllocError> {
+    let shared = shared(alloc, element)?;
+    shared_rows(alloc, shape, &shared, steps)
+}
+
+/// The rows of the shape in the element, and behind them those in the same element shared.
+fn both_rows<L: Ledger>(
+    alloc: Global,
+    shape: &Shape,
+    element: &Element,
+    steps: &mut Steps<L>,
+) -> Result<(Rows, Rows), AllocError> {
+    let rows = plain_rows(alloc, shape, element, steps)?;
+    let sharing = sharing_rows(alloc, shape, element, steps)?;
+    Ok((rows, sharing))
 }
 
 /// The rows of the shape in the element, and behind them those in the same element shared.
@@ -101,15 +161,8 @@ fn rows_in<L: Ledger>(
     requires parts { blank.parts ≡ L.parts }
     requires some { 0 < L.parts }
 {
-    let alloc = rt.alloc();
     let mut steps = Steps::<L>::new(rt, blank);
-    let mut rows = Rows::new(alloc);
-    match_shape(alloc, shape, element, &mut rows, &mut steps)?;
-    let written = Written::new(alloc, element.copy(alloc)?)?;
-    let mut sharing = Rows::new(alloc);
-    let shared = Shared::new(alloc, written)?;
-    match_written(alloc, shape, &shared, &mut sharing, &mut steps)?;
-    Ok((rows, sharing))
+    both_rows(rt.alloc(), shape, element, &mut steps)
 }
 
 /// The rows of the shape in the element, and in the same element shared.

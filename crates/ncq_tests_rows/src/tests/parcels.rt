@@ -1,7 +1,7 @@
 //! Splits of rows with one value each, worked out by hand.
 ghost use Rattle.std.specs.Prelude.{◌≡◌, ◌<◌, ◌≤◌, length, IfOk, OnOk};
 ghost use Rattle.std.specs.List.{AllByRecursion};
-ghost use Rattle.ncq_midfile.specs.Shown.{rows_below};
+ghost use Rattle.ncq_midfile.specs.Shown.{shown, rows_below};
 
 use super::histories::{fits, signed};
 use super::making::value_rows;
@@ -97,14 +97,27 @@ fn append_text<L: Ledger>(
     append(file, signed(alloc, number, plus, row, steps)?)
 }
 
+/// The rows of the table.
+fn append_rows<L: Ledger>(
+    alloc: Global,
+    file: &mut MidFile,
+    steps: &mut Steps<L>,
+) -> Result<(), AllocError>
+    requires { AllByRecursion (λ r. length r.row ≡ 1) file.old.rows }
+    ensures { OnOk result (AllByRecursion (λ r. length r.row ≡ 1) file.new.rows) }
+{
+    for (text, number, plus) in &ROWS {
+        append_text(alloc, file, text, *number, *plus, steps)?;
+    }
+    Ok(())
+}
+
 /// A file with the rows of the table.
 fn file_of_rows<L: Ledger>(alloc: Global, steps: &mut Steps<L>) -> Result<MidFile, AllocError>
     ensures { IfOk result (λ f. AllByRecursion (λ r. length r.row ≡ 1) f.rows) }
 {
     let mut file = MidFile::new(alloc, 0, Rows::new(alloc))?;
-    for (text, number, plus) in ROWS {
-        append_text(alloc, &mut file, text, number, plus, steps)?;
-    }
+    append_rows(alloc, &mut file, steps)?;
     Ok(file)
 }
 
@@ -186,6 +199,38 @@ fn intervals(alloc: Global) -> Result<RangeTable, AllocError> {
     Ok(table)
 }
 
+/// Whether the rows of the change give these parcels.
+fn is_split_equal<L: Ledger>(
+    alloc: Global,
+    table: &EqTable,
+    input: &View<'_>,
+    number: u64,
+    want: &[(u64, usize)],
+    steps: &mut Steps<L>,
+) -> Result<bool, AllocError>
+    requires base { (shown input.now).base < number }
+    requires one { AllByRecursion (λ r. length r.row ≡ 1) (rows_below input.now) }
+{
+    let parcels = split_equal(alloc, table, 0, input, number, steps)?;
+    are_parcels(alloc, &parcels, want, steps)
+}
+
+/// Whether these rows of the change are held.
+fn is_split_range<L: Ledger>(
+    alloc: Global,
+    table: &RangeTable,
+    input: &View<'_>,
+    number: u64,
+    want: &[usize],
+    steps: &mut Steps<L>,
+) -> Result<bool, AllocError>
+    requires base { (shown input.now).base < number }
+    requires one { AllByRecursion (λ r. length r.row ≡ 1) (rows_below input.now) }
+{
+    let rows = split_range(alloc, table, 0, input, number, steps)?;
+    are_rows(alloc, &rows, want, steps)
+}
+
 /// Whether the rows of the change give these parcels, and these rows are held.
 fn is_split<L: Ledger>(
     alloc: Global,
@@ -201,9 +246,42 @@ fn is_split<L: Ledger>(
     if input.base() >= number {
         return Ok(false);
     }
-    let equal = split_equal(alloc, tables.0, 0, input, number, steps)?;
-    let range = split_range(alloc, tables.1, 0, input, number, steps)?;
-    Ok(are_parcels(alloc, &equal, parcels, steps)? && are_rows(alloc, &range, held, steps)?)
+    Ok(
+        is_split_equal(alloc, tables.0, input, number, parcels, steps)?
+            && is_split_range(alloc, tables.1, input, number, held, steps)?,
+    )
+}
+
+/// How many of the splits give what was worked out, up to the first that does not.
+fn splits<L: Ledger>(
+    alloc: Global,
+    tables: (&EqTable, &RangeTable),
+    file: &MidFile,
+    steps: &mut Steps<L>,
+) -> Result<usize, AllocError>
+    requires { AllByRecursion (λ r. length r.row ≡ 1) file.now.rows }
+{
+    let all = &SPLITS;
+    for at in 0..all.len() {
+        let (number, parcels, held) = all[at];
+        let view = View::Whole(file);
+        if !is_split(alloc, tables, &view, number, parcels, held, steps)? {
+            return Ok(at);
+        }
+    }
+    Ok(all.len())
+}
+
+/// How many of the splits by the tables give it.
+fn splits_by<L: Ledger>(
+    alloc: Global,
+    file: &MidFile,
+    steps: &mut Steps<L>,
+) -> Result<usize, AllocError>
+    requires { AllByRecursion (λ r. length r.row ≡ 1) file.now.rows }
+{
+    let (constants, intervals) = (constants(alloc)?, intervals(alloc)?);
+    splits(alloc, (&constants, &intervals), file, steps)
 }
 
 /// How many of the splits give what was worked out, up to the first that does not.
@@ -212,19 +290,9 @@ fn right_splits<L: Ledger>(rt: &HostRuntime, blank: Blank) -> Result<usize, Allo
     requires parts { blank.parts ≡ L.parts }
     requires some { 0 < L.parts }
 {
-    let alloc = rt.alloc();
     let mut steps = Steps::<L>::new(rt, blank);
-    let file = file_of_rows(alloc, &mut steps)?;
-    let (constants, intervals) = (constants(alloc)?, intervals(alloc)?);
-    let tables = (&constants, &intervals);
-    for at in 0..SPLITS.len() {
-        let (number, parcels, held) = SPLITS[at];
-        let view = View::Whole(&file);
-        if !is_split(alloc, tables, &view, number, parcels, held, &mut steps)? {
-            return Ok(at);
-        }
-    }
-    Ok(SPLITS.len())
+    let file = file_of_rows(rt.alloc(), &mut steps)?;
+    splits_by(rt.alloc(), &file, &mut steps)
 }
 
 #[test]

@@ -11,6 +11,7 @@ use ncq_midfile::{RangeFile, SignedRow, View};
 use ncq_row::Row;
 use std::alloc::{AllocError, Global};
 use std::marker::Brand;
+use std::process::Abort;
 use std::sync::ledger::{Blank, Ledger};
 use std::test::Fail;
 
@@ -282,11 +283,21 @@ pub fn add<L: Ledger>(
 }
 
 /// Rows are found by their number from now on.
-pub fn keep_index(alloc: Global, file: &mut RangeFile) -> Result<(), AllocError>
+fn keep_index(alloc: Global, file: &mut RangeFile) -> Result<(), AllocError>
     ensures { file.new ≡ file.old }
 {
     let slot = file.slot();
     file.ensure_index(alloc, &[slot])
+}
+
+/// Rows are found by their number from now on, where that is wanted.
+pub fn index_if(alloc: Global, file: &mut RangeFile, wanted: bool) -> Result<(), AllocError>
+    ensures { file.new ≡ file.old }
+{
+    if wanted {
+        return keep_index(alloc, file);
+    }
+    Ok(())
 }
 
 /// The least of the bounds of the intervals that hold the row.
@@ -321,6 +332,18 @@ fn fold(alloc: Global, file: &mut RangeFile, bounds: &[(Interval, u64)]) -> Resu
     file.fold(alloc, each.as_slice())
 }
 
+/// The rows of the interval go that none of the standing ones holds.
+fn keep_standing(
+    alloc: Global,
+    file: &mut RangeFile,
+    gone: &Interval,
+    standing: &[Interval],
+) -> Result<(), AllocError> {
+    let table = table_of(alloc, standing)?;
+    file.keep_without(gone, &table);
+    Ok(())
+}
+
 /// The turn is taken.
 fn take_turn<L: Ledger>(
     alloc: Global,
@@ -329,16 +352,13 @@ fn take_turn<L: Ledger>(
     steps: &mut Steps<L>,
 ) -> Result<(), AllocError> {
     match turn {
-        Turn::Add(text, number, plus) => add(alloc, file, text, *number, *plus, steps)?,
+        Turn::Add(text, number, plus) => return add(alloc, file, text, *number, *plus, steps),
         Turn::Keep(intervals) => file.keep(intervals),
-        Turn::Without(gone, standing) => {
-            let table = table_of(alloc, standing)?;
-            file.keep_without(gone, &table);
-        }
+        Turn::Without(gone, standing) => return keep_standing(alloc, file, gone, standing),
         Turn::Cut(number) => file.cut(*number),
-        Turn::Fold(number) => fold(alloc, file, &[(ALL, *number)])?,
-        Turn::FoldEach(bounds) => fold(alloc, file, bounds)?,
-        Turn::Index => keep_index(alloc, file)?,
+        Turn::Fold(number) => return fold(alloc, file, &[(ALL, *number)]),
+        Turn::FoldEach(bounds) => return fold(alloc, file, bounds),
+        Turn::Index => return keep_index(alloc, file),
         Turn::Lose => file.drop_index(&[0]),
     }
     Ok(())
@@ -371,6 +391,46 @@ fn are_rows(
     Ok(seen.as_slice() == want)
 }
 
+/// Whether the file has these rows.
+fn has_rows(
+    alloc: Global,
+    file: &RangeFile,
+    want: &[(i128, u64, bool)],
+) -> Result<bool, AllocError> {
+    let view = View::Ranged {
+        file,
+        interval: &ALL,
+        base: 0,
+    };
+    let places = view.places(alloc)?;
+    are_rows(alloc, &view, places.as_slice(), want)
+}
+
+/// The turns are taken.
+fn take_turns<L: Ledger>(
+    alloc: Global,
+    file: &mut RangeFile,
+    turns: &[Turn],
+    steps: &mut Steps<L>,
+) -> Result<(), AllocError> {
+    for turn in turns {
+        take_turn(alloc, file, turn, steps)?;
+    }
+    Ok(())
+}
+
+/// Whether the turns leave these rows in the file.
+fn leave_in<L: Ledger>(
+    alloc: Global,
+    file: &mut RangeFile,
+    turns: &[Turn],
+    want: &[(i128, u64, bool)],
+    steps: &mut Steps<L>,
+) -> Result<bool, AllocError> {
+    take_turns(alloc, file, turns, steps)?;
+    has_rows(alloc, file, want)
+}
+
 /// Whether the turns leave these rows.
 fn leave<L: Ledger>(
     alloc: Global,
@@ -379,16 +439,19 @@ fn leave<L: Ledger>(
     steps: &mut Steps<L>,
 ) -> Result<bool, AllocError> {
     let mut file = RangeFile::new(alloc, 0);
-    for turn in turns {
-        take_turn(alloc, &mut file, turn, steps)?;
+    leave_in(alloc, &mut file, turns, want, steps)
+}
+
+/// How many of the turns leave what was worked out, up to the first that do not.
+fn turns<L: Ledger>(alloc: Global, steps: &mut Steps<L>) -> Result<usize, AllocError> {
+    let all = &TURNS;
+    for at in 0..all.len() {
+        let (turns, want) = all[at];
+        if !leave(alloc, turns, want, steps)? {
+            return Ok(at);
+        }
     }
-    let view = View::Ranged {
-        file: &file,
-        interval: &ALL,
-        base: 0,
-    };
-    let places = view.places(alloc)?;
-    are_rows(alloc, &view, places.as_slice(), want)
+    Ok(all.len())
 }
 
 /// How many of the turns leave what was worked out, up to the first that do not.
@@ -397,15 +460,50 @@ fn right_turns<L: Ledger>(rt: &HostRuntime, blank: Blank) -> Result<usize, Alloc
     requires parts { blank.parts ≡ L.parts }
     requires some { 0 < L.parts }
 {
-    let alloc = rt.alloc();
     let mut steps = Steps::<L>::new(rt, blank);
-    for at in 0..TURNS.len() {
-        let (turns, want) = &TURNS[at];
-        if !leave(alloc, turns, want, &mut steps)? {
-            return Ok(at);
-        }
+    turns(rt.alloc(), &mut steps)
+}
+
+/// Whether some interval of the table holds the text.
+fn holds(alloc: Global, table: &RangeTable, text: &str) -> Result<bool, AllocError> {
+    let atom = atom_of(alloc, text.as_bytes())?;
+    Ok(table.holds(&atom))
+}
+
+/// The table of so many intervals holds the texts that were worked out.
+fn expect_held(
+    rt: &impl Abort,
+    alloc: Global,
+    table: &RangeTable,
+    count: usize,
+) -> Result<(), AllocError>
+    requires { count < 4 }
+{
+    for (text, held) in &HELD {
+        let holds = holds(alloc, table, text)?;
+        assert_eq!(rt; holds, held[count], "{text} of {count}");
     }
-    Ok(TURNS.len())
+    Ok(())
+}
+
+const INTERVALS: [Interval; 3] = [TWO_TO_FOUR, THREE_TO_FIVE, NONE];
+
+/// A table of so many intervals has them, and holds the texts that were worked out.
+fn expect_intervals(rt: &impl Abort, alloc: Global, count: usize) -> Result<(), AllocError>
+    requires { count < 4 }
+{
+    let intervals = INTERVALS;
+    let table = table_of(alloc, &intervals[..count])?;
+    assert_eq!(rt; table.intervals(), &intervals[..count]);
+    expect_held(rt, alloc, &table, count)
+}
+
+/// Where an interval goes, the others hold what was worked out.
+fn expect_without(rt: &impl Abort, table: &mut RangeTable) {
+    table.remove(&TWO_TO_FOUR);
+    assert_eq!(rt; table.intervals(), [NONE, THREE_TO_FIVE].as_slice());
+    assert!(rt; !table.holds(&Atom::Num(3_000_000)));
+    assert!(rt; table.holds(&Atom::Num(3_000_001)));
 }
 
 #[test]
@@ -417,20 +515,10 @@ fn a_range_file_keeps_what_some_interval_holds(rt: HostRuntime) -> Result<(), Fa
 
 #[test]
 fn a_table_holds_what_some_interval_holds(rt: HostRuntime) -> Result<(), Fail> {
-    let alloc = rt.alloc();
-    let intervals = [TWO_TO_FOUR, THREE_TO_FIVE, NONE];
     for count in 0..4usize {
-        let table = table_of(alloc, &intervals[..count])?;
-        assert_eq!(rt; table.intervals(), &intervals[..count]);
-        for (text, held) in HELD {
-            let atom = atom_of(alloc, text.as_bytes())?;
-            assert_eq!(rt; table.holds(&atom), held[count], "{text} of {count}");
-        }
+        expect_intervals(&rt, rt.alloc(), count)?;
     }
-    let mut table = table_of(alloc, &intervals)?;
-    table.remove(&TWO_TO_FOUR);
-    assert_eq!(rt; table.intervals(), [NONE, THREE_TO_FIVE].as_slice());
-    assert!(rt; !table.holds(&Atom::Num(3_000_000)));
-    assert!(rt; table.holds(&Atom::Num(3_000_001)));
+    let mut table = table_of(rt.alloc(), &INTERVALS)?;
+    expect_without(&rt, &mut table);
     Ok(())
 }

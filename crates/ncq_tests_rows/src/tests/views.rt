@@ -10,7 +10,7 @@ ghost use Rattle.ncq_midfile.specs.Views.{HasNumber};
 use super::files::key;
 use super::histories::{file_of, signed};
 use super::making::value_rows;
-use super::ranges::{ALL, fits, has_number, keep_index, table_of, told};
+use super::ranges::{ALL, fits, has_number, index_if, table_of, told};
 use ncq_base::{End, Interval, Steps};
 use ncq_midfile::{MidFile, RangeFile, SignedRow, SignedRows, View};
 use ncq_row::{Row, RowKey};
@@ -116,7 +116,9 @@ const LASTS: [(Part, usize, u64); 10] = [
 
 /// A view and a change: the places of all rows of the view, those of the rows above the change, how
 /// many rows are left at the change, and how many of them are 3.
-const QUESTIONS: [(Part, u64, &[usize], &[usize], usize, usize); 19] = [
+type Question = (Part, u64, &'static [usize], &'static [usize], usize, usize);
+
+const QUESTIONS: [Question; 19] = [
     (
         WHOLE,
         0,
@@ -157,7 +159,14 @@ const QUESTIONS: [(Part, u64, &[usize], &[usize], usize, usize); 19] = [
 
 /// Standing intervals, a new one, a change, and the value, the number and the sign of each row that
 /// the new one brings.
-const MISSING: [(&[Interval], Interval, u64, &[(i128, u64, bool)]); 8] = [
+type Asked = (
+    &'static [Interval],
+    Interval,
+    u64,
+    &'static [(i128, u64, bool)],
+);
+
+const MISSING: [Asked; 8] = [
     (&[], THREES, 5, &[(3_000_000, 5, true)]),
     (
         &[],
@@ -296,6 +305,57 @@ pub fn view_of<'a>(whole: &'a MidFile, file: &'a RangeFile, part: &'a Part) -> V
     }
 }
 
+/// Whether the rows of the view are at these places, and those above the change.
+fn has_places(
+    alloc: Global,
+    view: &View<'_>,
+    n: u64,
+    places: (&[usize], &[usize]),
+) -> Result<bool, AllocError>
+    requires { (shown view.now).base ≤ n }
+{
+    let all = view.places(alloc)?;
+    let since = view.since(alloc, n)?;
+    Ok(all.as_slice() == places.0 && since.as_slice() == places.1)
+}
+
+/// Whether the atom of the key finds these places.
+fn is_found_by_atom(
+    alloc: Global,
+    view: &View<'_>,
+    key: &RowKey,
+    n: u64,
+    places: &[usize],
+) -> Result<bool, AllocError>
+    requires base { (shown view.now).base ≤ n }
+    requires sound { IsSound (shown view.now).rows }
+    requires one { AllByRecursion (λ r. length r.row ≡ 1) (rows_below view.now) }
+{
+    let Some(atom) = key.get(0) else {
+        return Ok(true);
+    };
+    let found = view.matching_atom(alloc, 0, atom.get(), n)?;
+    Ok(found.as_slice() == places)
+}
+
+/// Whether so many rows are left at the change, and so many of them have the key.
+fn has_left(
+    alloc: Global,
+    view: &View<'_>,
+    key: &RowKey,
+    n: u64,
+    left: (usize, usize),
+) -> Result<bool, AllocError>
+    requires base { (shown view.now).base ≤ n }
+    requires sound { IsSound (shown view.now).rows }
+    requires one { AllByRecursion (λ r. length r.row ≡ 1) (rows_below view.now) }
+{
+    let content = view.content_at(alloc, n)?.len();
+    let keyed = view.matching(alloc, &[0], key, n)?;
+    let same = is_found_by_atom(alloc, view, key, n, keyed.as_slice())?;
+    Ok(same && content == left.0 && keyed.len() == left.1)
+}
+
 /// Whether the view answers the question so.
 fn is_answered(
     alloc: Global,
@@ -311,22 +371,7 @@ fn is_answered(
     if n < view.base() {
         return Ok(false);
     }
-    let all = view.places(alloc)?;
-    let since = view.since(alloc, n)?;
-    let content = view.content_at(alloc, n)?;
-    let keyed = view.matching(alloc, &[0], key, n)?;
-    if let Some(atom) = key.get(0) {
-        let found = view.matching_atom(alloc, 0, atom.get(), n)?;
-        if found.as_slice() != keyed.as_slice() {
-            return Ok(false);
-        }
-    }
-    Ok(
-        all.as_slice() == places.0
-            && since.as_slice() == places.1
-            && content.len() == left.0
-            && keyed.len() == left.1,
-    )
+    Ok(has_places(alloc, view, n, places)? && has_left(alloc, view, key, n, left)?)
 }
 
 /// Whether the rows have these values, numbers and signs.
@@ -363,6 +408,77 @@ fn is_brought<L: Ledger>(
     are_told(alloc, &rows, want)
 }
 
+/// Whether the question is answered as was worked out.
+fn is_right<'a>(
+    alloc: Global,
+    whole: &'a MidFile,
+    file: &'a RangeFile,
+    key: &RowKey,
+    question: &'a Question,
+) -> Result<bool, AllocError>
+    requires whole_sound { IsSound whole.now.rows }
+    requires whole_one { AllByRecursion (λ r. length r.row ≡ 1) whole.now.rows }
+    requires sound { IsSound file.now.rows }
+    requires one { AllByRecursion (λ r. length r.row ≡ 1) file.now.rows }
+{
+    let (part, n, all, since, left, keyed) = question;
+    let view = view_of(whole, file, part);
+    is_answered(alloc, &view, key, *n, (all, since), (*left, *keyed))
+}
+
+/// How many of the questions are answered as was worked out, up to the first that is not.
+fn answered(
+    alloc: Global,
+    whole: &MidFile,
+    file: &RangeFile,
+    key: &RowKey,
+) -> Result<usize, AllocError>
+    requires whole_sound { IsSound whole.now.rows }
+    requires whole_one { AllByRecursion (λ r. length r.row ≡ 1) whole.now.rows }
+    requires sound { IsSound file.now.rows }
+    requires one { AllByRecursion (λ r. length r.row ≡ 1) file.now.rows }
+{
+    let all = &QUESTIONS;
+    for at in 0..all.len() {
+        if !is_right(alloc, whole, file, key, &all[at])? {
+            return Ok(at);
+        }
+    }
+    Ok(all.len())
+}
+
+/// How many are answered where the range file has an index, or has none.
+fn answered_by<L: Ledger>(
+    alloc: Global,
+    whole: &MidFile,
+    file: &mut RangeFile,
+    indexed: bool,
+    steps: &mut Steps<L>,
+) -> Result<usize, AllocError>
+    requires whole_sound { IsSound whole.now.rows }
+    requires whole_one { AllByRecursion (λ r. length r.row ≡ 1) whole.now.rows }
+    requires sound { IsSound file.old.rows }
+    requires one { AllByRecursion (λ r. length r.row ≡ 1) file.old.rows }
+{
+    index_if(alloc, file, indexed)?;
+    let key = key(alloc, b'3', steps)?;
+    answered(alloc, whole, file, &key)
+}
+
+/// How many are answered of the whole file, and of a range file that has the same rows.
+fn answered_beside<L: Ledger>(
+    alloc: Global,
+    whole: &MidFile,
+    indexed: bool,
+    steps: &mut Steps<L>,
+) -> Result<usize, AllocError>
+    requires sound { IsSound whole.now.rows }
+    requires one { AllByRecursion (λ r. length r.row ≡ 1) whole.now.rows }
+{
+    let mut file = range_of(alloc, &HISTORY, steps)?;
+    answered_by(alloc, whole, &mut file, indexed, steps)
+}
+
 /// How many of the questions are answered as was worked out, up to the first that is not: with an
 /// index in the range file, or without.
 fn right_answers<L: Ledger>(
@@ -374,22 +490,40 @@ fn right_answers<L: Ledger>(
     requires parts { blank.parts ≡ L.parts }
     requires some { 0 < L.parts }
 {
-    let alloc = rt.alloc();
     let mut steps = Steps::<L>::new(rt, blank);
-    let whole = file_of(alloc, &HISTORY, HISTORY.len(), &mut steps)?;
-    let mut file = range_of(alloc, &HISTORY, &mut steps)?;
-    if indexed {
-        keep_index(alloc, &mut file)?;
-    }
-    let key = key(alloc, b'3', &mut steps)?;
-    for at in 0..QUESTIONS.len() {
-        let (part, n, all, since, left, keyed) = QUESTIONS[at];
-        let view = view_of(&whole, &file, &part);
-        if !is_answered(alloc, &view, &key, n, (all, since), (left, keyed))? {
-            return Ok(at);
+    let whole = file_of(rt.alloc(), &HISTORY, HISTORY.len(), &mut steps)?;
+    answered_beside(rt.alloc(), &whole, indexed, &mut steps)
+}
+
+/// How many of the views have such a last number and so many losses, up to the first that has not.
+fn lasts(whole: &MidFile, file: &RangeFile) -> usize
+    requires whole_sound { IsSound whole.now.rows }
+    requires whole_one { AllByRecursion (λ r. length r.row ≡ 1) whole.now.rows }
+    requires sound { IsSound file.now.rows }
+    requires one { AllByRecursion (λ r. length r.row ≡ 1) file.now.rows }
+{
+    let all = &LASTS;
+    for at in 0..all.len() {
+        let (part, minus, last) = all[at];
+        let view = view_of(whole, file, &part);
+        if view.minus() != minus || view.last() != last {
+            return at;
         }
     }
-    Ok(QUESTIONS.len())
+    all.len()
+}
+
+/// How many have them of the whole file, and of a range file that has the same rows.
+fn lasts_beside<L: Ledger>(
+    alloc: Global,
+    whole: &MidFile,
+    steps: &mut Steps<L>,
+) -> Result<usize, AllocError>
+    requires sound { IsSound whole.now.rows }
+    requires one { AllByRecursion (λ r. length r.row ≡ 1) whole.now.rows }
+{
+    let file = range_of(alloc, &HISTORY, steps)?;
+    Ok(lasts(whole, &file))
 }
 
 /// How many of the views have such a last number and so many losses, up to the first that has not.
@@ -398,18 +532,66 @@ fn right_lasts<L: Ledger>(rt: &HostRuntime, blank: Blank) -> Result<usize, Alloc
     requires parts { blank.parts ≡ L.parts }
     requires some { 0 < L.parts }
 {
-    let alloc = rt.alloc();
     let mut steps = Steps::<L>::new(rt, blank);
-    let whole = file_of(alloc, &HISTORY, HISTORY.len(), &mut steps)?;
-    let file = range_of(alloc, &HISTORY, &mut steps)?;
-    for at in 0..LASTS.len() {
-        let (part, minus, last) = LASTS[at];
-        let view = view_of(&whole, &file, &part);
-        if view.minus() != minus || view.last() != last {
+    let whole = file_of(rt.alloc(), &HISTORY, HISTORY.len(), &mut steps)?;
+    lasts_beside(rt.alloc(), &whole, &mut steps)
+}
+
+/// Whether a new interval brings what was worked out, of the whole file, and of the range file.
+fn brings<L: Ledger>(
+    alloc: Global,
+    whole: &MidFile,
+    file: &RangeFile,
+    asked: &Asked,
+    steps: &mut Steps<L>,
+) -> Result<bool, AllocError>
+    requires whole_sound { IsSound whole.now.rows }
+    requires whole_one { AllByRecursion (λ r. length r.row ≡ 1) whole.now.rows }
+    requires sound { IsSound file.now.rows }
+    requires one { AllByRecursion (λ r. length r.row ≡ 1) file.now.rows }
+{
+    let (standing, interval, n, want) = asked;
+    for part in [WHOLE, Some((ALL, 0))] {
+        let view = view_of(whole, file, &part);
+        if !is_brought(alloc, &view, standing, interval, *n, want, steps)? {
+            return Ok(false);
+        }
+    }
+    Ok(true)
+}
+
+/// How many of the new intervals bring what was worked out, up to the first that does not.
+fn brought<L: Ledger>(
+    alloc: Global,
+    whole: &MidFile,
+    file: &RangeFile,
+    steps: &mut Steps<L>,
+) -> Result<usize, AllocError>
+    requires whole_sound { IsSound whole.now.rows }
+    requires whole_one { AllByRecursion (λ r. length r.row ≡ 1) whole.now.rows }
+    requires sound { IsSound file.now.rows }
+    requires one { AllByRecursion (λ r. length r.row ≡ 1) file.now.rows }
+{
+    let all = &MISSING;
+    for at in 0..all.len() {
+        if !brings(alloc, whole, file, &all[at], steps)? {
             return Ok(at);
         }
     }
-    Ok(LASTS.len())
+    Ok(all.len())
+}
+
+/// How many bring it of the whole file, and of a range file that has the same rows.
+fn brought_beside<L: Ledger>(
+    alloc: Global,
+    whole: &MidFile,
+    steps: &mut Steps<L>,
+) -> Result<usize, AllocError>
+    requires sound { IsSound whole.now.rows }
+    requires one { AllByRecursion (λ r. length r.row ≡ 1) whole.now.rows }
+{
+    let file = range_of(alloc, &HISTORY, steps)?;
+    brought(alloc, whole, &file, steps)
 }
 
 /// How many of the new intervals bring what was worked out, up to the first that does not, of the
@@ -419,21 +601,9 @@ fn right_missing<L: Ledger>(rt: &HostRuntime, blank: Blank) -> Result<usize, All
     requires parts { blank.parts ≡ L.parts }
     requires some { 0 < L.parts }
 {
-    let alloc = rt.alloc();
     let mut steps = Steps::<L>::new(rt, blank);
-    let whole = file_of(alloc, &HISTORY, HISTORY.len(), &mut steps)?;
-    let file = range_of(alloc, &HISTORY, &mut steps)?;
-    for at in 0..MISSING.len() {
-        let (standing, interval, n, want) = MISSING[at];
-        let all = Some((ALL, 0));
-        for part in [WHOLE, all] {
-            let view = view_of(&whole, &file, &part);
-            if !is_brought(alloc, &view, standing, &interval, n, want, &mut steps)? {
-                return Ok(at);
-            }
-        }
-    }
-    Ok(MISSING.len())
+    let whole = file_of(rt.alloc(), &HISTORY, HISTORY.len(), &mut steps)?;
+    brought_beside(rt.alloc(), &whole, &mut steps)
 }
 
 #[test]

@@ -1,9 +1,0 @@
-use Rattle.ncq_midfile.specs.Shown.{rows_below}
-use Rattle.ncq_tests_rows.proofs.HistoryLaws.{one_some}
-use Rattle.ncq_tests_rows.proofs.tests.parcels.is_split.Goals as goal
-
-pub split_equal-requires-clause-slots : goal.split_equal-requires-clause-slots
-split_equal-requires-clause-slots g c = one_some (rows_below c.args.input.now) c.requires
-
-pub split_range-requires-clause-slots : goal.split_range-requires-clause-slots
-split_range-requires-clause-slots g c = one_some (rows_below c.args.input.now) c.requires
