@@ -114,7 +114,7 @@ module _ {e : EngineState} {ready : StoreState} {changed : List Section} {change
       changed_holds : Invariant (record e { store = after; count = e.count + 1; table = table })
       changed_holds =
           let few = r.holds.changes in let same = r.alike.changes in
-          invariant_changed (mid_engine e ready) change after table holds_mid committed.changes (let l : ready.changes + 1 ≤ e.count + 1 = omega (arith, few, same) in l) last_more lasts_after f.fed fits_after f.number f.next_file
+          invariant_changed (mid_engine e ready) change after table holds_mid committed.changes (let l : ready.changes + 1 ≤ e.count + 1 = omega (arith, few, same) in l) last_more lasts_after f.fed fits_after f.facts.up_to f.number f.next_file
 
       -- what holds behind the commit
       pub holds_changed : Invariant (changed_engine e after live_table)

@@ -1,25 +1,20 @@
 -- A file that is compacted, or left, from what the calls give.
-use Rattle.std.proofs.Common.{◌≡◌, ◌≢◌, ℕ, ◌≤◌, ◌⊎◌, sym, ◌∙◌, ap, subst, arith, inl, inr}
+use Rattle.std.proofs.Common.{◌≡◌, ◌≢◌, ℕ, ◌<◌, ◌≤◌, ◌⊎◌, sym, ◌∙◌, ap, subst, arith, inl, inr}
 use Rattle.std.specs.Prelude.{Result, Ok, Err, Some, OnOk, OnErr}
 use Rattle.std.specs.FinMap.{get, insert}
-use Rattle.std.specs.List.{AllByRecursion}
-use Rattle.ncq_change.specs.Stores.{world_in}
-use Rattle.ncq_group.specs.Tables.{Facts}
 use Rattle.ncq_live.specs.LiveTables.{LiveState}
 use Rattle.ncq_midfile.specs.Content.{IsSoundAt}
 use Rattle.ncq_midfile.specs.Files.{FileState}
-use Rattle.ncq_midfile.specs.declared.signed.SignedRow.{SignedRow}
 use Rattle.ncq_shelf.specs.Contents.{IsCompacted}
 use Rattle.ncq_shelf.specs.KeptFiles.{AtFile, KeptFile}
 use Rattle.ncq_shelf.specs.Stands.{IsThere}
-use Rattle.ncq_engine.specs.Compactions.{CanMoveTo, HasBase, IsWorn, least_of}
+use Rattle.ncq_engine.specs.Compactions.{HasBase, IsWorn, least_of}
 use Rattle.ncq_engine.specs.History.{History}
 use Rattle.ncq_engine.specs.Stands.{EngineState, Follows}
-use Rattle.ncq_engine.proofs.CompactedLaws.{follows_compacted, has_base, invariant_compacted, others, sound_early}
+use Rattle.ncq_engine.proofs.CompactedLaws.{follows_compacted, has_base, invariant_compacted, others}
 use Rattle.ncq_engine.proofs.GivenUp.{with_parts}
 use Rattle.ncq_engine.proofs.InvariantLaws.{Invariant}
 use Rattle.ncq_engine.proofs.LeastLaws.{least_few}
-use Rattle.ncq_engine.proofs.TableLaws.{fits_sound}
 
 either : {T E A B : Type 0} (r : Result T E) → OnOk r A → OnErr r B → A ⊎ B
 either (Ok x) a b = inl a
@@ -47,16 +42,12 @@ module _ (e : EngineState) (holds : Invariant e) (number least : ℕ) (is_least 
   early = let few = least_few e.store number e.subscriptions in let now = holds.number in omega (arith, is_least, few, now)
 
   -- what a compaction asks
-  module _ (facts : Facts e.table) (content : FileState) (shows : AtFile e.table.files number (λ kept. content ≡ kept.content)) (can : CanMoveTo least content) where
+  module _ (content : FileState) (shows : AtFile e.table.files number (λ kept. content ≡ kept.content)) (above : content.base < least) where
     pub base_asked : AtFile e.table.files number (λ kept. kept.content.base ≤ least)
-    base_asked kept at = let above = can.above in let same = ap (λ (c : FileState). c.base) (shows kept at) in omega (arith, above, same)
-
-    pub last_asked : AtFile e.table.files number (λ kept. AllByRecursion (λ r. r.number ≤ least) kept.content.rows)
-    last_asked kept at = subst (λ (c : FileState). AllByRecursion (λ (r : SignedRow). r.number ≤ least) c.rows) (shows kept at) can.last
+    base_asked kept at = let same = ap (λ (c : FileState). c.base) (shows kept at) in omega (arith, above, same)
 
     pub sound_asked : AtFile e.table.files number (λ kept. IsSoundAt least kept.content.rows)
-    sound_asked kept at =
-        sound_early least e.table.number kept.content.rows early (last_asked kept at) (facts.up_to number kept at).last (fits_sound e.table.number (world_in e.store) e.table.files holds.fits number kept at)
+    sound_asked kept at = holds.sound number kept at least (base_asked kept at)
 
     -- what it gives
     module _ {T E : Type 0} (there : IsThere e.table.files number) (live_table : LiveState) (result : Result T E)

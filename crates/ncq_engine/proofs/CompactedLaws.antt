@@ -1,32 +1,26 @@
 -- An engine one of whose files was compacted: it stands as it stood.
-use Rattle.std.proofs.Common.{◌≡◌, ◌≢◌, ℕ, ◌*◌, ◌≤◌, List, sym, ◌∙◌, ap, subst, arith, inl, inr}
+use Rattle.std.proofs.Common.{◌≡◌, ◌≢◌, ℕ, ◌*◌, ◌≤◌, sym, ◌∙◌, ap, subst, arith, inl, inr}
 use Rattle.std.specs.Prelude.{Some, IfSome}
 use Rattle.std.specs.FinMap.{get, insert}
-use Rattle.std.specs.List.{AllByRecursion}
 use Rattle.std.proofs.lemmas.Bool.{cases_eq}
 use Rattle.ncq_book.specs.declared.subscription.Subscription.{Subscription as Kept}
 use Rattle.ncq_change.specs.Stores.{world_in}
-use Rattle.ncq_feed.proofs.ContentLaws.{all_up}
 use Rattle.ncq_group.specs.Tables.{TableState}
-use Rattle.ncq_midfile.specs.Content.{IsBalanced, IsContent, IsSoundAt}
-use Rattle.ncq_midfile.specs.declared.signed.SignedRow.{SignedRow}
+use Rattle.ncq_midfile.specs.Content.{IsContent, IsSoundAt}
 use Rattle.ncq_plan.specs.declared.expr.Expr.{Expr}
 use Rattle.ncq_plan.specs.Exprs.{World, rows_in}
 use Rattle.ncq_shelf.specs.Contents.{Fits, IsCompacted}
 use Rattle.ncq_shelf.specs.KeptFiles.{KeptFile}
 use Rattle.ncq_shelf.proofs.CallerLemmas.{one_value, put_other, put_same}
 use Rattle.ncq_engine.specs.Compactions.{HasBase, least_of}
-use Rattle.ncq_engine.specs.Engines.{CanTell, mark_in}
+use Rattle.ncq_engine.specs.Engines.{AreSound, CanTell, mark_in}
 use Rattle.ncq_engine.specs.History.{History, sources, up_to, world}
 use Rattle.ncq_engine.specs.Stands.{AreContents, EngineState, Follows}
 use Rattle.ncq_engine.proofs.InvariantLaws.{Invariant}
 use Rattle.ncq_engine.proofs.LeastLaws.{IsUnder, least_few, least_under}
 use Rattle.ncq_engine.proofs.Lists.{each_both}
+use Rattle.ncq_engine.proofs.Sounds.{sound_stays}
 use Rattle.ncq_engine.proofs.TableLaws.{fits_sound}
-
--- where no row is above a number, what is sound at a later one is sound at this one
-pub sound_early : (least now : ℕ) (rows : List SignedRow) → least ≤ now → AllByRecursion (λ r. r.number ≤ least) rows → AllByRecursion (λ r. r.number ≤ now) rows → IsSoundAt now rows → IsSoundAt least rows
-sound_early least now rows early last last_now sound = subst IsBalanced (all_up now rows last_now ∙ sym (all_up least rows last)) sound
 
 -- the file of a number was compacted to the least mark, and the others are as they were
 module _ (e : EngineState) (number : ℕ) (file next : KeptFile) (table : TableState) (at : get e.table.files number ≡ Some file) (put : table.files ≡ insert e.table.files number next)
@@ -80,6 +74,16 @@ module _ (e : EngineState) (number : ℕ) (file next : KeptFile) (table : TableS
         }
   ]
 
+  sounds : AreSound e.table.files → AreSound table.files
+  sounds held other kept there n low = elim (cases_eq other number) [
+    | inl is ↦
+        let one : kept ≡ next = one_value (subst (λ m. get table.files m ≡ Some kept) is there) here in
+        let from : least ≤ n = subst (λ b. b ≤ n) (ap (λ (k : KeptFile). k.content.base) one ∙ done.base) low in
+        subst (λ (k : KeptFile). IsSoundAt n k.content.rows) (sym one)
+        (sound_stays n file.content.rows next.content.rows (λ list. done.stays n list from) (held number file at n (let l : file.content.base ≤ n = omega (arith, base, from) in l)))
+    | inr differs ↦ held other kept (sym (others other differs) ∙ there) n low
+  ]
+
   pub invariant_compacted : Invariant e → Invariant (record e { table = table })
   invariant_compacted i =
       let few = least_few e.store number e.subscriptions in
@@ -94,6 +98,7 @@ module _ (e : EngineState) (number : ℕ) (file next : KeptFile) (table : TableS
         installed = i.installed;
         number = same ∙ i.number;
         fits = fits_now;
+        sound = sounds i.sound;
         next = (let n = i.next in let l : table.next_file ≤ 256 * e.creates = omega (arith, n, next_file) in l);
       }
 

@@ -1,5 +1,5 @@
 -- The files of an engine tell its sources at each change, behind each kind of command.
-use Rattle.std.proofs.Common.{◌≡◌, ℕ, ◌+◌, ◌≤◌, true, false, cond, List, [], ◌∷◌, ◌++◌, refl, sym, ◌∙◌, ap, subst, arith, inl, inr}
+use Rattle.std.proofs.Common.{◌≡◌, ℕ, ◌+◌, ◌<◌, ◌≤◌, true, false, cond, List, [], ◌∷◌, ◌++◌, refl, sym, ◌∙◌, ap, subst, arith, inl, inr}
 use Rattle.std.specs.Prelude.{Option, Some, None, nat_le}
 use Rattle.std.specs.FinMap.{get}
 use Rattle.std.specs.List.{AllByRecursion}
@@ -13,7 +13,7 @@ use Rattle.ncq_midfile.specs.Content.{IsContent, gains, losses, up_to as rows_up
 use Rattle.ncq_midfile.specs.declared.signed.SignedRow.{SignedRow}
 use Rattle.ncq_base.specs.Counts.{SameCounts}
 use Rattle.ncq_plan.specs.declared.expr.Expr.{Expr}
-use Rattle.ncq_plan.specs.Exprs.{rows_in}
+use Rattle.ncq_plan.specs.Exprs.{World, rows_in}
 use Rattle.ncq_row.specs.Embeddings.{Row}
 use Rattle.ncq_script.specs.declared.command.Command.{Command}
 use Rattle.ncq_shelf.specs.KeptFiles.{KeptFile, Files}
@@ -61,7 +61,8 @@ append_none : (rows : List SignedRow) → rows ++ [] ≡ rows
 append_none [] = refl
 append_none (r ∷ rows) = ap (λ more. r ∷ more) (append_none rows)
 
-content_before : (change now : ℕ) (rows news : List SignedRow) (list : List Row) → change ≤ now → AllByRecursion (λ r. r.number ≡ now + 1) news → IsContent change rows list → IsContent change (rows ++ news) list
+-- a content stays one where rows of a later change come behind
+pub content_before : (change now : ℕ) (rows news : List SignedRow) (list : List Row) → change ≤ now → AllByRecursion (λ r. r.number ≡ now + 1) news → IsContent change rows list → IsContent change (rows ++ news) list
 content_before change now rows news list few numbers held =
     subst (λ (xs : List SignedRow). SameCounts (list ++ losses xs) (gains xs)) (sym same) held
   where
@@ -101,23 +102,32 @@ contents_fed store change old new h command fed now more fits held number file a
       | inr few ↦ before was here few
     ]
 
+-- a file whose number was given before an install was there, with the same expression and content
+pub was_there : (expr : Expr) (old new : TableState) (file_at number : ℕ) (file : KeptFile) → IsInstalled expr old new file_at → get new.files number ≡ Some file → number < old.next_file
+    → (was : KeptFile) × (get old.files number ≡ Some was) × ((file.expr ≡ was.expr) × (file.content ≡ was.content))
+was_there expr old new file_at number file done at below =
+    let was = done.before number file at below in
+    elim (cases_eq number file_at) [
+      | inl own ↦
+          let there = subst (λ n. get new.files n ≡ Some (record was.0 { uses = was.0.uses + 1 })) (sym own) (done.gains was.0 (subst (λ n. get old.files n ≡ Some was.0) own was.1)) in
+          let one : Some file ≡ Some (record was.0 { uses = was.0.uses + 1 }) = sym at ∙ there in
+          let is : file ≡ record was.0 { uses = was.0.uses + 1 } = cc in
+          (was.0, was.1, (ap (λ (k : KeptFile). k.expr) is, ap (λ (k : KeptFile). k.content) is))
+      | inr differs ↦
+          let one : Some file ≡ Some was.0 = sym at ∙ done.others number was.0 was.1 differs in
+          let is : file ≡ was.0 = cc in
+          (was.0, was.1, (ap (λ (k : KeptFile). k.expr) is, ap (λ (k : KeptFile). k.content) is))
+    ]
+
 -- an install
 pub contents_installed : (expr : Expr) (old new : TableState) (file_at : ℕ) (h : History) (command : Command) → IsInstalled expr old new file_at → old.number ≡ changes h → changes (command ∷ h) ≡ changes h
     → Fits (changes h) (world (sources (command ∷ h))) new.files → AreContents old.files h → AreContents new.files (command ∷ h)
 contents_installed expr old new file_at h command done now same fits held number file at_change at low high = elim (cases_lt number old.next_file) [
   | inl below ↦
-      let was = done.before number file at below in
-      elim (cases_eq number file_at) [
-        | inl own ↦
-            let there = subst (λ n. get new.files n ≡ Some (record was.0 { uses = was.0.uses + 1 })) (sym own) (done.gains was.0 (subst (λ n. get old.files n ≡ Some was.0) own was.1)) in
-            let one : Some (record was.0 { uses = was.0.uses + 1 }) ≡ Some file = sym there ∙ at in
-            let is : record was.0 { uses = was.0.uses + 1 } ≡ file = cc in
-            subst Told is (λ low. old_file was.0 was.1 low) low
-        | inr differs ↦
-            let one : Some was.0 ≡ Some file = sym (done.others number was.0 was.1 differs) ∙ at in
-            let is : was.0 ≡ file = cc in
-            subst Told is (λ low. old_file was.0 was.1 low) low
-      ]
+      let was = was_there expr old new file_at number file done at below in
+      let w : World = world (sources (up_to at_change (command ∷ h))) in
+      subst (λ (e : Expr). IsContent at_change file.content.rows (rows_in e w)) (sym was.2.0)
+      (subst (λ (c : FileState). IsContent at_change c.rows (rows_in was.0.expr w)) (sym was.2.1) (old_file was.0 was.1 (subst (λ (c : FileState). c.base ≤ at_change) was.2.1 low)))
   | inr fresh ↦
       let new_base = (done.fresh number file at fresh).base in
       let e : at_change ≡ changes (command ∷ h) = omega (arith, new_base, now, same, low, high) in
@@ -126,9 +136,6 @@ contents_installed expr old new file_at h command done now same fits held number
       (subst (λ n. IsContent n file.content.rows (rows_in file.expr (world (sources (command ∷ h))))) (sym same) (fits number file at)))
 ]
   where
-    Told : KeptFile → Type 0
-    Told k = k.content.base ≤ at_change → IsContent at_change k.content.rows (rows_in k.expr (world (sources (up_to at_change (command ∷ h)))))
-
     old_file : (was : KeptFile) → get old.files number ≡ Some was → was.content.base ≤ at_change → IsContent at_change was.content.rows (rows_in was.expr (world (sources (up_to at_change (command ∷ h)))))
     old_file was here low =
         let few : at_change ≤ changes h = omega (arith, high, same) in

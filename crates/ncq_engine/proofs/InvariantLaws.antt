@@ -27,6 +27,7 @@ use Rattle.ncq_engine.specs.Stands.{EngineState, content_of}
 use Rattle.ncq_engine.specs.Tellings.{AreOf, IsLeftBy}
 use Rattle.ncq_engine.proofs.Lists.{each_filter, each_more, each_push}
 use Rattle.ncq_engine.proofs.Places.{one_declared, room_is_no_content}
+use Rattle.ncq_engine.proofs.Sounds.{sound_fed, sound_installed, sound_left}
 use Rattle.ncq_engine.proofs.StoreLaws.{last_alike, last_declared}
 use Rattle.ncq_engine.proofs.TableLaws.{can_left, can_noted, can_store, can_table, fed_still, installed_still}
 use Rattle.ncq_engine.proofs.Worlds.{new_is_empty, world_is}
@@ -64,6 +65,7 @@ invariant_counted e i =
       installed = i.installed;
       number = i.number;
       fits = i.fits;
+      sound = i.sound;
       next = i.next;
     }
 
@@ -83,6 +85,7 @@ invariant_declared e store name root key d i =
       installed = i.installed;
       number = i.number ∙ sym same;
       fits = subst (λ w. Fits e.table.number w e.table.files) (sym (world_declared e.store store name root key d)) i.fits;
+      sound = i.sound;
       next = i.next;
     }
 
@@ -102,15 +105,16 @@ invariant_alike e store alike i =
       installed = i.installed;
       number = i.number ∙ sym same;
       fits = subst (λ w. Fits e.table.number w e.table.files) (sym (world_alike e.store store alike.sources)) i.fits;
+      sound = i.sound;
       next = i.next;
     }
 
 -- the files were fed, and the change was committed
 pub invariant_changed : (e : EngineState) (change : List Portion) (store : StoreState) (table : TableState) → Invariant e → store.changes ≡ e.store.changes + 1 → e.store.changes + 1 ≤ e.count
     → ((name : List ℕ) → last_in e.store name ≤ last_in store name) → ((name : List ℕ) → last_in store name ≤ store.changes)
-    → AreFed e.store change e.table.files table.files → Fits table.number (world_in store) table.files → table.number ≡ e.table.number + 1 → table.next_file ≡ e.table.next_file
+    → AreFed e.store change e.table.files table.files → Fits table.number (world_in store) table.files → AreUpTo table.number table.files → table.number ≡ e.table.number + 1 → table.next_file ≡ e.table.next_file
     → Invariant (record e { store = store; table = table })
-invariant_changed e change store table i more few last lasts fed fits number next = record {
+invariant_changed e change store table i more few last lasts fed fits upto number next = record {
   changes = (let l : store.changes ≤ e.count = omega (arith, more, few) in l);
   creates_too = i.creates_too;
   lasts = lasts;
@@ -118,10 +122,14 @@ invariant_changed e change store table i more few last lasts fed fits number nex
       (λ m can. can_store e.labels e.store store table last m (can_table e.labels e.store e.table table (fed_still e.store change e.table table (world_in store) fed fits) m can)) e.subscriptions i.can;
   rise = i.rise;
   installed = i.installed;
-  number = number ∙ ap (λ n. n + 1) i.number ∙ sym more;
+  number = number_is ∙ sym more;
   fits = fits;
+  sound = sound_fed e.store change e.table.files table.files (world_in store) fed (subst (λ n. Fits n (world_in store) table.files) number_is fits) (subst (λ n. AreUpTo n table.files) number_is upto) i.sound;
   next = (let n = i.next in let l : table.next_file ≤ 256 * e.creates = omega (arith, n, next) in l);
 }
+  where
+    number_is : table.number ≡ e.store.changes + 1
+    number_is = number ∙ ap (λ n. n + 1) i.number
 
 -- before the commit the subscriptions can be told
 pub can_fed : (e : EngineState) (change : List Portion) (w : World) (table : TableState) → Invariant e → AreFed e.store change e.table.files table.files → Fits table.number w table.files → AllByRecursion (CanTell e.labels e.store table) e.subscriptions
@@ -150,6 +158,7 @@ invariant_created e i few =
       installed = few_more e.creates e.subscriptions i.installed;
       number = i.number;
       fits = i.fits;
+      sound = i.sound;
       next = (let l : e.table.next_file ≤ 256 * (e.creates + 1) = omega (arith, n) in l);
     }
 
@@ -169,6 +178,7 @@ invariant_added e expr table file m i done fits small can install few =
       installed = each_push (λ (x : Kept). x.install ≤ e.creates + 1) e.subscriptions m (few_more e.creates e.subscriptions i.installed) (let l : m.install ≤ e.creates + 1 = omega (arith, install) in l);
       number = done.same ∙ i.number;
       fits = fits;
+      sound = sound_installed expr e.table table file (world_in e.store) done fits i.sound;
       next = (let l : table.next_file ≤ 256 * (e.creates + 1) = omega (arith, n, room, small) in l);
     }
 
@@ -206,6 +216,7 @@ module _ (store : StoreState) (test : Kept → Bool) where
         installed = each_map (λ n. n.install ≤ e.creates) (λ n. n.install ≤ e.creates) noted_one (λ n few. let a = one_install n in (let l : (noted_one n).install ≤ e.creates = omega (arith, few, a) in l)) e.subscriptions i.installed;
         number = i.number;
         fits = i.fits;
+        sound = i.sound;
         next = i.next;
       }
 
@@ -240,6 +251,7 @@ invariant_left e keep table i live_table left number next = record {
   installed = each_filter (λ (m : Kept). m.install ≤ e.creates) keep e.subscriptions i.installed;
   number = number ∙ i.number;
   fits = subst (λ n. Fits n (world_in e.store) table.files) (sym number) (fits_left e.table.files table.files e.table.number (world_in e.store) left i.fits);
+  sound = sound_left e.table.files table.files left i.sound;
   next = (let n = i.next in let l : table.next_file ≤ 256 * e.creates = omega (arith, n, next) in l);
 }
 

@@ -19,6 +19,7 @@ pub mod TellingLoops
 pub mod StartedLaws
 pub mod TableLaws
 pub mod ContentLaws
+pub mod Sounds
 pub mod InvariantLaws
 pub mod CreateLaws
 pub mod BoundLaws

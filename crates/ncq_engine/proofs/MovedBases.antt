@@ -16,12 +16,13 @@ use Rattle.ncq_shelf.specs.KeptFiles.{EachFile, Files, KeptFile}
 use Rattle.ncq_shelf.specs.Stands.{IsThere}
 use Rattle.ncq_shelf.proofs.CallerLemmas.{one_value, put_other, put_same}
 use Rattle.ncq_engine.specs.Compactions.{AreCompacted, HasBase, MoveBases, least_of}
-use Rattle.ncq_engine.specs.Engines.{CanTell, mark_in}
+use Rattle.ncq_engine.specs.Engines.{AreSound, CanTell, mark_in}
 use Rattle.ncq_engine.specs.History.{History, sources, up_to, world}
 use Rattle.ncq_engine.specs.Stands.{AreContents, EngineState, Follows}
 use Rattle.ncq_engine.proofs.InvariantLaws.{Invariant}
 use Rattle.ncq_engine.proofs.LeastLaws.{IsUnder, least_few, least_under}
 use Rattle.ncq_engine.proofs.Lists.{each_both}
+use Rattle.ncq_engine.proofs.Sounds.{sound_stays}
 use Rattle.ncq_engine.proofs.TableLaws.{fits_sound}
 
 -- the file after its base was made a number that is not below it, or stayed: what was its content from the new base on is so still
@@ -77,6 +78,15 @@ module _ (e : EngineState) (table : TableState) (moved : AreMoved e table.files)
         ];
       }
 
+  -- the base that a file had is not above the one that it has
+  under : (least change : ℕ) (old new : KeptFile) → IsMoved least old new → new.content.base ≤ change → old.content.base ≤ change
+  under least change old new m low = elim m.base [ inl is ↦ (omega (arith, low, is)) | inr p ↦ (let to = p.0 in let from = p.1 in omega (arith, low, to, from)) ]
+
+  sounds : AreSound e.table.files → AreSound table.files
+  sounds held number new there n low =
+      let m = moved.back number new there in
+      sound_stays n m.0.content.rows new.content.rows (λ list. m.2.stays n list low) (held number m.0 m.1 n (under (least_of e number) n m.0 new m.2 low))
+
   pub invariant_moved : AreUpTo e.table.number e.table.files → Invariant e → Invariant (record e { table = table })
   invariant_moved upto i =
       let now = i.number in
@@ -92,6 +102,7 @@ module _ (e : EngineState) (table : TableState) (moved : AreMoved e table.files)
         installed = i.installed;
         number = same ∙ i.number;
         fits = fits_now;
+        sound = sounds i.sound;
         next = (let n = i.next in let l : table.next_file ≤ 256 * e.creates = omega (arith, n, next_file) in l);
       }
 
@@ -100,8 +111,7 @@ module _ (e : EngineState) (table : TableState) (moved : AreMoved e table.files)
       let m = moved.back number new there in
       let old : KeptFile = m.0 in
       let w : World = world (sources (up_to change h)) in
-      let under : old.content.base ≤ change = elim m.2.base [ inl is ↦ (omega (arith, low, is)) | inr p ↦ (let to = p.0 in let from = p.1 in omega (arith, low, to, from)) ] in
-      subst (λ (x : Expr). IsContent change new.content.rows (rows_in x w)) (sym m.2.expr) (m.2.stays change (rows_in old.expr w) low (held number old change m.1 under high))
+      subst (λ (x : Expr). IsContent change new.content.rows (rows_in x w)) (sym m.2.expr) (m.2.stays change (rows_in old.expr w) low (held number old change m.1 (under (least_of e number) change old new m.2 low) high))
 
   pub follows_moved : (h : History) → Follows e h → Follows (record e { table = table }) h
   follows_moved h s = record {

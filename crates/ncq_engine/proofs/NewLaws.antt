@@ -27,6 +27,7 @@ module _ (labels : List Label) (table : TableState) (files : table.files ≡ emp
     installed = tt;
     number = number;
     fits = λ at file here. absurd (nothing_there table.files files at file here);
+    sound = λ at file here n low. absurd (nothing_there table.files files at file here);
     next = (let l : table.next_file ≤ 256 * 0 = omega (arith, next) in l);
   }
 

@@ -61,11 +61,6 @@ abbrev pub KeepBases : EngineState → EngineState → Type 0
 KeepBases old new = EachFile old.table.files (λ number file.
     HasBase new.table.files number file.content.base)
 
--- a file can be compacted to a number: it is above the base, and no row is above it
-pub record CanMoveTo (number : ℕ) (content : FileState) : Type 0 where
-  pub above : content.base < number
-  pub last : AllByRecursion (λ r. r.number ≤ number) content.rows
-
 -- each file that had a base has it still, or has the least mark as its base
 abbrev pub MoveBases : EngineState → EngineState → Type 0
 MoveBases old new = (number base : ℕ) → HasBase old.table.files number base

@@ -17,7 +17,7 @@ use Rattle.ncq_plan.specs.declared.query.NormalQuery.{NormalQuery}
 use Rattle.ncq_plan.specs.WellFormed.{IsWellFormed}
 use Rattle.ncq_midfile.specs.Content.{IsSoundAt}
 use Rattle.ncq_midfile.specs.declared.signed.SignedRow.{SignedRow}
-use Rattle.ncq_shelf.specs.KeptFiles.{KeptFile, Files}
+use Rattle.ncq_shelf.specs.KeptFiles.{EachFile, KeptFile, Files}
 use Rattle.ncq_shelf.specs.Contents.{Fits}
 use Rattle.ncq_group.specs.Tables.{TableState}
 use Rattle.ncq_live.specs.LiveTables.{plan_in}
@@ -143,10 +143,15 @@ new_subscription statement query timing action creates file = record {
   noted = None;
 }
 
+-- at each change from a file's base on no row of it went out more often than it came in
+abbrev pub AreSound : Files → Type 0
+AreSound files = EachFile files (λ number file.
+    (n : ℕ) → file.content.base ≤ n → IsSoundAt n file.content.rows)
+
 -- what holds of an engine whatever was answered: there are no more changes and creates than
 -- commands, and no source has changed later; its subscriptions can be told and rise
--- by install number; its files have the rows of the sources as they stand, and no more numbers were
--- given than creates can take
+-- by install number; its files have the rows of the sources as they stand, and were sound at each
+-- change since their bases, and no more numbers were given than creates can take
 pub record IsEngine (store : StoreState) (count creates : ℕ) (labels : List Label)
     (subscriptions : List Kept) (table : TableState) : Type 0 where
   pub changes : store.changes ≤ count
@@ -157,4 +162,5 @@ pub record IsEngine (store : StoreState) (count creates : ℕ) (labels : List La
   pub installed : InstallsAreUpTo creates subscriptions
   pub number : table.number ≡ store.changes
   pub fits : Fits table.number (world_in store) table.files
+  pub sound : AreSound table.files
   pub next : table.next_file ≤ 256 * creates

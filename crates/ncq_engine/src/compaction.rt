@@ -1,7 +1,7 @@
 //! Which number a file is compacted to.
-ghost use Rattle.std.specs.Prelude.{◌≡◌, ◌≤◌, IfOk, IsTrue};
+ghost use Rattle.std.specs.Prelude.{◌≡◌, ◌<◌, ◌≤◌, IfOk, IsTrue};
 ghost use Rattle.ncq_book.specs.Books.{subscription_of};
-ghost use Rattle.ncq_engine.specs.Compactions.{CanMoveTo, IsWorn, least_among};
+ghost use Rattle.ncq_engine.specs.Compactions.{IsWorn, least_among};
 ghost use Rattle.ncq_engine.specs.Compactions.{least_at, least_mark};
 ghost use Rattle.ncq_midfile.specs.Shown.{shown};
 ghost use Rattle.ncq_midfile.specs.Views.{losses_above};
@@ -57,13 +57,20 @@ fn least_at(book: &Book, store: &Store, install: u64, number: u64) -> u64
     }
 }
 
-/// Whether the file is to be compacted to the number: it has lost much, the number is above its
-/// base, and no row of it is above the number.
+/// Whether the file is to be compacted to the number: the number is above its base, and it has lost
+/// much. Where rows of it are above the number, only what went out up to the number counts, and has
+/// to pay for a look at all rows.
 pub(crate) fn is_due(view: &View<'_>, number: u64) -> bool
-    ensures due { IsTrue result → CanMoveTo number (shown view.now) }
+    ensures due { IsTrue result → (shown view.now).base < number }
     ensures worn { IsWorn number (shown view.now) → IsTrue result }
 {
-    has_lost_much(view) && view.base() < number && view.last() <= number
+    if view.base() >= number {
+        return false;
+    }
+    if view.last() <= number {
+        return has_lost_much(view);
+    }
+    is_large(view, view.minus().saturating_sub(view.losses(number)))
 }
 
 /// Whether as many rows went out above the base as make a file worn, or a third of the signed rows
@@ -72,5 +79,10 @@ fn has_lost_much(view: &View<'_>) -> bool
     ensures { 64 ≤ losses_above (shown view.now).base (shown view.now).rows → IsTrue result }
 {
     let losses = view.minus();
-    losses > 0 && (losses as u64 >= LOSSES || losses.saturating_mul(3) >= view.len())
+    losses as u64 >= LOSSES || is_large(view, losses)
+}
+
+/// Whether so many rows that went out are a third of the signed rows or more.
+fn is_large(view: &View<'_>, losses: usize) -> bool {
+    losses > 0 && losses.saturating_mul(3) >= view.len()
 }

@@ -1,5 +1,6 @@
 -- A table one of whose files has another base.
 use Rattle.std.proofs.Common.{◌≡◌, ℕ, ◌≤◌, true, false, cond, List, [], ◌∷◌, ◌++◌, map, filter, length, Some, ◌⊎◌, inl, inr, refl, sym, ap, ◌∙◌, subst, arith}
+use Rattle.std.specs.Prelude.{nat_lt}
 use Rattle.std.specs.List.{AllByRecursion}
 use Rattle.std.specs.FinMap.{get, insert}
 use Rattle.ncq_base.specs.declared.interval.Interval.{Interval}
@@ -11,13 +12,13 @@ use Rattle.ncq_plan.specs.declared.expr.Expr.TheOpen.Expr-F.{Scan as ScanLayer, 
 use Rattle.ncq_plan.specs.Exprs.{expr_width}
 use Rattle.ncq_row.specs.Embeddings.{Row}
 use Rattle.ncq_midfile.specs.Content.{gains, losses, rows_of, up_to}
-use Rattle.ncq_midfile.specs.Files.{IsThere}
+use Rattle.ncq_midfile.specs.Files.{AreLeftAt, IsThere}
 use Rattle.ncq_midfile.specs.declared.signed.SignedRow.{SignedRow}
 use Rattle.ncq_fill.proofs.FileLaws.{wide_same}
-use Rattle.ncq_shelf.specs.KeptFiles.{AtFile, KeptFile, Files}
-use Rattle.ncq_shelf.specs.Contents.{IsUpTo, IsWide, HoldsItsContent, IsCompacted, IsRaised}
+use Rattle.ncq_shelf.specs.KeptFiles.{KeptFile, Files}
+use Rattle.ncq_shelf.specs.Contents.{IsUpTo, IsWide, IsCompacted, IsRaised}
 use Rattle.ncq_shelf.specs.Ranges.{IsRange}
-use Rattle.ncq_shelf.proofs.CallerLemmas.{put_same, one_value}
+use Rattle.ncq_shelf.proofs.CallerLemmas.{all_map, all_part, all_parts}
 use Rattle.ncq_group.specs.Tables.{TableState, Facts}
 use Rattle.ncq_group.proofs.SameTable.{facts_put, wide_up_to}
 
@@ -32,10 +33,6 @@ gains_wide width (r ∷ rows) all = by_test r.plus (gains_wide width rows all.1)
 front_wide : (width : ℕ) (rows more : List Row) → AllByRecursion (λ row. length row ≡ width) (rows ++ more) → AllByRecursion (λ row. length row ≡ width) rows
 front_wide width [] more all = tt
 front_wide width (row ∷ rows) more all = (all.0, front_wide width rows more all.1)
-
-there_last : (change : ℕ) (rows : List SignedRow) → AllByRecursion (IsThere change) rows → AllByRecursion (λ r. r.number ≤ change) rows
-there_last change [] all = tt
-there_last change (r ∷ rows) all = (all.0.0, there_last change rows all.1)
 
 -- rows are as wide as what they are rows of
 rows_wide : (width : ℕ) (rows : List SignedRow) → AllByRecursion (λ row. length row ≡ width) (rows_of rows) → AllByRecursion (λ r. length r.row ≡ width) rows
@@ -55,56 +52,50 @@ is_range expr = by (out-Expr expr) refl
     by (RangeLayer inner slot interval) e = inl (record { inner = inner; slot = slot; interval = interval; is = sym (roll-out-Expr expr) ∙ ap roll-Expr e ∙ rolls-RangeSel inner slot interval })
     by (JoinLayer left right pairs) e = inr (λ r. let same : JoinLayer left right pairs ≡ RangeLayer r.inner r.slot r.interval = sym e ∙ ap out-Expr r.is ∙ range_layer r.inner r.slot r.interval in cc)
 
-at_most : (change now : ℕ) (rows : List SignedRow) → AllByRecursion (λ r. r.number ≤ change) rows → change ≤ now → AllByRecursion (λ r. r.number ≤ now) rows
-at_most change now [] all less = tt
-at_most change now (r ∷ rows) all less = ((let a = all.0 in omega arith), at_most change now rows all.1 less)
+-- a file that has rows of its own: what holds of those that are left and of all old ones holds of all
+module _ (change now : ℕ) (old new : KeptFile) (is : IsCompacted change old new) (left : AreLeftAt change old.content.rows new.content.rows) where
+  own_all : (P : SignedRow → Type 0) → AllByRecursion P (up_to change new.content.rows) → AllByRecursion P old.content.rows → AllByRecursion P new.content.rows
+  own_all P first all =
+      all_parts P change new.content.rows first (subst (AllByRecursion P) (sym left.later) (all_part P (λ r. nat_lt change r.number) old.content.rows all))
 
--- a file that has rows of its own
-module _ (change now : ℕ) (old new : KeptFile) (is : IsCompacted change old new) (holds : HoldsItsContent change old new) where
   own_wide : IsWide old → IsWide new
   own_wide wide =
       let width = expr_width old.expr in
-      let list = rows_of new.content.rows in
-      let all = wide_same width (list ++ losses (up_to change old.content.rows)) (gains (up_to change old.content.rows)) holds.content (gains_wide width (up_to change old.content.rows) (wide_up_to change width old.content.rows wide)) in
-      let made = rows_wide width new.content.rows (front_wide width list (losses (up_to change old.content.rows)) all) in
-      subst (λ e. AllByRecursion (λ r. length r.row ≡ expr_width e) new.content.rows) (sym is.expr) made
+      let list = rows_of (up_to change new.content.rows) in
+      let all = wide_same width (list ++ losses (up_to change old.content.rows)) (gains (up_to change old.content.rows)) left.content (gains_wide width (up_to change old.content.rows) (wide_up_to change width old.content.rows wide)) in
+      let first = rows_wide width (up_to change new.content.rows) (front_wide width list (losses (up_to change old.content.rows)) all) in
+      subst (λ e. AllByRecursion (λ r. length r.row ≡ expr_width e) new.content.rows) (sym is.expr) (own_all (λ r. length r.row ≡ width) first wide)
 
-  own_last : change ≤ now → IsUpTo now new.content
-  own_last less = record {
+  own_last : change ≤ now → IsUpTo now old.content → IsUpTo now new.content
+  own_last less up = record {
     base = let b = is.base in omega arith;
-    last = at_most change now new.content.rows (there_last change new.content.rows holds.there) less;
+    last = own_all (λ r. r.number ≤ now) (all_map (IsThere change) (λ r. r.number ≤ now) (λ r there. let a = there.0 in omega arith) (up_to change new.content.rows) left.there) up.last;
   }
 
 -- any file: one that selects by an interval keeps its rows
-module _ (change now : ℕ) (old new : KeptFile) (is : IsCompacted change old new) (holds : (IsRange old.expr → ⊥) → HoldsItsContent change old new) (same : IsRange old.expr → new.content.rows ≡ old.content.rows) where
+module _ (change now : ℕ) (old new : KeptFile) (is : IsCompacted change old new) (left : (IsRange old.expr → ⊥) → AreLeftAt change old.content.rows new.content.rows) (same : IsRange old.expr → new.content.rows ≡ old.content.rows) where
   compact_wide : IsWide old → IsWide new
   compact_wide wide = elim (is_range old.expr) [
     | inl range ↦ subst (λ e. AllByRecursion (λ r. length r.row ≡ expr_width e) new.content.rows) (sym is.expr) (subst (λ rows. AllByRecursion (λ (r : SignedRow). length r.row ≡ expr_width old.expr) rows) (sym (same range)) wide)
-    | inr own ↦ own_wide change now old new is (holds own) wide
+    | inr own ↦ own_wide change now old new is (left own) wide
   ]
 
-  compact_last : AllByRecursion (λ r. r.number ≤ change) old.content.rows → change ≤ now → IsUpTo now new.content
-  compact_last last less = elim (is_range old.expr) [
+  compact_last : change ≤ now → IsUpTo now old.content → IsUpTo now new.content
+  compact_last less up = elim (is_range old.expr) [
     | inl range ↦ record {
       base = let b = is.base in omega arith;
-      last = at_most change now new.content.rows (subst (λ rows. AllByRecursion (λ (r : SignedRow). r.number ≤ change) rows) (sym (same range)) last) less;
+      last = subst (λ rows. AllByRecursion (λ (r : SignedRow). r.number ≤ now) rows) (sym (same range)) up.last;
     }
-    | inr own ↦ own_last change now old new is (holds own) less
+    | inr own ↦ own_last change now old new is (left own) less up
   ]
 
--- a file that was compacted has no row above the change
-pub is_settled : (old new : Files) (number change : ℕ) (kept : KeptFile) → AllByRecursion (λ r. r.number ≤ change) kept.content.rows → (next : KeptFile) × (new ≡ insert old number next) × IsCompacted change kept next
-    → ((IsRange kept.expr → ⊥) → AtFile new number (HoldsItsContent change kept)) → (IsRange kept.expr → AtFile new number (λ next. next.content.rows ≡ kept.content.rows)) → AtFile new number (λ next. IsUpTo change next.content)
-is_settled old new number change kept last put own range next at =
-    let same : put.0 ≡ next = one_value (ap (λ f. get f number) put.1 ∙ put_same old number put.0) at in
-    compact_last change change kept next (subst (IsCompacted change kept) same put.2) (λ h. own h next at) (λ h. range h next at) last (omega arith)
-
 module _ (table : TableState) (facts : Facts table) (number change : ℕ) (old next : KeptFile) (at : get table.files number ≡ Some old) (is : IsCompacted change old next)
-    (holds : (IsRange old.expr → ⊥) → HoldsItsContent change old next) (kept : IsRange old.expr → next.content.rows ≡ old.content.rows) (last : AllByRecursion (λ r. r.number ≤ change) old.content.rows) (less : change ≤ table.number)
+    (left : (IsRange old.expr → ⊥) → AreLeftAt change old.content.rows next.content.rows) (kept : IsRange old.expr → next.content.rows ≡ old.content.rows) (less : change ≤ table.number)
     (new : Files) (put : new ≡ insert table.files number next) where
   pub facts_compacted : Facts (record { files = new; next_file = table.next_file; number = table.number })
   facts_compacted =
-      facts_put table facts number old next at is.expr is.uses (compact_wide change table.number old next is holds kept (facts.wide number old at)) (compact_last change table.number old next is holds kept last less) new put
+      facts_put table facts number old next at is.expr is.uses (compact_wide change table.number old next is left kept (facts.wide number old at))
+      (compact_last change table.number old next is left kept less (facts.up_to number old at)) new put
 
 -- a file whose base was raised
 raised_wide : (change : ℕ) (old next : KeptFile) → IsRaised change old next → IsWide old → IsWide next

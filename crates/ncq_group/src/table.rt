@@ -9,6 +9,7 @@ ghost use Rattle.ncq_plan.specs.declared.expr.Expr.{Expr as an_expr};
 ghost use Rattle.ncq_plan.specs.Exprs.{expr_width};
 ghost use Rattle.ncq_plan.specs.WellFormed.{IsWellFormedExpr};
 ghost use Rattle.ncq_midfile.specs.Content.{IsSoundAt};
+ghost use Rattle.ncq_midfile.specs.Files.{AreLeftAt};
 ghost use Rattle.ncq_midfile.specs.Shown.{shown, rows_below};
 ghost use Rattle.ncq_change.specs.Stores.{world_in};
 ghost use Rattle.ncq_signature.specs.Groups.{AreGroupLines};
@@ -16,8 +17,7 @@ ghost use Rattle.ncq_shelf.specs.KeptFiles.{AtFile, EachFile, KeptFile};
 ghost use Rattle.ncq_shelf.specs.Stands.{IsThere};
 ghost use Rattle.ncq_shelf.specs.Ranges.{IsRange, IsRangeFile, SelectsRange, ShareRows};
 ghost use Rattle.ncq_shelf.specs.RowCounts.{CountsRows};
-ghost use Rattle.ncq_shelf.specs.Contents.{Fits, HoldsItsContent, IsCompacted, cut_to};
-ghost use Rattle.ncq_shelf.specs.Contents.{AreFolded, IsRaised, IsUpTo};
+ghost use Rattle.ncq_shelf.specs.Contents.{AreFolded, Fits, IsCompacted, IsRaised, cut_to};
 ghost use Rattle.ncq_feed.specs.Feeds.{IsPreparedFrom, AreFed, NamesTheFed, world_after, feed_work};
 ghost use Rattle.ncq_feed.specs.Feeds.{CountsHeld, plain_work, held_work};
 ghost use Rattle.ncq_count.specs.FileExprs.{exprs_of};
@@ -273,13 +273,12 @@ impl GroupTable {
     }
 
     /// Makes a change the base of a file. Where it has rows of its own it has then those that are
-    /// left there, each as one that is there from the base on; a selection by an interval keeps its
-    /// rows. After an error the table is as it was. The only error is that memory ran out.
+    /// left there, each as one that is there from the base on, and those of later changes; a
+    /// selection by an interval keeps its rows. After an error the table is as it was. The only
+    /// error is that memory ran out.
     pub fn compact(&mut self, alloc: Global, file: FileId, change: u64) -> Result<(), AllocError>
         requires there { IsThere self.old.files file.0 }
         requires base { AtFile self.old.files file.0 (λ kept. kept.content.base ≤ change) }
-        requires last { AtFile self.old.files file.0 (λ kept.
-            AllByRecursion (λ r. r.number ≤ change) kept.content.rows) }
         requires sound { AtFile self.old.files file.0 (λ kept. IsSoundAt change kept.content.rows) }
         requires number { change ≤ self.old.number }
         ensures ok { OnOk result (AtFile self.old.files file.0 (λ kept.
@@ -287,9 +286,8 @@ impl GroupTable {
             × IsCompacted change kept next)) }
         ensures rows { OnOk result (AtFile self.old.files file.0 (λ kept.
             (IsRange kept.expr → ⊥)
-            → AtFile self.new.files file.0 (λ next. HoldsItsContent change kept next))) }
-        ensures settled { OnOk result
-            (AtFile self.new.files file.0 (λ next. IsUpTo change next.content)) }
+            → AtFile self.new.files file.0 (λ next.
+            AreLeftAt change kept.content.rows next.content.rows))) }
         ensures err { OnErr result (self.new ≡ self.old) }
         ensures next_file { self.new.next_file ≡ self.old.next_file }
         ensures number { self.new.number ≡ self.old.number }

@@ -1,5 +1,5 @@
 -- How many rows files lost above their bases, at most: as files come and go, after a change of the sources and after a compaction.
-use Rattle.std.proofs.Common.{◌≡◌, ◌≢◌, ℕ, suc, ◌+◌, ◌-◌, ◌≤◌, ◌<◌, ◌⊎◌, true, false, not, cond, nat_le, nat_lt, ◌&&◌, ◌||◌, Bool, List, [], ◌∷◌, ◌++◌, filter, length, take, get_or, slice_get, inl, inr, refl, sym, ◌∙◌, ap, subst, true≢false, arith}
+use Rattle.std.proofs.Common.{◌≡◌, ◌≢◌, ℕ, suc, ◌+◌, ◌-◌, ◌≤◌, ◌<◌, ◌⊎◌, true, false, not, cond, nat_le, nat_lt, ◌&&◌, ◌||◌, Bool, List, [], ◌∷◌, ◌++◌, filter, length, take, get_or, slice_get, min, inl, inr, refl, sym, ◌∙◌, ap, subst, true≢false, arith}
 use Rattle.std.specs.Prelude.{Option, Some, None, Result, Ok, Err, OnOk, OnErr, is_some, nat_eq, unwrap_or}
 use Rattle.std.specs.BTreeMap.{is_at}
 use Rattle.std.specs.BTreeSet.{BTreeSet, MovesPrefix}
@@ -25,7 +25,7 @@ use Rattle.ncq_midfile.specs.Views.{losses_above}
 use Rattle.ncq_midfile.specs.declared.signed.SignedRow.{SignedRow}
 use Rattle.ncq_midfile.proofs.CountsLaws.{losses_above_is}
 use Rattle.ncq_midfile.proofs.Parts.{signed_more}
-use Rattle.ncq_shelf.specs.Contents.{AreFolded, IsRaised, IsUpTo, cut_to}
+use Rattle.ncq_shelf.specs.Contents.{AreFolded, IsCompacted, IsRaised, cut_to}
 use Rattle.ncq_shelf.specs.KeptFiles.{AtFile, EachFile, Files, KeptFile}
 use Rattle.ncq_shelf.specs.Stands.{IsThere}
 use Rattle.ncq_shelf.proofs.CallerLemmas.{put_same, put_other, there, one_value}
@@ -223,17 +223,33 @@ bounds_more files before after up known number file at =
     let no_less = up number in
     elim (known number file at) [ inl low ↦ inl (omega arith) | inr worn ↦ inr (omega arith) ]
 
--- a file is another, none of whose rows is above its base
-pub bounds_settled : (files : Files) (number base : ℕ) (next : KeptFile) → next.content.base ≡ base → IsUpTo base next.content
-    → (before after : Bounds) → ((other : ℕ) → other ≢ number → bound_of other after ≡ bound_of other before) → AreBounds files before → AreBounds (insert files number next) after
-bounds_settled files number base next is settled before after others known other file at = elim (cases_eq other number) [
-  | inl here ↦
-      let same : file ≡ next = one_value (subst (λ n. get (insert files number next) n ≡ Some file) here at) (put_same files number next) in
-      let none : losses_of file ≡ 0 = ap losses_of same ∙ none_lost next.content.base next.content.rows (subst (λ n. AllByRecursion (λ r. r.number ≤ n) next.content.rows) (sym is) settled.last) in
-      inl (omega arith)
+-- a file was compacted: the rows above its new base are those that it had there
+compacted_lost : (change : ℕ) (kept next : KeptFile) → kept.content.base ≤ change → IsCompacted change kept next → losses_of next ≤ losses_of kept
+compacted_lost change kept next up compacted =
+    let fewer = fewer_above kept.content.base change kept.content.rows up in
+    let same : losses_of next ≡ losses_above change kept.content.rows =
+    ap (λ n. losses_above n next.content.rows) compacted.base
+    ∙ losses_since change next.content.rows (since change kept.content.rows) compacted.later
+    ∙ sym (losses_above_is change kept.content.rows) in
+    omega arith
+
+-- and of it is known how many rows went out above that, or no more
+pub bounds_compacted : (old new : Files) (number change : ℕ) (kept next : KeptFile) → get old number ≡ Some kept → kept.content.base ≤ change → IsCompacted change kept next → new ≡ insert old number next
+    → (before after : Bounds) → bound_of number after ≡ min (losses_of next) (bound_of number before) → ((other : ℕ) → other ≢ number → bound_of other after ≡ bound_of other before)
+    → AreBounds old before → AreBounds new after
+bounds_compacted old new number change kept next here up compacted put before after counted others known other file at = elim (cases_eq other number) [
+  | inl e ↦
+      let is : file ≡ next = one_value (subst (λ n. get new n ≡ Some file) e at) ((λ i. get (put i) number) ∙ put_same old number next) in
+      subst (λ n. (losses_of file ≤ bound_of n after) ⊎ (64 ≤ bound_of n after)) (sym e)
+      (subst (λ (f : KeptFile). (losses_of f ≤ bound_of number after) ⊎ (64 ≤ bound_of number after)) (sym is)
+      (least_known (losses_of next) (losses_of kept) (bound_of number before) (bound_of number after) (compacted_lost change kept next up compacted) counted (known number kept here)))
   | inr differs ↦
-      subst (λ b. (losses_of file ≤ b) ⊎ (64 ≤ b)) (sym (others other differs)) (known other file (sym (put_other files number next other differs) ∙ at))
+      subst (λ b. (losses_of file ≤ b) ⊎ (64 ≤ b)) (sym (others other differs)) (known other file (sym ((λ i. get (put i) other) ∙ put_other old number next other differs) ∙ at))
 ]
+  where
+    least_known : (losses was known least : ℕ) → losses ≤ was → least ≡ min losses known → (was ≤ known) ⊎ (64 ≤ known) → (losses ≤ least) ⊎ (64 ≤ least)
+    least_known losses was known least fewer is (inl low) = inl (omega arith)
+    least_known losses was known least fewer is (inr worn) = elim (cases_lt known losses) [ inl less ↦ inr (omega arith) | inr no_less ↦ inl (omega arith) ]
 
 -- what is known of files is the same
 pub order_same : (table : TableState) (subscriptions : List Subscription) (before after : WearState) → after.bounds ≡ before.bounds → after.pinned ≡ before.pinned → IsInOrder table subscriptions before → IsInOrder table subscriptions after

@@ -1,6 +1,6 @@
 //! The live table: subscriptions, and the files that they use.
-ghost use Rattle.std.specs.Prelude.{◌≡◌, ℕ, ◌+◌, ◌-◌, ◌<◌, ◌≤◌, ◌^◌, ◌⊎◌, List, []};
-ghost use Rattle.std.specs.Prelude.{length, map, filter, nat_eq, false, true, not, Some};
+ghost use Rattle.std.specs.Prelude.{◌≡◌, ℕ, ◌+◌, ◌-◌, ◌<◌, ◌≤◌, ◌^◌, ◌⊎◌, ◌≢◌, List, []};
+ghost use Rattle.std.specs.Prelude.{length, map, filter, min, nat_eq, false, true, not, Some};
 ghost use Rattle.std.specs.Prelude.{IfOk, OnOk, OnErr, IfSome, IfNone, IsTrue};
 ghost use Rattle.std.specs.FinMap.{empty, get, insert};
 ghost use Rattle.std.specs.Option.{option_map};
@@ -9,10 +9,11 @@ ghost use Rattle.ncq_plan.specs.declared.expr.Expr.{Expr as an_expr};
 ghost use Rattle.ncq_plan.specs.WellFormed.{IsWellFormed};
 ghost use Rattle.ncq_change.specs.Stores.{world_in};
 ghost use Rattle.ncq_midfile.specs.Content.{IsSoundAt};
+ghost use Rattle.ncq_midfile.specs.Files.{AreLeftAt};
 ghost use Rattle.ncq_midfile.specs.Shown.{shown};
 ghost use Rattle.ncq_midfile.specs.Views.{losses_above};
 ghost use Rattle.ncq_midfile.specs.declared.signed.SignedRow.{SignedRow as a_signed_row};
-ghost use Rattle.ncq_shelf.specs.Contents.{Fits, HoldsItsContent, IsCompacted, cut_to};
+ghost use Rattle.ncq_shelf.specs.Contents.{Fits, IsCompacted, cut_to};
 ghost use Rattle.ncq_shelf.specs.Contents.{AreFolded, IsRaised};
 ghost use Rattle.ncq_shelf.specs.KeptFiles.{AtFile, EachFile, KeptFile};
 ghost use Rattle.ncq_feed.specs.Feeds.{IsPreparedFrom, AreFed, NamesTheFed, world_after, feed_work};
@@ -25,7 +26,7 @@ ghost use Rattle.ncq_book.specs.Books.{InstallsRise, NamesDiffer};
 ghost use Rattle.ncq_live.specs.LiveTables.{IsLiveTable, HasJoined, plan_in};
 ghost use Rattle.ncq_live.specs.Shares.{Shares};
 ghost use Rattle.ncq_live.specs.Wears.{HasTheWorn, IsToldBefore, LeavesBehind, bound_of};
-ghost use Rattle.ncq_live.specs.Wears.{is_among, is_pinned};
+ghost use Rattle.ncq_live.specs.Wears.{PinsNoMore, is_among, is_pinned, losses_of};
 ghost use Rattle.ncq_shelf.specs.Stands.{IsThere};
 
 use crate::wear::{LOSSES, Wear};
@@ -288,13 +289,11 @@ impl LiveTable {
         losses
     }
 
-    /// Makes a change the base of a file, which is then worn no more. After an error the live
-    /// table is as it was. The only error is that memory ran out.
+    /// Makes a change the base of a file: of rows of its own none stays that went out up to it.
+    /// After an error the live table is as it was. The only error is that memory ran out.
     pub fn compact(&mut self, alloc: Global, number: u64, change: u64) -> Result<(), AllocError>
         requires there { IsThere self.old.table.files number }
         requires base { AtFile self.old.table.files number (λ kept. kept.content.base ≤ change) }
-        requires last { AtFile self.old.table.files number (λ kept.
-            AllByRecursion (λ r. r.number ≤ change) kept.content.rows) }
         requires sound { AtFile self.old.table.files number (λ kept.
             IsSoundAt change kept.content.rows) }
         requires number { change ≤ self.old.table.number }
@@ -303,7 +302,8 @@ impl LiveTable {
             × IsCompacted change kept next)) }
         ensures rows { OnOk result (AtFile self.old.table.files number (λ kept.
             (IsRange kept.expr → ⊥)
-            → AtFile self.new.table.files number (λ next. HoldsItsContent change kept next))) }
+            → AtFile self.new.table.files number (λ next.
+            AreLeftAt change kept.content.rows next.content.rows))) }
         ensures next_file { self.new.table.next_file ≡ self.old.table.next_file }
         ensures number { self.new.table.number ≡ self.old.table.number }
         ensures subscriptions { self.new.subscriptions ≡ self.old.subscriptions }
@@ -311,8 +311,7 @@ impl LiveTable {
         ensures err { OnErr result (self.new ≡ self.old) }
     {
         self.groups.compact(alloc, FileId(number), change)?;
-        // No row is left above the base, so none went out above it, and no timer is behind one.
-        self.wear.lower(number, 0);
+        count_anew(&self.groups, &mut self.wear, number);
         Ok(())
     }
 
@@ -442,6 +441,25 @@ fn wear_out(
     }
     list_spent(wear, spent)?;
     wear.list_waiting(groups)
+}
+
+/// Counts anew how many rows of a file went out above its base. It does not count as pinned any
+/// more: where it is worn, no file does. It takes no memory.
+fn count_anew(groups: &GroupTable, wear: &mut Wear, number: u64)
+    requires { IsThere groups.now.files number }
+    ensures here { AtFile groups.now.files number (λ file. bound_of number wear.new.bounds
+        ≡ min (losses_of file) (bound_of number wear.old.bounds)) }
+    ensures others { (other : ℕ) → other ≢ number
+        → bound_of other wear.new.bounds ≡ bound_of other wear.old.bounds }
+    ensures pinned { PinsNoMore wear.old wear.new }
+    ensures free { is_among number wear.new.pinned ≡ false }
+{
+    let losses = groups.file(FileId(number)).minus() as u64;
+    wear.lower(number, losses);
+    if losses >= LOSSES {
+        // The timer that pinned it may be behind none of the rows that are left.
+        wear.loosen();
+    }
 }
 
 /// The later one of two files whose shared rows are worth a fold: one of a group is enough.

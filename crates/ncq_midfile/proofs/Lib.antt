@@ -16,6 +16,7 @@ pub mod Gathers
 pub mod IndexLaws
 pub mod Kept
 pub mod Left
+pub mod LeftAt
 pub mod Matches
 pub mod OrderLaws
 pub mod PairLaws

@@ -2,8 +2,8 @@
 ghost use Rattle.std.specs.Prelude.{◌≡◌, ◌+◌, ◌-◌, ◌<◌, ◌≤◌, ◌^◌, ◌++◌, [], ◌∷◌, length, take};
 ghost use Rattle.std.specs.Prelude.{drop, IfOk, OnOk, cond, false, ◌&&◌};
 ghost use Rattle.std.specs.List.{range_with_len, All};
-ghost use Rattle.ncq_midfile.specs.Content.{up_to, since, IsBalanced, signed_at, IsPart};
-ghost use Rattle.ncq_midfile.specs.Content.{IsLeft, AreGains};
+ghost use Rattle.ncq_midfile.specs.Content.{up_to, since, rows_at, signed_at, IsPart, IsBalanced};
+ghost use Rattle.ncq_midfile.specs.Content.{IsContent, IsLeft, IsSoundAt, AreGains, AreRising};
 ghost use Rattle.ncq_midfile.specs.Files.{AreParted};
 ghost use Rattle.ncq_midfile.specs.LossCounts.{is_row, loss_count, has_sign, CountsOf, IsStrike};
 
@@ -55,6 +55,22 @@ pub(crate) fn places_from(alloc: Global, from: usize, count: usize) -> Result<Pl
         places.push(from + at)?;
     }
     Ok(places)
+}
+
+/// The places of the rows that are left at `n`.
+pub(crate) fn content_of(alloc: Global, rows: &[SignedRow], n: u64) -> Result<Places, AllocError>
+    requires parted { AreParted n rows.now }
+    requires sound { IsSoundAt n rows.now }
+    ensures rising { IfOk result (λ places. AreRising 0 places) }
+    ensures gains { IfOk result (λ places. AreGains rows.now places) }
+    ensures within { IfOk result (λ places. All (λ place. place < length rows.now) places) }
+    ensures early { IfOk result (λ places.
+        All (λ place. place < length (up_to n rows.now)) places) }
+    ensures content { IfOk result (λ places. IsContent n rows.now (rows_at places rows.now)) }
+{
+    let all = first_places(alloc, count_up_to(rows, n))?;
+    let left = left_over(alloc, rows, all.as_slice())?;
+    Ok(left)
 }
 
 /// The places of the rows that came in and are left after each row that went out has struck out an

@@ -1,20 +1,21 @@
 //! A file of signed rows.
 ghost use Rattle.std.specs.Prelude.{◌≡◌, ◌<◌, ◌≤◌, ◌++◌, [], ◌∷◌, List, map, filter, length};
-ghost use Rattle.std.specs.Prelude.{slice_get, Some, IfOk, OnOk, OnErr};
+ghost use Rattle.std.specs.Prelude.{ℕ, slice_get, Some, IfOk, OnOk, OnErr};
 ghost use Rattle.std.specs.List.{AllByRecursion, All};
 ghost use Rattle.ncq_row.specs.Embeddings.{Row as a_row};
-ghost use Rattle.ncq_midfile.specs.Content.{up_to, since, IsContent, IsSoundAt, rows_of, rows_at};
+ghost use Rattle.ncq_midfile.specs.Content.{up_to, since, IsContent, IsSoundAt, rows_at};
 ghost use Rattle.ncq_midfile.specs.Content.{AreRising, AreGains, signed_at};
-ghost use Rattle.ncq_midfile.specs.Files.{AreParted, IsFile, IsThere};
+ghost use Rattle.ncq_midfile.specs.Files.{AreLeftAt, IsFile};
 ghost use Rattle.ncq_midfile.specs.Made.{gained_at};
 ghost use Rattle.ncq_midfile.specs.Matching.{HaveSlots, has_key};
 ghost use Rattle.ncq_midfile.specs.Views.{IsContentOf, is_within, losses_above};
 ghost use Rattle.ncq_base.specs.Counts.{SameCounts};
 
-use crate::compact::gather;
-use crate::content::{count_up_to, first_places, left_over, places_from};
-use crate::counts::count_losses;
+use crate::compact::left_at;
+use crate::content::{content_of, count_up_to, first_places, places_from};
+use crate::counts::{count_losses, last_number};
 use crate::finder::{Finder, cut_all, forget_all, keep_index, keep_order, lose_index, lose_order};
+use crate::fold::keep_at;
 use crate::key::{KeyAtom, atoms_of};
 use crate::lose::lose_indexes;
 use crate::matching::matching_in;
@@ -305,20 +306,33 @@ impl MidFile {
         lose_order(&mut self.finders, slot);
     }
 
-    /// Makes `n` the base: the file has then the rows that are left at `n`, in any order. Rows that
-    /// stay keep their numbers. It costs the rows since the base where the file is large and all
-    /// rows are as wide as the first, else all rows; where there are fewer than 256 and few of them
-    /// stay, at most all rows for each that went out, and no memory. After an error the file is as
-    /// it was.
+    /// Makes `n` the base: of the rows up to `n` the file has then those that are left there, in any
+    /// order, and behind them it has the rows above `n`. All keep their numbers. It costs the rows
+    /// since the base where the file is large, all rows are as wide as the first and none is above
+    /// `n`, else all rows; where none is above `n`, there are fewer than 256 and few of them stay, at
+    /// most all rows for each that went out, and no memory. After an error the file is as it was.
     pub fn compact(&mut self, alloc: Global, n: u64) -> Result<(), AllocError>
+        requires base { self.old.base ≤ n }
+        requires sound { IsSoundAt n self.old.rows }
+        ensures base { OnOk result (self.new.base ≡ n) }
+        ensures left { OnOk result (AreLeftAt n self.old.rows self.new.rows) }
+        ensures stays { OnOk result ((at : ℕ) (list : List a_row) → n ≤ at
+            → IsContent at self.old.rows list → IsContent at self.new.rows list) }
+        ensures err { OnErr result (self.new ≡ self.old) }
+    {
+        if last_number(self.rows.as_slice(), self.base) > n {
+            return self.gather(alloc, n);
+        }
+        self.compact_all(alloc, n)
+    }
+
+    /// Makes `n` the base of a file with no row above `n`.
+    fn compact_all(&mut self, alloc: Global, n: u64) -> Result<(), AllocError>
         requires base { self.old.base ≤ n }
         requires last { AllByRecursion (λ r. r.number ≤ n) self.old.rows }
         requires sound { IsSoundAt n self.old.rows }
         ensures base { OnOk result (self.new.base ≡ n) }
-        ensures there { OnOk result (AllByRecursion (IsThere n) self.new.rows) }
-        ensures content { OnOk result (IsContent n self.old.rows (rows_of self.new.rows)) }
-        ensures stays { OnOk result ((list : List a_row)
-            → IsContent n self.old.rows list → IsContent n self.new.rows list) }
+        ensures left { OnOk result (AreLeftAt n self.old.rows self.new.rows) }
         ensures err { OnErr result (self.new ≡ self.old) }
     {
         let rows = self.rows.as_slice();
@@ -335,17 +349,14 @@ impl MidFile {
         Ok(())
     }
 
-    /// Makes `n` the base by taking out pairs of rows one by one. No finder is kept. It takes no
-    /// memory.
+    /// Makes `n` the base of a file with no row above `n` by taking out pairs of rows one by one.
+    /// No finder is kept. It takes no memory.
     fn strike(&mut self, n: u64)
         requires base { self.old.base ≤ n }
         requires last { AllByRecursion (λ r. r.number ≤ n) self.old.rows }
         requires sound { IsSoundAt n self.old.rows }
         ensures base { self.new.base ≡ n }
-        ensures there { AllByRecursion (IsThere n) self.new.rows }
-        ensures content { IsContent n self.old.rows (rows_of self.new.rows) }
-        ensures stays { (list : List a_row)
-            → IsContent n self.old.rows list → IsContent n self.new.rows list }
+        ensures left { AreLeftAt n self.old.rows self.new.rows }
     {
         strike_all(&mut self.rows);
         self.finders.clear();
@@ -355,17 +366,13 @@ impl MidFile {
     /// Makes `n` the base by going through all rows. No finder is kept.
     fn gather(&mut self, alloc: Global, n: u64) -> Result<(), AllocError>
         requires base { self.old.base ≤ n }
-        requires last { AllByRecursion (λ r. r.number ≤ n) self.old.rows }
         requires sound { IsSoundAt n self.old.rows }
         ensures base { OnOk result (self.new.base ≡ n) }
-        ensures there { OnOk result (AllByRecursion (IsThere n) self.new.rows) }
-        ensures content { OnOk result (IsContent n self.old.rows (rows_of self.new.rows)) }
-        ensures stays { OnOk result ((list : List a_row)
-            → IsContent n self.old.rows list → IsContent n self.new.rows list) }
+        ensures left { OnOk result (AreLeftAt n self.old.rows self.new.rows) }
         ensures err { OnErr result (self.new ≡ self.old) }
     {
-        let places = content_of(alloc, self.rows.as_slice(), n)?;
-        gather(&mut self.rows, places.as_slice(), n);
+        let places = left_at(alloc, self.rows.as_slice(), n)?;
+        keep_at(&mut self.rows, places.as_slice());
         self.finders.clear();
         self.base = n;
         Ok(())
@@ -396,20 +403,4 @@ fn all_gained(alloc: Global, number: u64, rows: Rows) -> Result<Vec<SignedRow>, 
         })?;
     }
     Ok(signed)
-}
-
-/// The places of the rows that are left at `n`.
-fn content_of(alloc: Global, rows: &[SignedRow], n: u64) -> Result<Places, AllocError>
-    requires parted { AreParted n rows.now }
-    requires sound { IsSoundAt n rows.now }
-    ensures rising { IfOk result (λ places. AreRising 0 places) }
-    ensures gains { IfOk result (λ places. AreGains rows.now places) }
-    ensures within { IfOk result (λ places. All (λ place. place < length rows.now) places) }
-    ensures early { IfOk result (λ places.
-        All (λ place. place < length (up_to n rows.now)) places) }
-    ensures content { IfOk result (λ places. IsContent n rows.now (rows_at places rows.now)) }
-{
-    let all = first_places(alloc, count_up_to(rows, n))?;
-    let left = left_over(alloc, rows, all.as_slice())?;
-    Ok(left)
 }

@@ -1,12 +1,13 @@
 -- A join comes in, and is found when it is met.
 use Rattle.std.proofs.Common.{◌≡◌, ◌⊎◌, ℕ, List, [], ◌∷◌, ◌++◌, Some, None, Ok, Err, Result, OnOk, OnErr, inl, inr, refl, sym, ap, ◌∙◌, subst}
+use Rattle.std.specs.Prelude.{nat_lt}
 use Rattle.std.specs.List.{AllByRecursion}
 use Rattle.std.specs.FinMap.{get, insert}
 use Rattle.std.proofs.lemmas.Bool.{cases_eq}
 use Rattle.ncq_row.specs.declared.pair.Pair.{Pair}
 use Rattle.ncq_plan.specs.declared.expr.Expr.{Expr}
 use Rattle.ncq_plan.specs.declared.expr.Expr.TheVariants.{Join}
-use Rattle.ncq_midfile.specs.Content.{IsContent, rows_of}
+use Rattle.ncq_midfile.specs.Content.{up_to}
 use Rattle.ncq_midfile.specs.Files.{FileState}
 use Rattle.ncq_midfile.specs.declared.signed.SignedRow.{SignedRow}
 use Rattle.ncq_holders.specs.Held.{Held}
@@ -16,7 +17,7 @@ use Rattle.ncq_shelf.specs.Inputs.{AreInputs}
 use Rattle.ncq_shelf.specs.Indexed.{IsIndexed}
 use Rattle.ncq_shelf.specs.Readers.{JoinsFrom}
 use Rattle.ncq_shelf.specs.Enrolled.{AreSidesOf, OneEach}
-use Rattle.ncq_shelf.specs.Keyed.{is_held, AreHeld, IsFound, IsKeyed, IsJoinFound}
+use Rattle.ncq_shelf.specs.Keyed.{is_held, AreHeld, IsHeld, IsFound, IsKeyed, IsJoinFound}
 use Rattle.ncq_shelf.specs.Shown.{shown}
 use Rattle.ncq_shelf.specs.declared.file.File.{File}
 use Rattle.ncq_shelf.specs.declared.keys.Keys.{Keys}
@@ -27,7 +28,7 @@ use Rattle.ncq_shelf.proofs.Layers.{out-Join, left-input_of, right-input_of}
 use Rattle.ncq_shelf.proofs.Arms.{layers, some_of_join, stand}
 use Rattle.ncq_shelf.proofs.Others.{one_each}
 use Rattle.ncq_shelf.proofs.Added.{input_of_kept}
-use Rattle.ncq_shelf.proofs.KeyLaws.{push, passes_left}
+use Rattle.ncq_shelf.proofs.KeyLaws.{all_part, all_parts, push, passes_left}
 use Rattle.ncq_shelf.specs.Groups.{Groups, HasBase, content_of}
 use Rattle.ncq_shelf.specs.declared.rows.Rows.{Rows}
 
@@ -118,13 +119,15 @@ module _ (gs : Groups) where
   appended_held (Ok x) P gs expr old new row ok err here h = subst (λ (s : FileState). AllByRecursion P s.rows) (sym (ok gs expr)) (push P (content_of gs expr old).rows row h here)
   appended_held (Err e) P gs expr old new row ok err here h = subst (λ (rows : Rows). AllByRecursion P (content_of gs expr rows).rows) (sym err) h
 
+  -- rows that are noted, and those that are left of them with those of later changes, or all
   pub compacted_held : {T E : Type 0} (r : Result T E) (held : Held) (number slot change : ℕ) (gs : Groups) (expr : Expr) (old new : Rows)
       → OnOk r ((gs : Groups) (expr : Expr) → HasBase change (content_of gs expr old) (content_of gs expr new)) → OnErr r (new ≡ old)
       → AreHeld held number slot (content_of gs expr old).rows → AreHeld held number slot (content_of gs expr new).rows
-  compacted_held (Ok x) held number slot change gs expr old new ok err h = passes_left (is_held held number slot) 0 change (content_of gs expr old).rows (content_of gs expr new).rows (ok gs expr).content h
+  compacted_held (Ok x) held number slot change gs expr old new ok err h =
+      let left = (ok gs expr).left in
+      let before = (content_of gs expr old).rows in
+      let after = (content_of gs expr new).rows in
+      let first = passes_left (is_held held number slot) 0 change before (up_to change after) left.content h in
+      let last = subst (AreHeld held number slot) (sym left.later) (all_part (λ r. IsHeld held number slot r.row) (λ r. nat_lt change r.number) before h) in
+      all_parts (λ r. IsHeld held number slot r.row) change after first last
   compacted_held (Err e) held number slot change gs expr old new ok err h = subst (λ (rows : Rows). AreHeld held number slot (content_of gs expr rows).rows) (sym err) h
-
-  -- rows that are noted, and those that are left of them or all
-  pub compact_held : {T E : Type 0} (r : Result T E) (held : Held) (number slot change : ℕ) (old new : FileState) → OnOk r (IsContent change old.rows (rows_of new.rows)) → OnErr r (new ≡ old) → AreHeld held number slot old.rows → AreHeld held number slot new.rows
-  compact_held (Ok x) held number slot change old new ok err h = passes_left (is_held held number slot) 0 change old.rows new.rows ok h
-  compact_held (Err e) held number slot change old new ok err h = subst (λ (s : FileState). AreHeld held number slot s.rows) (sym err) h

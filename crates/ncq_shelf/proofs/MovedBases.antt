@@ -3,7 +3,7 @@ use Rattle.std.proofs.Common.{◌≡◌, ◌⊎◌, ◌≤◌, ℕ, List, Some, 
 use Rattle.std.proofs.lemmas.Result.{on_ok_weaker}
 use Rattle.ncq_plan.specs.declared.expr.Expr.{Expr}
 use Rattle.ncq_row.specs.Embeddings.{Row}
-use Rattle.ncq_midfile.specs.Content.{IsContent}
+use Rattle.ncq_midfile.specs.Content.{IsContent, since}
 use Rattle.ncq_midfile.specs.Files.{FileState}
 use Rattle.ncq_holders.specs.Held.{Held}
 use Rattle.ncq_shelf.specs.Groups.{Groups, HasBase, content_of, group_of}
@@ -14,6 +14,12 @@ use Rattle.ncq_shelf.specs.declared.rows.Rows.TheVariants.{Ranged}
 use Rattle.ncq_shelf.proofs.Grouped.{raised_content}
 use Rattle.ncq_shelf.proofs.KeyedAdded.{compacted_held}
 
+-- what a file shows, once a change is its base, of what it showed
+pub record IsMoved (change : ℕ) (old new : FileState) : Type 0 where
+  pub base : new.base ≡ change
+  pub later : since change new.rows ≡ since change old.rows
+  pub stays : (at : ℕ) (list : List Row) → change ≤ at → IsContent at old.rows list → IsContent at new.rows list
+
 module _ {T E : Type 0} (r : Result T E) (change : ℕ) (gs : Groups) (expr : Expr) (old new : Rows)
     (own : OnOk r (group_of old ≡ None → (gs : Groups) (expr : Expr) → HasBase change (content_of gs expr old) (content_of gs expr new)))
     (ranged : (group : Group) → group_of old ≡ Some group → new ≡ Ranged group change) (err : OnErr r (new ≡ old)) where
@@ -21,14 +27,16 @@ module _ {T E : Type 0} (r : Result T E) (change : ℕ) (gs : Groups) (expr : Ex
   raised : (group : Group) → group_of old ≡ Some group → content_of gs expr new ≡ record { base = change; rows = (content_of gs expr old).rows }
   raised group of = ap (content_of gs expr) (ranged group of) ∙ raised_content gs expr old group change of
 
-  pub moved_on : OnOk r (((content_of gs expr new).base ≡ change)
-      × ((at : ℕ) (list : List Row) → change ≤ at → IsContent at (content_of gs expr old).rows list → IsContent at (content_of gs expr new).rows list))
+  pub moved_on : OnOk r (IsMoved change (content_of gs expr old) (content_of gs expr new))
   moved_on = on_ok_weaker r (λ based. by based (group_of old) refl) own
     where
-      by : (group_of old ≡ None → (gs : Groups) (expr : Expr) → HasBase change (content_of gs expr old) (content_of gs expr new)) → (o : Option Group) → group_of old ≡ o
-          → ((content_of gs expr new).base ≡ change) × ((at : ℕ) (list : List Row) → change ≤ at → IsContent at (content_of gs expr old).rows list → IsContent at (content_of gs expr new).rows list)
-      by based None e = let b = based e gs expr in (b.base, b.stays)
-      by based (Some group) e = (ap (λ (s : FileState). s.base) (raised group e), λ at list later is. subst (λ (s : FileState). IsContent at s.rows list) (sym (raised group e)) is)
+      by : (group_of old ≡ None → (gs : Groups) (expr : Expr) → HasBase change (content_of gs expr old) (content_of gs expr new)) → (o : Option Group) → group_of old ≡ o → IsMoved change (content_of gs expr old) (content_of gs expr new)
+      by based None e = let b = based e gs expr in record { base = b.base; later = b.left.later; stays = b.stays }
+      by based (Some group) e = record {
+        base = ap (λ (s : FileState). s.base) (raised group e);
+        later = ap (λ (s : FileState). since change s.rows) (raised group e);
+        stays = λ at list later is. subst (λ (s : FileState). IsContent at s.rows list) (sym (raised group e)) is;
+      }
 
   pub moved_rows : (group : Group) → group_of old ≡ Some group → (content_of gs expr new).rows ≡ (content_of gs expr old).rows
   moved_rows group of = ap (λ (s : FileState). s.rows) (raised group of)

@@ -7,8 +7,8 @@ use Rattle.ncq_row.specs.Embeddings.{Row}
 use Rattle.ncq_plan.specs.declared.expr.Expr.{Expr}
 use Rattle.ncq_plan.specs.Exprs.{World, rows_in, expr_width}
 use Rattle.ncq_plan.specs.WellFormed.{IsWellFormedExpr}
-use Rattle.ncq_midfile.specs.Content.{IsContent, rows_of, since, up_to}
-use Rattle.ncq_midfile.specs.Files.{FileState, IsThere}
+use Rattle.ncq_midfile.specs.Content.{IsContent, since, up_to}
+use Rattle.ncq_midfile.specs.Files.{FileState}
 use Rattle.ncq_midfile.specs.declared.signed.SignedRow.{SignedRow}
 use Rattle.ncq_shelf.specs.KeptFiles.{EachFile, Files, KeptFile}
 
@@ -62,11 +62,13 @@ with_more file more = with_rows (file.content.rows ++ more) file
 abbrev pub cut_to : ℕ → KeptFile → KeptFile
 cut_to n file = with_rows (up_to n file.content.rows) file
 
--- the file after its base was made n: what was its content at a change from n on is so still
+-- the file after its base was made n: its rows above n stay, and what was its content at a change
+-- from n on is so still
 pub record IsCompacted (n : ℕ) (old new : KeptFile) : Type 0 where
   pub expr : new.expr ≡ old.expr
   pub uses : new.uses ≡ old.uses
   pub base : new.content.base ≡ n
+  pub later : since n new.content.rows ≡ since n old.content.rows
   pub stays : (at : ℕ) (list : List Row) → n ≤ at → IsContent at old.content.rows list
       → IsContent at new.content.rows list
 
@@ -93,8 +95,3 @@ pub record AreFolded (old new : Files) : Type 0 where
   pub each : EachFile old (λ number file.
       (kept : KeptFile) × (get new number ≡ Some kept) × KeepsContents file kept)
   pub only : (number : ℕ) → get old number ≡ None → get new number ≡ None
-
--- the file's rows are the content that it had at n, each there from n on
-pub record HoldsItsContent (n : ℕ) (old new : KeptFile) : Type 0 where
-  pub there : AllByRecursion (IsThere n) new.content.rows
-  pub content : IsContent n old.content.rows (rows_of new.content.rows)

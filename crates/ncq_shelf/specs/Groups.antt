@@ -16,8 +16,8 @@ use Rattle.ncq_plan.specs.declared.expr.Expr.TheOpen.Expr-F.{Join as JoinLayer}
 use Rattle.ncq_plan.specs.declared.expr.Expr.TheVariants.{RangeSel}
 use Rattle.ncq_plan.specs.declared.expr.Expr.TheViews.{out-Expr}
 use Rattle.ncq_plan.specs.Meets.{is_within}
-use Rattle.ncq_midfile.specs.Content.{IsContent, rows_of as all_rows}
-use Rattle.ncq_midfile.specs.Files.{FileState, IsThere}
+use Rattle.ncq_midfile.specs.Content.{IsContent}
+use Rattle.ncq_midfile.specs.Files.{AreLeftAt, FileState}
 use Rattle.ncq_midfile.specs.Views.{RangeState, AreHeld, of_rows, is_held, is_missing}
 use Rattle.ncq_midfile.specs.declared.signed.SignedRow.{SignedRow}
 use Rattle.ncq_readers.specs.ReaderTables.{ReaderTables}
@@ -101,11 +101,10 @@ pub record IsGrouped (files : List (ℕ × File)) (groups : Groups) : Type 0 whe
   pub taken : (group : Group) (held : RangeState) → lookup (is_group group) groups ≡ Some held
       → AllByRecursion (λ r. IsTaken files group r.row) held.rows
 
--- the rows are those left at the change, each there from the base on
+-- the rows up to the change are those left there, each there from the base on, and all above it stay
 pub record HasBase (change : ℕ) (old new : FileState) : Type 0 where
   pub base : new.base ≡ change
-  pub there : AllByRecursion (IsThere change) new.rows
-  pub content : IsContent change old.rows (all_rows new.rows)
+  pub left : AreLeftAt change old.rows new.rows
   pub stays : (at : ℕ) (list : List Row) → change ≤ at → IsContent at old.rows list
       → IsContent at new.rows list
 

@@ -63,11 +63,9 @@ pub(crate) fn append_own(rows: &mut Rows, row: SignedRow) -> Result<(), AllocErr
 }
 
 /// Makes a change the base of a file. Where it has rows of its own it has then those that are left
-/// there.
+/// there, and those of later changes.
 pub(crate) fn compact_rows(alloc: Global, rows: &mut Rows, change: u64) -> Result<(), AllocError>
     requires base { (file : FileState) → rows.old ≡ Whole file → file.base ≤ change }
-    requires last { (file : FileState) → rows.old ≡ Whole file
-        → AllByRecursion (λ r. r.number ≤ change) file.rows }
     requires sound { (file : FileState) → rows.old ≡ Whole file → IsSoundAt change file.rows }
     ensures group { group_of rows.new ≡ group_of rows.old }
     ensures own { OnOk result (group_of rows.old ≡ None → (groups : Groups) (expr : an_expr)

@@ -9,12 +9,13 @@ ghost use Rattle.ncq_base.specs.declared.interval.Interval.{Interval as an_inter
 ghost use Rattle.ncq_plan.specs.Exprs.{World, expr_width, rows_in};
 ghost use Rattle.ncq_plan.specs.WellFormed.{IsWellFormedExpr};
 ghost use Rattle.ncq_midfile.specs.Content.{since, IsContent, IsSoundAt};
+ghost use Rattle.ncq_midfile.specs.Files.{AreLeftAt};
 ghost use Rattle.ncq_midfile.specs.Shown.{shown as what_is_shown, rows_below};
 ghost use Rattle.ncq_readers.specs.Passed.{size_of};
 ghost use Rattle.ncq_readers.specs.declared.ranges.HeldRows.{HeldRows as held_rows};
 ghost use Rattle.ncq_shelf.specs.Bounds.{AreBounds, IsBelowAll, IsBelowBase, IsBound};
 ghost use Rattle.ncq_shelf.specs.Contents.{AreFormed, AreUpTo, AreWide, Fits, with_more, cut_to};
-ghost use Rattle.ncq_shelf.specs.Contents.{HoldsItsContent, IsCompacted, IsNewAt, sum_over};
+ghost use Rattle.ncq_shelf.specs.Contents.{IsCompacted, IsNewAt, sum_over};
 ghost use Rattle.ncq_shelf.specs.Contents.{AreFolded, IsRaised};
 ghost use Rattle.ncq_shelf.specs.Inputs.{AreInputs};
 ghost use Rattle.ncq_shelf.specs.KeptFiles.{AtFile, EachFile, KeptFile};
@@ -588,19 +589,18 @@ impl Shelf {
     }
 
     /// Makes a change the base of a file. Where it has rows of its own it has then those that are
-    /// left there, each as one that is there from the base on; a selection by an interval keeps its
-    /// rows. After an error all is as before.
+    /// left there, each as one that is there from the base on, and those of later changes; a
+    /// selection by an interval keeps its rows. After an error all is as before.
     pub fn compact(&mut self, alloc: Global, number: u64, change: u64) -> Result<(), AllocError>
         requires there { IsThere self.old number }
         requires base { AtFile self.old number (λ file. file.content.base ≤ change) }
-        requires last { AtFile self.old number (λ file.
-            AllByRecursion (λ r. r.number ≤ change) file.content.rows) }
         requires sound { AtFile self.old number (λ file. IsSoundAt change file.content.rows) }
         ensures ok { OnOk result (AtFile self.old number (λ file.
             (kept : KeptFile) × (self.new ≡ insert self.old number kept)
             × IsCompacted change file kept)) }
         ensures rows { OnOk result (AtFile self.old number (λ file. (IsRange file.expr → ⊥)
-            → AtFile self.new number (λ kept. HoldsItsContent change file kept))) }
+            → AtFile self.new number (λ kept.
+            AreLeftAt change file.content.rows kept.content.rows))) }
         ensures ranged { OnOk result (AtFile self.old number (λ file. IsRange file.expr
             → AtFile self.new number (λ kept. kept.content.rows ≡ file.content.rows))) }
         ensures err { OnErr result (self.new ≡ self.old) }

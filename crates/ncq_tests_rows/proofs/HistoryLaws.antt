@@ -1,5 +1,5 @@
 -- Files whose rows have one value each.
-use Rattle.std.proofs.Common.{◌≡◌, ℕ, ◌<◌, true, true≢false, cond, List, [], ◌∷◌, length, nat_le, refl, sym, ap, ◌∙◌, arith}
+use Rattle.std.proofs.Common.{◌≡◌, ℕ, ◌<◌, ◌≤◌, true, true≢false, cond, List, [], ◌∷◌, length, nat_le, refl, sym, ap, ◌∙◌, arith}
 use Rattle.std.specs.Prelude.{◌&&◌}
 use Rattle.std.specs.List.{All, AllByRecursion}
 use Rattle.std.proofs.lemmas.List.Elements.{All-from_recursion, recursion_from_All}
@@ -10,10 +10,13 @@ use Rattle.ncq_base.specs.declared.interval.End.TheVariants.{Unbounded}
 use Rattle.ncq_base.specs.declared.interval.Interval.{Interval}
 use Rattle.ncq_row.specs.Values.{atom_at}
 use Rattle.ncq_midfile.specs.Content.{up_to}
+use Rattle.ncq_midfile.specs.Files.{AreLeftAt}
 use Rattle.ncq_midfile.specs.Matching.{HaveSlots}
 use Rattle.ncq_midfile.specs.Ranged.{HaveNumbers}
 use Rattle.ncq_midfile.specs.Views.{HasNumber, is_number, is_within, of_rows}
 use Rattle.ncq_midfile.specs.declared.signed.SignedRow.{SignedRow}
+use Rattle.ncq_midfile.proofs.Foldeds.{up_all}
+use Rattle.ncq_midfile.proofs.Sounds.{none_since}
 use Rattle.ncq_midfile.proofs.Wide.{all_filtered}
 
 each_some : (rows : List SignedRow) → AllByRecursion (λ r. length r.row ≡ 1) rows → AllByRecursion (λ r. 0 < length r.row) rows
@@ -45,6 +48,10 @@ one_slot rows all = each_slot 0 1 (omega arith) rows all
 -- and so have those of them that are left up to a number
 pub one_up_to : (n : ℕ) (rows : List SignedRow) → AllByRecursion (λ r. length r.row ≡ 1) rows → AllByRecursion (λ r. length r.row ≡ 1) (up_to n rows)
 one_up_to n rows all = all_filtered (λ (r : SignedRow). length r.row ≡ 1) (λ r. nat_le r.number n) rows all
+
+-- where no row is above the change, none is where it was made the base
+pub left_whole : (n : ℕ) (old new : List SignedRow) → AllByRecursion (λ r. r.number ≤ n) old → AreLeftAt n old new → up_to n new ≡ new
+left_whole n old new last left = (up_all n new (none_since n new (left.later ∙ (up_all n old last).1))).0
 
 -- an interval without ends has each row with a number
 module _ (slot : ℕ) (interval : Interval) (low : interval.low ≡ Unbounded) (high : interval.high ≡ Unbounded) where

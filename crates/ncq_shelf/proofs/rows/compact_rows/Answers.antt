@@ -7,5 +7,5 @@ use Rattle.ncq_shelf.proofs.rows.compact_rows.Goals as goal
 
 pub returns-in-Whole-clause-own : goal.returns-in-Whole-clause-own
 returns-in-Whole-clause-own c =
-    compacted c.compact.result c.args.change c.in-Whole.content c.compact.new.self (c.requires.last c.in-Whole.content c.in-Whole.is) c.compact.ensures.base c.compact.ensures.there c.compact.ensures.content c.compact.ensures.stays
+    compacted c.compact.result c.args.change c.in-Whole.content c.compact.new.self c.compact.ensures.base c.compact.ensures.left c.compact.ensures.stays
     (λ h none groups expr. subst (λ (s : FileState). HasBase c.args.change s c.compact.new.self) (sym (own_content groups expr c.args.rows.now c.in-Whole.content c.in-Whole.is)) h)

@@ -26,7 +26,7 @@ shows c = subst (λ (t : TableState). AtFile t.files c.args.number (λ kept. sho
 pub compact-requires-clause-sound : goal.compact-requires-clause-sound
 compact-requires-clause-sound c =
     let at = (goal.at.compact-requires-clause-sound c).After-is_due in
-    sound_asked (view_of c.self.inside) c.self.invariant c.args.number c.in_ok-least.least (is_least at) c.facts.ensures.facts (shown c.file-view.result) (shows at) (c.is_due.ensures.due c.if-is_due.true)
+    sound_asked (view_of c.self.inside) c.self.invariant c.args.number c.in_ok-least.least (is_least at) (shown c.file-view.result) (shows at) (c.is_due.ensures.due c.if-is_due.true)
 
 pub compact-requires-clause-number : goal.compact-requires-clause-number
 compact-requires-clause-number c =
@@ -44,7 +44,7 @@ invariant_of-self c =
     let at = (goal.at.invariant_of-self c).After-is_due in
     let was = view_of c.self.inside in
     invariant_same (record was { table = c.compact.new.self.table }) c.compact.new.self c.compact.ensures.subscriptions refl
-    (holds_compacted was c.self.invariant c.args.number c.in_ok-least.least (is_least at) c.facts.ensures.facts (shown c.file-view.result) (shows at) (c.is_due.ensures.due c.if-is_due.true)
+    (holds_compacted was c.self.invariant c.args.number c.in_ok-least.least (is_least at) (shown c.file-view.result) (shows at) (c.is_due.ensures.due c.if-is_due.true)
     (there c) c.compact.new.self c.compact.result c.compact.ensures.ok (failed c) c.compact.ensures.next_file c.compact.ensures.number)
 
 pub returns-then-is_due-clause-follows : goal.returns-then-is_due-clause-follows
@@ -52,13 +52,13 @@ returns-then-is_due-clause-follows c = λ h s.
     let at = (goal.at.returns-then-is_due-clause-follows c).After-is_due in
     let was = view_of c.self.inside in
     subst (λ (e : EngineState). Follows e h) (sym (table_alone was c.compact.new.self c.compact.ensures.subscriptions c.compact.ensures.instant))
-    (compacted_follows was c.self.invariant c.args.number c.in_ok-least.least (is_least at) c.facts.ensures.facts (shown c.file-view.result) (shows at) (c.is_due.ensures.due c.if-is_due.true)
+    (compacted_follows was c.self.invariant c.args.number c.in_ok-least.least (is_least at) (shown c.file-view.result) (shows at) (c.is_due.ensures.due c.if-is_due.true)
     (there c) c.compact.new.self c.compact.result c.compact.ensures.ok (failed c) c.compact.ensures.next_file c.compact.ensures.number h (subst (λ (e : EngineState). Follows e h) (sym c.self.view_is) s))
 
 pub returns-then-is_due-clause-others : goal.returns-then-is_due-clause-others
 returns-then-is_due-clause-others c = λ other differs.
     let at = (goal.at.returns-then-is_due-clause-others c).After-is_due in
-    compacted_others (view_of c.self.inside) c.self.invariant c.args.number c.in_ok-least.least (is_least at) c.facts.ensures.facts (shown c.file-view.result) (shows at) (c.is_due.ensures.due c.if-is_due.true)
+    compacted_others (view_of c.self.inside) c.self.invariant c.args.number c.in_ok-least.least (is_least at) (shown c.file-view.result) (shows at) (c.is_due.ensures.due c.if-is_due.true)
     (there c) c.compact.new.self c.compact.result c.compact.ensures.ok (failed c) c.compact.ensures.next_file c.compact.ensures.number other differs
     ∙ ap (λ (e : EngineState). get e.table.files other) c.self.view_is
 
@@ -67,7 +67,7 @@ returns-then-is_due-clause-here c =
     let at = (goal.at.returns-then-is_due-clause-here c).After-is_due in
     let files = c.compact.new.self.table.files in
     subst (λ (e : EngineState). AtFile e.table.files c.args.number (λ file. (get files c.args.number ≡ Some file) ⊎ HasBase files c.args.number (least_of e c.args.number))) c.self.view_is
-    (compacted_here (view_of c.self.inside) c.self.invariant c.args.number c.in_ok-least.least (is_least at) c.facts.ensures.facts (shown c.file-view.result) (shows at) (c.is_due.ensures.due c.if-is_due.true)
+    (compacted_here (view_of c.self.inside) c.self.invariant c.args.number c.in_ok-least.least (is_least at) (shown c.file-view.result) (shows at) (c.is_due.ensures.due c.if-is_due.true)
     (there c) c.compact.new.self c.compact.result c.compact.ensures.ok (failed c) c.compact.ensures.next_file c.compact.ensures.number)
 
 pub returns-then-is_due-clause-compacted : goal.returns-then-is_due-clause-compacted
@@ -75,5 +75,5 @@ returns-then-is_due-clause-compacted c =
     let at = (goal.at.returns-then-is_due-clause-compacted c).After-is_due in
     let files = c.compact.new.self.table.files in
     subst (λ (e : EngineState). OnOk c.compact.result (AtFile e.table.files c.args.number (λ file. IsWorn (least_of e c.args.number) file.content → HasBase files c.args.number (least_of e c.args.number)))) c.self.view_is
-    (is_compacted (view_of c.self.inside) c.self.invariant c.args.number c.in_ok-least.least (is_least at) c.facts.ensures.facts (shown c.file-view.result) (shows at) (c.is_due.ensures.due c.if-is_due.true)
+    (is_compacted (view_of c.self.inside) c.self.invariant c.args.number c.in_ok-least.least (is_least at) (shown c.file-view.result) (shows at) (c.is_due.ensures.due c.if-is_due.true)
     (there c) c.compact.new.self c.compact.result c.compact.ensures.ok (failed c) c.compact.ensures.next_file c.compact.ensures.number)

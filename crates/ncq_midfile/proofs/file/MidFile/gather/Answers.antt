@@ -1,36 +1,30 @@
-use Rattle.std.proofs.Common.{◌≡◌, ◌≤◌, List, sym, ap, ◌∙◌, subst}
-use Rattle.ncq_midfile.specs.Content.{IsContent, rows_of, rows_at}
-use Rattle.ncq_midfile.specs.Files.{FileState, IsFile, AreParted, IsThere}
-use Rattle.std.specs.List.{AllByRecursion}
+use Rattle.std.proofs.Common.{◌≡◌, ℕ, ◌<◌, ◌≤◌, List, length, sym, ap, ◌∙◌, subst}
+use Rattle.std.specs.List.{All}
+use Rattle.ncq_midfile.specs.Content.{signed_at}
+use Rattle.ncq_midfile.specs.Files.{AreLeftAt, AreParted, IsFile}
 use Rattle.ncq_midfile.specs.declared.signed.SignedRow.{SignedRow}
 use Rattle.ncq_midfile.proofs.FileLaws.{found_by_none}
-use Rattle.ncq_midfile.proofs.Kept.{file_made, made_there}
-use Rattle.ncq_midfile.proofs.Compacts.{rows_made}
 use Rattle.ncq_midfile.proofs.Cuts.{parted_ordered}
-use Rattle.ncq_midfile.proofs.PairLaws.{there_stays}
+use Rattle.ncq_midfile.proofs.LeftAt.{file_left, rising_parted}
 use Rattle.ncq_midfile.proofs.file.MidFile.gather.Goals as goal
 
-pub invariant_of-self : goal.invariant_of-self
-invariant_of-self c = found_by_none c.args.n _ _ (subst (IsFile c.args.n) (sym c.gather.ensures) (file_made c.args.n _)) c.clear.ensures.items
-
-pub content_of-requires-clause-parted : goal.content_of-requires-clause-parted
-content_of-requires-clause-parted c =
+pub left_at-requires-clause-parted : goal.left_at-requires-clause-parted
+left_at-requires-clause-parted c =
     subst (AreParted c.args.n) (sym c.as_slice.ensures.value)
     (parted_ordered c.args.n c.self.inside.base c.self.inside.rows.items (subst (λ f. f.base ≤ c.args.n) (sym c.self.view_is) c.requires.base) c.self.invariant.file.ordered)
 
-pub returns-clause-there : goal.returns-clause-there
-returns-clause-there c = subst (AllByRecursion (IsThere c.args.n)) (sym c.gather.ensures) (made_there c.args.n _)
-
-pub returns-clause-content : goal.returns-clause-content
-returns-clause-content c =
+pub invariant_of-self : goal.invariant_of-self
+invariant_of-self c =
+    let n = c.args.n in
+    let base = c.self.inside.base in
     let rows = c.self.inside.rows.items in
-    let left : rows_at c.as_slice-2.result.now rows ≡ rows_at c.in_ok-places.places c.as_slice.result.now =
-    (λ i. rows_at (c.as_slice-2.ensures i) (sym c.as_slice.ensures.value i)) in
-    let made : rows_of c.gather.new.rows.items ≡ rows_at c.in_ok-places.places c.as_slice.result.now = ap rows_of c.gather.ensures ∙ rows_made c.args.n _ ∙ left in
-    let old : c.as_slice.result.now ≡ c.args.self.now.rows = c.as_slice.ensures.value ∙ ap (λ (f : FileState). f.rows) c.self.view_is in
-    subst (λ (rs : List SignedRow). IsContent c.args.n rs (rows_of c.gather.new.rows.items)) old
-    (subst (IsContent c.args.n c.as_slice.result.now) (sym made) c.in_ok-places.ensures.content)
-
-pub returns-clause-stays : goal.returns-clause-stays
-returns-clause-stays c = λ list content.
-    there_stays c.args.n c.args.self.now.rows c.gather.new.rows.items (returns-clause-content c) (returns-clause-there c) list content
+    let file = c.self.invariant.file in
+    let places = c.in_ok-places.places in
+    let says = c.in_ok-places.ensures in
+    let old : c.as_slice.result.now ≡ rows = c.as_slice.ensures.value in
+    let low : base ≤ n = subst (λ f. f.base ≤ n) (sym c.self.view_is) c.requires.base in
+    let within = subst (λ (rs : List SignedRow). All (λ (place : ℕ). place < length rs) places) old says.within in
+    let left = subst (λ (rs : List SignedRow). AreLeftAt n rs (signed_at places rs)) old says.left in
+    let parted = rising_parted n places rows says.rising within (parted_ordered n base rows low file.ordered) in
+    let new : c.keep_at.new.rows.items ≡ signed_at places rows = c.keep_at.ensures ∙ ap (λ ps. signed_at ps rows) c.as_slice-2.ensures in
+    found_by_none n _ _ (subst (IsFile n) (sym new) (file_left base n rows (signed_at places rows) low file parted left)) c.clear.ensures.items

@@ -1,11 +1,10 @@
 use Rattle.std.proofs.Common.{◌≡◌, ◌≤◌, Some, None, Ok, sym, ap, ◌∙◌, subst, refl, rules}
-use Rattle.std.specs.List.{AllByRecursion}
 use Rattle.std.specs.Option.{option_map}
 use Rattle.std.specs.FinMap.{get, insert}
 use Rattle.ncq_midfile.specs.Content.{IsSoundAt}
-use Rattle.ncq_midfile.specs.Files.{FileState}
+use Rattle.ncq_midfile.specs.Files.{AreLeftAt, FileState}
 use Rattle.ncq_shelf.specs.KeptFiles.{KeptFile}
-use Rattle.ncq_shelf.specs.Contents.{HoldsItsContent, IsCompacted}
+use Rattle.ncq_shelf.specs.Contents.{IsCompacted}
 use Rattle.ncq_shelf.specs.Groups.{content_of, group_of}
 use Rattle.ncq_shelf.specs.Shown.{shown, state_of}
 use Rattle.ncq_shelf.specs.declared.file.File.{File}
@@ -28,11 +27,6 @@ pub compact_rows-requires-clause-base : goal.compact_rows-requires-clause-base
 compact_rows-requires-clause-base c = λ own is.
     let file = c.in-Some.file.now in
     subst (λ (s : FileState). s.base ≤ c.args.change) (own_content c.self.inside.groups.entries file.expr file.content own is) (c.requires.base (state_of c.self.inside.groups.entries file) (seen_there c.self.inside.groups.entries c.self.inside.files.entries c.args.self.now c.self.view_is c.self.invariant.grouped c.args.number c.in-Some.file.now (sym c.in-Some.ensures.value)))
-
-pub compact_rows-requires-clause-last : goal.compact_rows-requires-clause-last
-compact_rows-requires-clause-last c = λ own is.
-    let file = c.in-Some.file.now in
-    subst (λ (s : FileState). AllByRecursion (λ r. r.number ≤ c.args.change) s.rows) (own_content c.self.inside.groups.entries file.expr file.content own is) (c.requires.last (state_of c.self.inside.groups.entries file) (seen_there c.self.inside.groups.entries c.self.inside.files.entries c.args.self.now c.self.view_is c.self.invariant.grouped c.args.number c.in-Some.file.now (sym c.in-Some.ensures.value)))
 
 pub compact_rows-requires-clause-sound : goal.compact_rows-requires-clause-sound
 compact_rows-requires-clause-sound c = λ own is.
@@ -68,10 +62,10 @@ returns-clause-ok c = λ state here.
     let written = shown_written gs files c.args.number file w at refl refl refl c.compact_rows.ensures.group
     (c.get_mut.follows.lender w).entries ((c.get_mut.follows.holds w).3 (search rules)).0 in
     let same : state_of gs file ≡ state = one_value (shown_at gs files c.args.number file at) (subst (λ f. get f c.args.number ≡ Some state) (sym c.self.view_is) here) in
-    let both = moved_on {E = ⊥} (Ok c.in_ok-compact_rows.field-0) c.args.change gs file.expr file.content c.compact_rows.new.rows c.in_ok-compact_rows.ensures.own c.compact_rows.ensures.ranged tt in (
+    let moved = moved_on {E = ⊥} (Ok c.in_ok-compact_rows.field-0) c.args.change gs file.expr file.content c.compact_rows.new.rows c.in_ok-compact_rows.ensures.own c.compact_rows.ensures.ranged tt in (
       state_of gs w,
       c.renew_keys.ensures ∙ written ∙ (λ i. insert (c.self.view_is i) c.args.number (state_of gs w)),
-      subst (λ (s : KeptFile). IsCompacted c.args.change s (state_of gs w)) same (record { expr = refl; uses = refl; base = both.0; stays = both.1 }),
+      subst (λ (s : KeptFile). IsCompacted c.args.change s (state_of gs w)) same (record { expr = refl; uses = refl; base = moved.base; later = moved.later; stays = moved.stays }),
     )
 
 pub returns-clause-rows : goal.returns-clause-rows
@@ -87,8 +81,8 @@ returns-clause-rows c = λ state here is_no_range kept after.
     let kept_is : state_of gs w ≡ kept = one_value (ap (λ f. get f c.args.number) (c.renew_keys.ensures ∙ written) ∙ put_same (shown gs files) c.args.number (state_of gs w)) after in
     let own : group_of file.content ≡ None = no_group gs files c.args.self.now c.self.view_is c.self.invariant.grouped c.args.number file at (λ other there. subst (λ (s : KeptFile). IsRange s.expr → ⊥) (one_value here there) is_no_range) in
     let is = c.in_ok-compact_rows.ensures.own own gs file.expr in
-    subst (λ (k : KeptFile). HoldsItsContent c.args.change state k) kept_is
-    (subst (λ (s : KeptFile). HoldsItsContent c.args.change s (state_of gs w)) same (record { there = is.there; content = is.content }))
+    subst (λ (k : KeptFile). AreLeftAt c.args.change state.content.rows k.content.rows) kept_is
+    (subst (λ (s : KeptFile). AreLeftAt c.args.change s.content.rows (state_of gs w).content.rows) same is.left)
 
 pub returns-clause-ranged : goal.returns-clause-ranged
 returns-clause-ranged c = λ state here is_range kept after.

@@ -1,5 +1,4 @@
 use Rattle.std.proofs.Common.{◌≤◌, sym, subst}
-use Rattle.std.specs.List.{AllByRecursion}
 use Rattle.ncq_midfile.specs.Content.{IsSoundAt}
 use Rattle.ncq_shelf.specs.Contents.{IsCompacted}
 use Rattle.ncq_tests_group.proofs.TableLaws.{stands_sound, stands_compacted}
@@ -10,10 +9,6 @@ compact-requires-clause-there g c = c.expect_there.ensures
 
 pub compact-requires-clause-base : goal.compact-requires-clause-base
 compact-requires-clause-base g c = λ kept at. subst (λ n. kept.content.base ≤ n) (sym c.number.ensures) (c.facts.ensures.facts.up_to c.args.file kept at).base
-
-pub compact-requires-clause-last : goal.compact-requires-clause-last
-compact-requires-clause-last g c = λ kept at.
-    subst (λ n. AllByRecursion (λ r. r.number ≤ n) kept.content.rows) (sym c.number.ensures) (c.facts.ensures.facts.up_to c.args.file kept at).last
 
 pub compact-requires-clause-sound : goal.compact-requires-clause-sound
 compact-requires-clause-sound g c = λ kept at.
