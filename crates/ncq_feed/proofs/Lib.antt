@@ -7,6 +7,7 @@ pub mod FedLaws
 pub mod GrowthLaws
 pub mod MissLaws
 pub mod TurnLaws
+pub mod UnreadLaws
 pub mod NameLaws
 pub mod PendingLaws
 pub mod RangeLaws

@@ -1,12 +1,13 @@
 -- What one turn does passes the change on.
-use Rattle.std.proofs.Common.{◌≡◌, ◌≢◌, ℕ, ◌<◌, ◌≤◌, ◌+◌, Bool, true, false, ◌||◌, nat_eq, length, List, [], ◌∷◌, ◌++◌, Some, ◌⊎◌, inl, inr, refl, sym, ap, ◌∙◌, subst, arith}
-use Rattle.std.specs.List.{filter}
-use Rattle.std.specs.Prelude.{◌==◌, not}
+use Rattle.std.proofs.Common.{◌≡◌, ◌≢◌, ℕ, ◌<◌, ◌≤◌, ◌+◌, Bool, true, false, ◌||◌, nat_eq, List, [], ◌∷◌, ◌++◌, Some, ◌⊎◌, inl, inr, refl, sym, ap, ◌∙◌, subst, arith}
+use Rattle.std.specs.List.{filter, AllByRecursion}
+use Rattle.std.specs.Prelude.{nat_lt}
 use Rattle.std.specs.FinMap.{get}
-use Rattle.std.proofs.lemmas.Bool.{cases_eq, ne_eqb, eq-eqb, eqb-true}
+use Rattle.std.proofs.lemmas.Bool.{cases_eq, ne_eqb, eq-eqb}
 use Rattle.ncq_midfile.specs.declared.signed.SignedRow.{SignedRow}
 use Rattle.ncq_midfile.specs.Files.{FileState}
-use Rattle.ncq_midfile.specs.Content.{since, signed_at}
+use Rattle.ncq_midfile.specs.Content.{since}
+use Rattle.ncq_midfile.specs.Views.{IsLast}
 use Rattle.ncq_shelf.specs.KeptFiles.{KeptFile, Files}
 use Rattle.ncq_shelf.specs.Stands.{IsThere}
 use Rattle.ncq_shelf.specs.Readers.{SelectsFrom, JoinsFrom, IsJoinOver}
@@ -14,10 +15,11 @@ use Rattle.ncq_feed.specs.Passing.{IsPassedTo, Passes}
 use Rattle.ncq_feed.specs.Runs.{Run, IsStarted, IsUnderWay, ArePassed, JoinGetsFrom, IsScanFile, AreRight, LeftMissesFrom, RightMissesFrom, BothMissFrom, wiring_of, is_among, news_of, news_in}
 use Rattle.ncq_feed.specs.JoinFeeds.{IsJoined, AreKnown}
 use Rattle.ncq_feed.specs.Turns.{IsPassedDown, AreTold}
-use Rattle.ncq_feed.proofs.GrowthLaws.{there_up, based}
+use Rattle.ncq_feed.proofs.GrowthLaws.{there_up}
 use Rattle.ncq_feed.proofs.PassingLaws.{pass, skip, all_passed}
 use Rattle.ncq_feed.proofs.WiringLaws.{selects_down, joins_down, scan_no_selection, join_no_selection, scan_no_join, input_of-selection, selection_there}
 use Rattle.ncq_feed.proofs.MissLaws.{misses, left_misses, right_misses}
+use Rattle.ncq_feed.proofs.ContentLaws.{none_since}
 use Rattle.ncq_feed.proofs.FedLaws.{fed, known_sides}
 
 nil_left : {A : Type 0} (xs : List A) → xs ++ [] ≡ xs
@@ -190,26 +192,19 @@ all_right run files under next pending passed none number file at =
 pub turn_start : (run : Run) (at : ℕ) (keys : List ℕ) (files : Files) → ArePassed run at (at ∷ keys) files → IsThere run.files at
 turn_start run at keys files passed = passed.there at (ap (λ b. b || is_among at keys) (eq-eqb at at refl))
 
-not_false : (b : Bool) → not b ≡ false → b ≡ true
-not_false true e = refl
-not_false false e = sym e
+not_later : (now last : ℕ) → nat_lt now last ≡ false → last ≤ now
+not_later now last e = grind (arith, e)
 
--- what a look at a length tells
-pub is_nothing : (n : ℕ) → not (n == 0) ≡ false → n ≡ 0
-is_nothing n e = eqb-true n 0 (not_false (n == 0) e)
-
-nothing_in : (places : List ℕ) → length places ≡ 0 → places ≡ []
-nothing_in [] e = refl
-nothing_in (place ∷ places) e = absurd (omega arith)
+up_to_now : (last now : ℕ) (rows : List SignedRow) → last ≤ now → AllByRecursion (λ r. r.number ≤ last) rows → AllByRecursion (λ r. r.number ≤ now) rows
+up_to_now last now [] less all = tt
+up_to_now last now (r ∷ rows) less all = ((let a = all.0 in omega arith), up_to_now last now rows less all.1)
 
 module _ (run : Run) (files : Files) (under : IsUnderWay run files) (at : ℕ) (is_there : IsThere run.files at) (content : FileState) (shows : (file : KeptFile) → get files at ≡ Some file → content ≡ file.content) where
   -- what is shown of its content
   news_shown : news_in run.store.changes files at ≡ since run.store.changes content.rows
   news_shown = let t = there_up run files under at is_there in ap (news_of run.store.changes) t.at ∙ ap (λ (c : FileState). since run.store.changes c.rows) (sym (shows t.file t.at))
 
-  -- where nothing is shown, it has no rows of the change
-  pub none_shown : (now : ℕ) → now ≡ run.store.changes → (places : List ℕ) (below : List SignedRow) → signed_at places below ≡ since now content.rows → length places ≡ 0 → news_in run.store.changes files at ≡ []
-  none_shown now is places below e none = news_shown ∙ ap (λ n. since n content.rows) (sym is) ∙ sym e ∙ ap (λ ps. signed_at ps below) (nothing_in places none)
-
-  pub file_based : content.base ≤ run.store.changes
-  file_based = let t = there_up run files under at is_there in subst (λ (c : FileState). c.base ≤ run.store.changes) (sym (shows t.file t.at)) (based run files under at t.file t.at)
+  -- where no row has a later number, it has no rows of the change
+  pub none_later : (last now : ℕ) → now ≡ run.store.changes → IsLast content last → nat_lt now last ≡ false → news_in run.store.changes files at ≡ []
+  none_later last now is greatest none =
+      news_shown ∙ ap (λ n. since n content.rows) (sym is) ∙ none_since now content.rows (up_to_now last now content.rows (not_later now last none) greatest.rows)

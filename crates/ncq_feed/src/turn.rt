@@ -57,25 +57,26 @@ pub(crate) fn take_turn<L: Ledger>(
         ≤ steps.old + (own_in run shelf.new + groups run held at)) }
 {
     feed_join(alloc, shelf, at, now, steps)?;
-    let got = got_rows(alloc, shelf, at, now)?;
-    if !got {
+    if !got_rows(shelf, at, now) {
         return Ok(false);
+    }
+    if !shelf.is_read(at) {
+        return Ok(true);
     }
     pass_down(alloc, shelf, at, now, pending, steps)?;
     tell_joins(alloc, shelf, at, now, pending)?;
     Ok(true)
 }
 
-/// Whether the file has rows of the change.
-fn got_rows(alloc: Global, shelf: &Shelf, at: u64, now: u64) -> Result<bool, AllocError>
+/// Whether the file has rows of the change. It takes no memory.
+fn got_rows(shelf: &Shelf, at: u64, now: u64) -> bool
     ghost run: { Run }
     requires now { now ≡ run.store.changes }
     requires under { IsUnderWay run shelf.now }
     requires there { IsThere run.files at }
-    ensures { IfOk result (λ got. got ≡ false → news_in run.store.changes shelf.now at ≡ []) }
+    ensures { result ≡ false → news_in run.store.changes shelf.now at ≡ [] }
 {
-    let places = shelf.content(at).since(alloc, now)?;
-    Ok(places.len() != 0)
+    shelf.content(at).last() > now
 }
 
 /// Gives each selection over the file those of its rows of the change that it takes. Those that got

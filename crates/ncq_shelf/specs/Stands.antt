@@ -42,6 +42,11 @@ TellsIdle files number true = IsIdle files number
 TellsIdle files number false =
     AtFile files number (λ file. file.uses ≡ 0 → IsReadIn files file.expr)
 
+-- what a look at a file answers: some file reads it, or none does
+abbrev pub TellsRead : Files → ℕ → Bool → Type 0
+TellsRead files number true = AtFile files number (λ file. IsReadIn files file.expr)
+TellsRead files number false = AtFile files number (λ file. IsReadIn files file.expr → ⊥)
+
 -- each expression has one file at most, and the inputs of a file are files of smaller number
 pub record IsGrounded (files : Files) : Type 0 where
   pub distinct : (first second : ℕ) (expr : Expr)

@@ -26,6 +26,7 @@ ghost use Rattle.ncq_shelf.specs.Ranges.{IsRange, IsNoRange, SelectsRange, Takes
 ghost use Rattle.ncq_shelf.specs.Ranges.{IsHeldBy, AppendsHeld, AreHeldOf, IsRangeFile, ShareRows};
 ghost use Rattle.ncq_shelf.specs.Ranges.{NoneSelects};
 ghost use Rattle.ncq_shelf.specs.Stands.{Finds, IsGrounded, IsIdle, IsThere, Stands, TellsIdle};
+ghost use Rattle.ncq_shelf.specs.Stands.{TellsRead};
 
 use crate::admit::{admit, make_room};
 use crate::count::{own_rows, shared_rows};
@@ -230,6 +231,17 @@ impl Shelf {
             return false;
         }
         file.readers.is_empty()
+    }
+
+    /// Whether some file reads the file. It takes no memory.
+    pub fn is_read(&self, number: u64) -> bool
+        requires { IsThere self.now number }
+        ensures { TellsRead self.now number result }
+    {
+        let Some(file) = self.files.get(&number) else {
+            unreachable!()
+        };
+        !file.readers.is_empty()
     }
 
     /// Takes an idle file away, and tells what it read. It takes no memory.
