@@ -33,5 +33,5 @@ fn write_mail(argument: &[u8], notice: &Notice, out: &mut Vec<u8>) -> Result<(),
     write_begin(b"mail ", notice.name.as_slice(), notice.instant, b" ", out)?;
     write_escaped(argument, out)?;
     out.push(b'\n')?;
-    write_rest(notice.entries.as_slice(), out)
+    write_rest(&notice.entries, out)
 }

@@ -406,7 +406,8 @@ fn writes(
     Ok(out.first() == Some(&b'.') && out.get(1..) == Some(want.as_bytes()))
 }
 
-/// The handler of the name writes the text behind what is there.
+/// The handler of the name writes the text behind what is there, before and after its entries are
+/// written down, and after they are once more.
 fn expect_text(
     rt: &impl Abort,
     alloc: Global,
@@ -414,11 +415,14 @@ fn expect_text(
     row: &(&str, &str, &[(bool, u64, &str)], &str),
 ) -> Result<(), AllocError> {
     let (name, argument, differs, text) = row;
-    let notice = notice(alloc, differs)?;
-    assert!(rt;
-        writes(alloc, handlers, name, argument, &notice, text)?,
-        "{name} {text}"
-    );
+    let mut notice = notice(alloc, differs)?;
+    for _ in 0..3 {
+        assert!(rt;
+            writes(alloc, handlers, name, argument, &notice, text)?,
+            "{name} {text}"
+        );
+        notice.entries.write_down(alloc)?;
+    }
     Ok(())
 }
 

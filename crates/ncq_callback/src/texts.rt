@@ -3,6 +3,7 @@ ghost use Rattle.std.specs.Prelude.{◌≡◌, ◌++◌, codes, length, take, On
 ghost use Rattle.std.specs.Io.{StartsWith};
 ghost use Rattle.ncq_callback.specs.Texts.{begin_text, entries_text, entry_text};
 
+use crate::notice::Entries;
 use ncq_bag::Difference;
 use ncq_base::write_decimal;
 use std::alloc::AllocError;
@@ -27,17 +28,17 @@ pub(crate) fn write_begin(
 }
 
 /// Appends the entries and `end`; what was there stays in front.
-pub(crate) fn write_rest(entries: &[Difference], out: &mut Vec<u8>) -> Result<(), AllocError>
+pub(crate) fn write_rest(entries: &Entries, out: &mut Vec<u8>) -> Result<(), AllocError>
     ensures ok { OnOk result
         (out.new.items ≡ out.old.items ++ (entries_text entries.now ++ codes "end\n")) }
     ensures front { StartsWith out.new.items out.old.items }
 {
-    write_entries(entries, out)?;
+    entries.write_to(out)?;
     out.extend_from_slice(b"end\n")
 }
 
 /// Appends the entries; what was there stays in front.
-fn write_entries(entries: &[Difference], out: &mut Vec<u8>) -> Result<(), AllocError>
+pub(crate) fn write_entries(entries: &[Difference], out: &mut Vec<u8>) -> Result<(), AllocError>
     ensures ok { OnOk result (out.new.items ≡ out.old.items ++ entries_text entries.now) }
     ensures front { StartsWith out.new.items out.old.items }
 {

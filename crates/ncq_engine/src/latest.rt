@@ -38,8 +38,9 @@ pub(crate) fn news_for<'a>(
     ensures latest { IfOk result (IsLatest groups.now.files) }
 {
     let mark = mark_of(subscription, store);
-    if let Some(latest) = latest {
+    if let Some(mut latest) = latest {
         if serves(&latest, subscription, mark) {
+            latest.entries.write_down(alloc)?;
             return Ok(latest);
         }
     }

@@ -1,4 +1,4 @@
-use Rattle.std.proofs.Common.{◌≤◌, subst, sym}
+use Rattle.std.proofs.Common.{◌≡◌, ◌∙◌, ◌≤◌, subst, sym}
 use Rattle.std.specs.Prelude.{Option, IfSome}
 use Rattle.std.specs.List.{AllByRecursion}
 use Rattle.ncq_midfile.specs.declared.signed.SignedRow.{SignedRow}
@@ -23,7 +23,8 @@ pub returns-then-serves : goal.returns-then-serves
 returns-then-serves c =
     let files = c.args.groups.now.files in
     let is : IsLatest files c.in-Some.latest = subst (λ (o : Option Latest). IfSome o (IsLatest files)) c.in-Some.is c.requires.latest in
+    let same : c.write_down.new.self ≡ c.in-Some.latest.entries = c.in_ok-write_down.ensures in
     record {
-      entries = serves_as c.args.store.now files c.in-Some.latest c.args.subscription.now c.mark_of-mark.result is (c.serves.ensures.alike c.if-serves.true) (c.serves.ensures.mark c.if-serves.true) c.mark_of-mark.ensures;
-      latest = is;
+      entries = same ∙ serves_as c.args.store.now files c.in-Some.latest c.args.subscription.now c.mark_of-mark.result is (c.serves.ensures.alike c.if-serves.true) (c.serves.ensures.mark c.if-serves.true) c.mark_of-mark.ensures;
+      latest = same ∙ is;
     }
