@@ -105,18 +105,20 @@ fn give<L: Ledger>(
     Ok(())
 }
 
-/// 200 changes of the quote, which is at 1 and at 2 in turn.
+/// The quote is at 1 and at 2, so often.
 fn turns<L: Ledger>(
     rt: &impl Abort,
     alloc: Global,
     engine: &mut Engine,
+    count: u64,
     handlers: &Handlers,
     steps: &mut Steps<L>,
 ) -> Result<(), AllocError>
     requires { engine.old.labels
         ≡ (labels handlers.now.items.items (λ h. h.name) (λ h. h.kind)) }
+    ensures { engine.new.labels ≡ engine.old.labels }
 {
-    for _ in 0..100 {
+    for _ in 0..count {
         give(rt, alloc, engine, PUT_1, handlers, steps, MAX_ROWS)?;
         give(rt, alloc, engine, PUT_2, handlers, steps, MAX_ROWS)?;
     }
@@ -153,13 +155,92 @@ where
         &mut steps,
         MAX_ROWS,
     )?;
-    turns(rt, alloc, &mut engine, &handlers, &mut steps)?;
+    turns(rt, alloc, &mut engine, 100, &handlers, &mut steps)?;
     Ok(())
 }
 
 #[test]
 fn a_quote_that_changes_two_hundred_times_leaves_few_rows(rt: HostRuntime) -> Result<(), Fail> {
     counted_turns::<Brand>(&rt, &rt, Blank::new(1))
+}
+
+/// Two queries that ask the same at different instants.
+const BY_TURNS: [&str; 2] = [
+    "create a WHERE <Quotes><Quote><Symbol>INTC</></> ELEMENT_AS $g</> IN \"quotes\" CONSTRUCT $g \
+     DO print START 10 EVERY 20\n.\n",
+    "create b WHERE <Quotes><Quote><Symbol>INTC</></> ELEMENT_AS $g</> IN \"quotes\" CONSTRUCT $g \
+     DO print START 20 EVERY 20\n.\n",
+];
+
+/// The clock moves to the instant.
+fn clock(alloc: Global, instant: u64) -> Result<Vec<u8>, AllocError> {
+    let mut text = Vec::new(alloc);
+    text.extend_from_slice(b"clock ")?;
+    write_decimal(instant, &mut text)?;
+    text.push(b'\n')?;
+    Ok(text)
+}
+
+/// The quote changes eight times before each of forty instants, at which the one query or the other
+/// is told.
+fn periods<L: Ledger>(
+    rt: &impl Abort,
+    alloc: Global,
+    engine: &mut Engine,
+    handlers: &Handlers,
+    steps: &mut Steps<L>,
+) -> Result<(), AllocError>
+    requires { engine.old.labels
+        ≡ (labels handlers.now.items.items (λ h. h.name) (λ h. h.kind)) }
+{
+    for period in 1..41u64 {
+        turns(rt, alloc, engine, 4, handlers, steps)?;
+        let text = clock(alloc, 10 * period)?;
+        give(
+            rt,
+            alloc,
+            engine,
+            text.as_slice(),
+            handlers,
+            steps,
+            MAX_ROWS,
+        )?;
+    }
+    Ok(())
+}
+
+/// The two queries come in, and then the quote changes between their instants, on a new engine
+/// whose steps are counted in this ledger.
+fn counted_periods<L: Ledger>(rt: &impl Abort, host: &HostRuntime, blank: Blank) -> Result<(), Fail>
+where
+    requires name { blank.name ≡ L.name }
+    requires parts { blank.parts ≡ L.parts }
+    requires some { 0 < L.parts }
+{
+    let alloc = host.alloc();
+    let mut steps = Steps::<L>::new(host, blank);
+    let handlers = printing(alloc)?;
+    let mut engine = Engine::new(alloc, RandomState::new(&OneSeed)?, &handlers)?;
+    for text in [SOURCE, BY_TURNS[0], BY_TURNS[1]] {
+        give(
+            rt,
+            alloc,
+            &mut engine,
+            text.as_bytes(),
+            &handlers,
+            &mut steps,
+            MAX_ROWS,
+        )?;
+    }
+    periods(rt, alloc, &mut engine, &handlers, &mut steps)?;
+    Ok(())
+}
+
+/// At each change at most 64 rows of the file of both went out above its base, also while the one
+/// query was told and the other not yet.
+#[test]
+fn a_quote_that_changes_between_two_timers_leaves_few_rows(rt: HostRuntime) -> Result<(), Fail> {
+    counted_periods::<Brand>(&rt, &rt, Blank::new(1))
 }
 
 /// A query that watches the quote of this number.
