@@ -1,6 +1,7 @@
 //! What the files of tests share is in `making` and `histories`.
 
 mod books;
+mod caches;
 mod files;
 mod firings;
 mod forests;
