@@ -17,7 +17,7 @@ use Rattle.ncq_shelf.specs.Keyed.{IsHeld, AreHeld, IsKey, IsAlways, Grows, Forge
 use Rattle.ncq_shelf.specs.Shown.{shown, state_of}
 use Rattle.ncq_shelf.specs.declared.file.File.{File}
 use Rattle.ncq_shelf.specs.declared.keys.Keys.{Keys}
-use Rattle.ncq_shelf.proofs.Maps.{put_same, put_other, gone_same, gone_other, one_value, rest_stays, there as is_there}
+use Rattle.ncq_shelf.proofs.Maps.{put_again, put_same, put_other, gone_same, gone_other, one_value, rest_stays, there as is_there}
 use Rattle.ncq_shelf.proofs.ShownFiles.{get_shown}
 use Rattle.ncq_shelf.proofs.Indexes.{shown_at}
 use Rattle.ncq_shelf.proofs.KeyLaws.{all_map, are_held_more, held_others, more_on, all_part}
@@ -165,6 +165,17 @@ module _ (gs : Groups) where
     keyed = subst (λ m. IsKeyed m keys) (sym (shown_written gs files number file w at expr inputs readers group new is))
         (keyed_put (shown gs files) number (state_of gs file) (state_of gs w) keys (shown_at gs files number file at) expr (λ slot _. rows slot) kept.keyed);
   }
+
+  -- one file is written over by itself with another count of lost rows, which is not seen
+  module _ (files : List (ℕ × File)) (number : ℕ) (file : File) (lost : ℕ) (at : lookup (nat_eq number) files ≡ Some file)
+      (new : List (ℕ × File)) (is : (q : ℕ) → lookup (nat_eq q) new ≡ cond (nat_eq number q) (Some (record file { rows_lost = lost })) (lookup (nat_eq q) files)) where
+    pub kept_counted : (numbers : List (Expr × ℕ)) (scans : List (List ℕ × ReaderTables)) (keys : Keys) → IsKept gs files numbers scans keys → IsKept gs new numbers scans keys
+    kept_counted numbers scans keys kept = kept_written files numbers scans keys number file (record file { rows_lost = lost }) at refl refl refl refl new is (λ slot h. h) kept
+
+    pub shown_counted : shown gs new ≡ shown gs files
+    shown_counted =
+        shown_written gs files number file (record file { rows_lost = lost }) at refl refl refl refl new is
+        ∙ put_again (shown gs files) number (state_of gs file) (shown_at gs files number file at)
 
   -- no files
   pub keyed_none : (files : List (ℕ × File)) (keys : Keys) → keys.files.entries ≡ [] → files ≡ [] → IsKeyed (shown gs files) keys

@@ -34,10 +34,10 @@ ok_and P r s t is p = subst (λ x. OnOk x P) (sym is) (by r s p)
     by (Err e) s p = tt
 
 pub others_itself : (f : File) → HasOthers f f
-others_itself f = record { expr = refl; uses = refl; content = refl; inputs = refl }
+others_itself f = record { expr = refl; uses = refl; content = refl; inputs = refl; rows_lost = refl }
 
 others_on : (f g h : File) → HasOthers f g → HasOthers g h → HasOthers f h
-others_on f g h a b = record { expr = b.expr ∙ a.expr; uses = b.uses ∙ a.uses; content = b.content ∙ a.content; inputs = b.inputs ∙ a.inputs }
+others_on f g h a b = record { expr = b.expr ∙ a.expr; uses = b.uses ∙ a.uses; content = b.content ∙ a.content; inputs = b.inputs ∙ a.inputs; rows_lost = b.rows_lost ∙ a.rows_lost }
 
 -- the file at the number differs in its readers at most, and those are so
 abbrev pub Next : (ReaderTables → ReaderTables → Type 0) → List (ℕ × File) → ℕ → File → Type 0
@@ -70,7 +70,7 @@ module _ (old new : List (ℕ × File)) (at : ℕ) (file : File) (here : lookup 
     | inl same ↦
         let e : f ≡ file = one_value (subst (λ n. lookup (nat_eq n) old ≡ Some f) same k) here in
         subst (λ x. Next (P q) new q x) (sym e)
-        (written, at_it q same, record { expr = refl; uses = refl; content = refl; inputs = refl }, subst (λ n. P n file.readers tables) (sym same) it)
+        (written, at_it q same, record { expr = refl; uses = refl; content = refl; inputs = refl; rows_lost = refl }, subst (λ n. P n file.readers tables) (sym same) it)
     | inr differs ↦ (f, at_others q differs ∙ k, others_itself f, others q differs f.readers)
   ]
 

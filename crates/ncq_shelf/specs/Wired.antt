@@ -70,6 +70,7 @@ pub record HasOthers (old new : File) : Type 0 where
   pub uses : new.uses ≡ old.uses
   pub content : new.content ≡ old.content
   pub inputs : new.inputs ≡ old.inputs
+  pub rows_lost : new.rows_lost ≡ old.rows_lost
 
 -- each file that the whole expression reads has the file of this number as a reader more; all else
 -- is as before

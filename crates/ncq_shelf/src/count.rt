@@ -26,7 +26,7 @@ pub(crate) fn own_rows(files: &IndexMap<u64, File>) -> u64
 }
 
 /// How many signed rows a file has of its own.
-fn own_count(rows: &Rows) -> u64
+pub(crate) fn own_count(rows: &Rows) -> u64
     ensures { result ≡ count_of rows.now }
 {
     match rows {

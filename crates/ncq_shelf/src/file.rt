@@ -6,12 +6,14 @@ use ncq_plan::Expr;
 use ncq_readers::Readers;
 
 /// The rows of an expression, with the count of its uses, what it reads and what reads it.
+/// `rows_lost` is how many rows compactions took out since an index of it was last asked for.
 pub(crate) struct File {
     pub(crate) expr: Expr,
     pub(crate) uses: u64,
     pub(crate) content: Rows,
     pub(crate) inputs: Inputs,
     pub(crate) readers: Readers,
+    pub(crate) rows_lost: u64,
 }
 
 impl Drop for File {
@@ -22,6 +24,7 @@ impl Drop for File {
             content,
             inputs,
             readers,
+            rows_lost: _,
         } = self;
         drop(expr);
         drop(content);

@@ -29,7 +29,7 @@ ghost use Rattle.ncq_shelf.specs.Stands.{Finds, IsGrounded, IsIdle, IsThere, Sta
 ghost use Rattle.ncq_shelf.specs.Stands.{TellsRead};
 
 use crate::admit::{admit, make_room};
-use crate::count::{own_rows, shared_rows};
+use crate::count::{own_count, own_rows, shared_rows};
 use crate::cut::{cut_all, cut_groups};
 use crate::enroll::strike;
 use crate::file::File;
@@ -286,7 +286,7 @@ impl Shelf {
         }
     }
 
-    /// Gives up a file's indexes for joins, where no join reads it. It takes no memory.
+    /// Gives up a file's indexes by atoms, where no join reads it. It takes no memory.
     fn drop_unjoined(&mut self, number: u64)
         ensures { self.new ≡ self.old }
     {
@@ -382,6 +382,7 @@ impl Shelf {
             content: Rows::Whole(content),
             inputs,
             readers: Readers::new(alloc),
+            rows_lost: 0,
         };
         put_file(&mut self.files, &mut self.numbers, number, key, file);
         Ok(())
@@ -502,6 +503,7 @@ impl Shelf {
             },
             inputs,
             readers: Readers::new(alloc),
+            rows_lost: 0,
         };
         put_file(&mut self.files, &mut self.numbers, number, key, file);
         Ok(())
@@ -597,6 +599,7 @@ impl Shelf {
         let Some(file) = self.files.get_mut(&number) else {
             unreachable!()
         };
+        file.rows_lost = 0;
         index_rows(alloc, &mut self.groups, &mut file.content, slots)
     }
 
@@ -620,9 +623,30 @@ impl Shelf {
         let Some(file) = self.files.get_mut(&number) else {
             unreachable!()
         };
+        let before = own_count(&file.content);
         compact_rows(alloc, &mut file.content, change)?;
         self.renew_keys(number);
+        self.drop_unasked(number, before);
         Ok(())
+    }
+
+    /// Gives up a file's indexes by atoms where none was asked for while compactions took out more
+    /// rows than it has: else they would be kept up for creates that are long over. A file that a
+    /// join reads keeps them. The file had so many rows of its own `before` the last compaction. It
+    /// takes no memory.
+    fn drop_unasked(&mut self, number: u64, before: u64)
+        ensures { self.new ≡ self.old }
+    {
+        let Some(file) = self.files.get_mut(&number) else {
+            return;
+        };
+        let rows = own_count(&file.content);
+        file.rows_lost = file.rows_lost.saturating_add(before.saturating_sub(rows));
+        if file.rows_lost <= rows {
+            return;
+        }
+        file.rows_lost = 0;
+        self.drop_unjoined(number);
     }
 
     /// Forgets that a file was noted for joins by atoms that its rows have no more, where many are

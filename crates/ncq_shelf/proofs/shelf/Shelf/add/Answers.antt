@@ -28,7 +28,7 @@ returns-in_err-key-clause-err c =
 
 pub invariant_of-self-2 : goal.invariant_of-self-2
 invariant_of-self-2 c =
-    let file : File = record { expr = c.in_ok-key.copy; uses = 0; content = Whole c.args.content; inputs = c.args.inputs; readers = c.new.result } in
+    let file : File = record { expr = c.in_ok-key.copy; uses = 0; content = Whole c.args.content; inputs = c.args.inputs; readers = c.new.result; rows_lost = 0 } in
     let known : (q : Expr) → lookup (is_expr q) c.put_file.new.numbers.entries ≡ cond (is_expr file.expr q) (Some c.args.number) (lookup (is_expr q) c.admit.new.numbers.entries) =
     λ q. c.put_file.ensures.numbers q ∙ (λ i. cond (is_expr ((c.in_ok-key.ensures.copies.0 ∙ sym c.in_ok-key.ensures.copies.1) i) q) (Some c.args.number) (lookup (is_expr q) c.admit.new.numbers.entries)) in
     kept_admitted c.self.inside.groups.entries c.self.inside.files.entries c.args.self.now c.self.view_is c.self.inside.numbers.entries c.self.inside.scans.entries c.self.inside.keys c.self.invariant
@@ -39,6 +39,6 @@ invariant_of-self-2 c =
 
 pub returns-clause-ok : goal.returns-clause-ok
 returns-clause-ok c =
-    let file : File = record { expr = c.in_ok-key.copy; uses = 0; content = Whole c.args.content; inputs = c.args.inputs; readers = c.new.result } in
+    let file : File = record { expr = c.in_ok-key.copy; uses = 0; content = Whole c.args.content; inputs = c.args.inputs; readers = c.new.result; rows_lost = 0 } in
     shown_admitted c.self.inside.groups.entries c.self.inside.files.entries c.args.self.now c.self.view_is c.args.expr.now c.args.number c.admit.new.files.entries c.in_ok-key.ensures.known file c.put_file.new.files.entries c.put_file.ensures.files
     ∙ (λ i. insert c.args.self.now c.args.number (record { expr = c.in_ok-key.ensures.copies.1 i; uses = 0; content = c.args.content }))

@@ -64,7 +64,7 @@ returns-clause-ok c = λ state here.
     let same : state_of gs file ≡ state = one_value (shown_at gs files c.args.number file at) (subst (λ f. get f c.args.number ≡ Some state) (sym c.self.view_is) here) in
     let moved = moved_on {E = ⊥} (Ok c.in_ok-compact_rows.field-0) c.args.change gs file.expr file.content c.compact_rows.new.rows c.in_ok-compact_rows.ensures.own c.compact_rows.ensures.ranged tt in (
       state_of gs w,
-      c.renew_keys.ensures ∙ written ∙ (λ i. insert (c.self.view_is i) c.args.number (state_of gs w)),
+      c.drop_unasked.ensures ∙ c.renew_keys.ensures ∙ written ∙ (λ i. insert (c.self.view_is i) c.args.number (state_of gs w)),
       subst (λ (s : KeptFile). IsCompacted c.args.change s (state_of gs w)) same (record { expr = refl; uses = refl; base = moved.base; later = moved.later; stays = moved.stays }),
     )
 
@@ -78,7 +78,7 @@ returns-clause-rows c = λ state here is_no_range kept after.
     let written = shown_written gs files c.args.number file w at refl refl refl c.compact_rows.ensures.group
     (c.get_mut.follows.lender w).entries ((c.get_mut.follows.holds w).3 (search rules)).0 in
     let same : state_of gs file ≡ state = one_value (shown_at gs files c.args.number file at) (subst (λ f. get f c.args.number ≡ Some state) (sym c.self.view_is) here) in
-    let kept_is : state_of gs w ≡ kept = one_value (ap (λ f. get f c.args.number) (c.renew_keys.ensures ∙ written) ∙ put_same (shown gs files) c.args.number (state_of gs w)) after in
+    let kept_is : state_of gs w ≡ kept = one_value (ap (λ f. get f c.args.number) (c.drop_unasked.ensures ∙ c.renew_keys.ensures ∙ written) ∙ put_same (shown gs files) c.args.number (state_of gs w)) after in
     let own : group_of file.content ≡ None = no_group gs files c.args.self.now c.self.view_is c.self.invariant.grouped c.args.number file at (λ other there. subst (λ (s : KeptFile). IsRange s.expr → ⊥) (one_value here there) is_no_range) in
     let is = c.in_ok-compact_rows.ensures.own own gs file.expr in
     subst (λ (k : KeptFile). AreLeftAt c.args.change state.content.rows k.content.rows) kept_is
@@ -94,7 +94,7 @@ returns-clause-ranged c = λ state here is_range kept after.
     let written = shown_written gs files c.args.number file w at refl refl refl c.compact_rows.ensures.group
     (c.get_mut.follows.lender w).entries ((c.get_mut.follows.holds w).3 (search rules)).0 in
     let same : state_of gs file ≡ state = one_value (shown_at gs files c.args.number file at) (subst (λ f. get f c.args.number ≡ Some state) (sym c.self.view_is) here) in
-    let kept_is : state_of gs w ≡ kept = one_value (ap (λ f. get f c.args.number) (c.renew_keys.ensures ∙ written) ∙ put_same (shown gs files) c.args.number (state_of gs w)) after in
+    let kept_is : state_of gs w ≡ kept = one_value (ap (λ f. get f c.args.number) (c.drop_unasked.ensures ∙ c.renew_keys.ensures ∙ written) ∙ put_same (shown gs files) c.args.number (state_of gs w)) after in
     let g = has_group gs files c.args.self.now c.self.view_is c.self.invariant.grouped c.args.number file at (subst (λ (s : KeptFile). IsRange s.expr) (sym same) is_range) in
     ap (λ (k : KeptFile). k.content.rows) (sym kept_is)
     ∙ moved_rows c.compact_rows.result c.args.change gs file.expr file.content c.compact_rows.new.rows c.compact_rows.ensures.own c.compact_rows.ensures.ranged c.compact_rows.ensures.err g.0 g.1

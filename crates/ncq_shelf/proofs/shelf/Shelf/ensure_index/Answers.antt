@@ -46,7 +46,7 @@ pub invariant_of-self : goal.invariant_of-self
 invariant_of-self c =
     let file = c.in-Some.file.now in
     let at = sym c.in-Some.ensures.value in
-    let w : File = record file { content = c.index_rows.new.rows } in
+    let w : File = record file { content = c.index_rows.new.rows; rows_lost = 0 } in
     let same : group_of c.index_rows.new.rows ≡ group_of file.content = ap group_of c.index_rows.ensures.rows in
     let step = (c.get_mut.follows.lender w).entries in
     let is = ((c.get_mut.follows.holds w).3 (search rules)).0 in
@@ -64,7 +64,7 @@ pub returns : goal.returns
 returns c =
     let file = c.in-Some.file.now in
     let at = sym c.in-Some.ensures.value in
-    let w : File = record file { content = c.index_rows.new.rows } in
+    let w : File = record file { content = c.index_rows.new.rows; rows_lost = 0 } in
     let same : group_of c.index_rows.new.rows ≡ group_of file.content = ap group_of c.index_rows.ensures.rows in
     let step = (c.get_mut.follows.lender w).entries in
     (λ i. shown (c.index_rows.ensures.groups i) step)

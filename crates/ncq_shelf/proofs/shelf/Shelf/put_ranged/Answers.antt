@@ -139,7 +139,7 @@ invariant_of-self-2 g c =
     let a =
     arrives c.self.inside.groups.entries c.self.inside.files.entries c.self.inside.numbers.entries c.self.inside.scans.entries c.self.inside.keys c.self.invariant c.args.self.now c.self.view_is c.make_room.new.files.entries c.make_room.ensures.files c.make_room.new.numbers.entries c.make_room.ensures.numbers
     group c.args.expr.now c.in-RangeSel.input c.in-RangeSel.interval c.in-RangeSel.is c.args.inputs c.requires.inputs c.in-One.is c.in-Some.inner.now c.in-Some.ensures.value c.args.change c.in_ok-missing.missing _ c.view_of-view.ensures.shown c.in_ok-missing.ensures.rows in
-    let file : File = record { expr = c.in_ok-key.copy; uses = 0; content = Ranged group c.args.change; inputs = One c.in-One.input; readers = c.new.result } in
+    let file : File = record { expr = c.in_ok-key.copy; uses = 0; content = Ranged group c.args.change; inputs = One c.in-One.input; readers = c.new.result; rows_lost = 0 } in
     let known : (q : Expr) → lookup (is_expr q) c.put_file.new.numbers.entries ≡ cond (is_expr file.expr q) (Some c.args.number) (lookup (is_expr q) c.make_room.new.numbers.entries) =
     λ q. c.put_file.ensures.numbers q ∙ (λ i. cond (is_expr ((c.in_ok-key.ensures.copies.0 ∙ sym c.in_ok-key.ensures.copies.1) i) q) (Some c.args.number) (lookup (is_expr q) c.make_room.new.numbers.entries)) in
     kept_then c.self.inside.groups.entries c.make_room.new.files.entries c.make_room.new.numbers.entries c.self.inside.scans.entries c.self.inside.keys c.args.self.now group c.args.expr.now c.args.change c.in_ok-missing.missing a c.install.new.groups.entries c.in_ok-install.ensures.ok file c.in_ok-key.ensures.copies.1 refl
@@ -152,7 +152,7 @@ returns-clause-ok g c =
     let a =
     arrives c.self.inside.groups.entries c.self.inside.files.entries c.self.inside.numbers.entries c.self.inside.scans.entries c.self.inside.keys c.self.invariant c.args.self.now c.self.view_is c.make_room.new.files.entries c.make_room.ensures.files c.make_room.new.numbers.entries c.make_room.ensures.numbers
     group c.args.expr.now c.in-RangeSel.input c.in-RangeSel.interval c.in-RangeSel.is c.args.inputs c.requires.inputs c.in-One.is c.in-Some.inner.now c.in-Some.ensures.value c.args.change c.in_ok-missing.missing _ c.view_of-view.ensures.shown c.in_ok-missing.ensures.rows in
-    let file : File = record { expr = c.in_ok-key.copy; uses = 0; content = Ranged group c.args.change; inputs = One c.in-One.input; readers = c.new.result } in
+    let file : File = record { expr = c.in_ok-key.copy; uses = 0; content = Ranged group c.args.change; inputs = One c.in-One.input; readers = c.new.result; rows_lost = 0 } in
     let known : (q : Expr) → lookup (is_expr q) c.put_file.new.numbers.entries ≡ cond (is_expr file.expr q) (Some c.args.number) (lookup (is_expr q) c.make_room.new.numbers.entries) =
     λ q. c.put_file.ensures.numbers q ∙ (λ i. cond (is_expr ((c.in_ok-key.ensures.copies.0 ∙ sym c.in_ok-key.ensures.copies.1) i) q) (Some c.args.number) (lookup (is_expr q) c.make_room.new.numbers.entries)) in (
       state_of c.install.new.groups.entries file,
@@ -168,7 +168,7 @@ returns-clause-fits g c =
     let a =
     arrives c.self.inside.groups.entries c.self.inside.files.entries c.self.inside.numbers.entries c.self.inside.scans.entries c.self.inside.keys c.self.invariant c.args.self.now c.self.view_is c.make_room.new.files.entries c.make_room.ensures.files c.make_room.new.numbers.entries c.make_room.ensures.numbers
     group c.args.expr.now c.in-RangeSel.input c.in-RangeSel.interval c.in-RangeSel.is c.args.inputs c.requires.inputs c.in-One.is c.in-Some.inner.now c.in-Some.ensures.value c.args.change c.in_ok-missing.missing _ c.view_of-view.ensures.shown c.in_ok-missing.ensures.rows in
-    let file : File = record { expr = c.in_ok-key.copy; uses = 0; content = Ranged group c.args.change; inputs = One c.in-One.input; readers = c.new.result } in
+    let file : File = record { expr = c.in_ok-key.copy; uses = 0; content = Ranged group c.args.change; inputs = One c.in-One.input; readers = c.new.result; rows_lost = 0 } in
     let known : (q : Expr) → lookup (is_expr q) c.put_file.new.numbers.entries ≡ cond (is_expr file.expr q) (Some c.args.number) (lookup (is_expr q) c.make_room.new.numbers.entries) =
     λ q. c.put_file.ensures.numbers q ∙ (λ i. cond (is_expr ((c.in_ok-key.ensures.copies.0 ∙ sym c.in_ok-key.ensures.copies.1) i) q) (Some c.args.number) (lookup (is_expr q) c.make_room.new.numbers.entries)) in
     λ world fits. subst (Fits c.args.change world) (sym (seen_then c.self.inside.groups.entries c.make_room.new.files.entries c.make_room.new.numbers.entries c.self.inside.scans.entries c.self.inside.keys c.args.self.now group c.args.expr.now c.args.change c.in_ok-missing.missing a c.install.new.groups.entries c.in_ok-install.ensures.ok file c.in_ok-key.ensures.copies.1 refl
