@@ -130,6 +130,14 @@ impl GroupTable {
         self.filed.shelf.has(file.0)
     }
 
+    /// How many uses a file has. It takes no memory.
+    pub fn uses(&self, file: FileId) -> u64
+        requires { IsThere self.now.files file.0 }
+        ensures { AtFile self.now.files file.0 (λ kept. result ≡ kept.uses) }
+    {
+        self.filed.shelf.uses(file.0)
+    }
+
     /// The rows of a file, which may be a part of others. Each row below it has a value for each
     /// slot of the file's expression. It takes no memory.
     pub fn file(&self, file: FileId) -> View<'_>
