@@ -41,6 +41,7 @@ mod shared;
 mod sides;
 mod statements;
 mod times;
+mod told;
 mod turns;
 mod values;
 

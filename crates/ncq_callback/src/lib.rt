@@ -11,6 +11,7 @@ mod count;
 mod gather;
 mod handler;
 mod handlers;
+mod kept_text;
 mod last;
 mod laws;
 mod mail;

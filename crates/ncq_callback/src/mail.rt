@@ -4,7 +4,7 @@ ghost use Rattle.std.specs.Io.{StartsWith};
 ghost use Rattle.ncq_callback.specs.Texts.{mail_text, render};
 
 use crate::notice::{Kind, Notice};
-use crate::texts::{write_begin, write_rest};
+use crate::texts::write_begin;
 use ncq_base::write_escaped;
 use std::alloc::AllocError;
 
@@ -33,5 +33,5 @@ fn write_mail(argument: &[u8], notice: &Notice, out: &mut Vec<u8>) -> Result<(),
     write_begin(b"mail ", notice.name.as_slice(), notice.instant, b" ", out)?;
     write_escaped(argument, out)?;
     out.push(b'\n')?;
-    write_rest(&notice.entries, out)
+    notice.entries.write_rest(out)
 }

@@ -1,9 +1,10 @@
 //! What a subscriber is told, and what is done with it.
-ghost use Rattle.std.specs.Prelude.{◌≡◌, ◌++◌, OnOk, length, take};
+ghost use Rattle.std.specs.Prelude.{◌≡◌, ◌++◌, IfSome, OnOk, length, take};
 ghost use Rattle.std.specs.Io.{StartsWith};
-ghost use Rattle.ncq_callback.specs.Texts.{entries_text};
+ghost use Rattle.ncq_callback.specs.KeptTexts.{printed_text, rest_text};
 
-use crate::texts::write_entries;
+use crate::kept_text::KeptText;
+use crate::texts::{write_instant, write_rest};
 use ncq_bag::{Difference, Differences};
 use ncq_base::Bytes;
 use std::alloc::{AllocError, Global};
@@ -25,7 +26,7 @@ pub enum Kind {
 #[derive(Debug)]
 pub struct Entries {
     items: Differences,
-    text: Option<Vec<u8>>,
+    text: Option<KeptText>,
 }
 
 impl Drop for Entries {
@@ -37,11 +38,11 @@ impl Drop for Entries {
 }
 
 impl Model for Entries {
-    ghost use Rattle.std.specs.Prelude.{◌≡◌, IfSome, List};
+    ghost use Rattle.std.specs.Prelude.{IfSome, List};
     ghost use Rattle.std.specs.Coded.{coded_list};
     ghost use Rattle.ncq_bag.specs.declared.bag.Difference.{Difference};
     ghost use Rattle.ncq_bag.specs.contracts.bag.Difference.{the_row};
-    ghost use Rattle.ncq_callback.specs.Texts.{entries_text};
+    ghost use Rattle.ncq_callback.specs.KeptTexts.{IsKeptText};
 
     ghost Value = { List Difference };
 
@@ -49,7 +50,8 @@ impl Model for Entries {
 
     ghost view = { λ e. e.items };
 
-    ghost invariant = { λ e. IfSome e.text (λ text. text.items ≡ entries_text e.items) };
+    ghost invariant = { λ e. IfSome e.text
+        (λ kept. IsKeptText kept.instant kept.head kept.text.items e.items) };
 }
 
 impl Entries {
@@ -65,29 +67,63 @@ impl Entries {
         self.items.as_slice()
     }
 
-    /// Writes the text of the entries down once: handlers then copy it. This changes nothing that
-    /// is seen, and is worth its cost where the entries are told more than once.
-    pub fn write_down(&mut self, alloc: Global) -> Result<(), AllocError>
+    /// Writes the text of the entries down once, as it is printed at an instant: handlers then
+    /// copy it, or at other instants what stands behind the instant. This changes nothing that is
+    /// seen, and is worth its cost where the entries are told more than once.
+    pub fn write_down(&mut self, alloc: Global, instant: u64) -> Result<(), AllocError>
         ensures { self.new ≡ self.old }
     {
         if self.text.is_some() {
             return Ok(());
         }
-        let mut text = Vec::new(alloc);
-        write_entries(self.items.as_slice(), &mut text)?;
+        let text = KeptText::new(alloc, instant, self.items.as_slice())?;
         self.text = Some(text);
         Ok(())
     }
 
-    /// Appends the text of the entries; what was there stays in front.
-    pub(crate) fn write_to(&self, out: &mut Vec<u8>) -> Result<(), AllocError>
-        ensures ok { OnOk result (out.new.items ≡ out.old.items ++ entries_text self.now) }
+    /// Appends what is printed behind a name at an instant; what was there stays in front.
+    pub(crate) fn write_behind(&self, instant: u64, out: &mut Vec<u8>) -> Result<(), AllocError>
+        ensures ok { OnOk result
+            (out.new.items ≡ out.old.items ++ printed_text instant self.now) }
+        ensures front { StartsWith out.new.items out.old.items }
+    {
+        match self.text_at(instant) {
+            Some(text) => out.extend_from_slice(text),
+            None => self.write_anew(instant, out),
+        }
+    }
+
+    /// Appends the entries and `end`; what was there stays in front.
+    pub(crate) fn write_rest(&self, out: &mut Vec<u8>) -> Result<(), AllocError>
+        ensures ok { OnOk result (out.new.items ≡ out.old.items ++ rest_text self.now) }
         ensures front { StartsWith out.new.items out.old.items }
     {
         match &self.text {
-            Some(text) => out.extend_from_slice(text.as_slice()),
-            None => write_entries(self.items.as_slice(), out),
+            Some(text) => out.extend_from_slice(text.rest()),
+            None => write_rest(self.items.as_slice(), out),
         }
+    }
+
+    /// What is printed behind a name at an instant, where it is kept.
+    fn text_at(&self, instant: u64) -> Option<&[u8]>
+        ensures { IfSome result (λ text. text.now ≡ printed_text instant self.now) }
+    {
+        if let Some(text) = &self.text {
+            if text.instant == instant {
+                return Some(text.whole());
+            }
+        }
+        None
+    }
+
+    /// Appends the instant behind a name, the entries and `end`; what was there stays in front.
+    fn write_anew(&self, instant: u64, out: &mut Vec<u8>) -> Result<(), AllocError>
+        ensures ok { OnOk result
+            (out.new.items ≡ out.old.items ++ printed_text instant self.now) }
+        ensures front { StartsWith out.new.items out.old.items }
+    {
+        write_instant(instant, b"\n", out)?;
+        self.write_rest(out)
     }
 }
 

@@ -421,7 +421,7 @@ fn expect_text(
             writes(alloc, handlers, name, argument, &notice, text)?,
             "{name} {text}"
         );
-        notice.entries.write_down(alloc)?;
+        notice.entries.write_down(alloc, notice.instant)?;
     }
     Ok(())
 }
@@ -429,6 +429,74 @@ fn expect_text(
 fn expect_texts(rt: &impl Abort, alloc: Global, handlers: &Handlers) -> Result<(), AllocError> {
     for row in NOTICES {
         expect_text(rt, alloc, handlers, row)?;
+    }
+    Ok(())
+}
+
+/// Two differences, told at two instants: the kind, the instant, and the text.
+const TELLINGS: &[(Kind, u64, &str)] = &[
+    (
+        Kind::Print,
+        5,
+        "notice w 5\nlose 1\n-95.5\ngain 2\n-96\nend\n",
+    ),
+    (
+        Kind::MailTo,
+        5,
+        "mail w 5 ops desk\nlose 1\n-95.5\ngain 2\n-96\nend\n",
+    ),
+    (
+        Kind::Print,
+        120,
+        "notice w 120\nlose 1\n-95.5\ngain 2\n-96\nend\n",
+    ),
+    (
+        Kind::MailTo,
+        120,
+        "mail w 120 ops desk\nlose 1\n-95.5\ngain 2\n-96\nend\n",
+    ),
+    (Kind::Count, 120, "count w 120 gain 2 lose 1\n"),
+];
+
+/// The instants for which they are written down before, one after the other.
+const WRITTEN_DOWN: &[&[u64]] = &[&[], &[5], &[120], &[5, 120], &[120, 5], &[77]];
+
+/// Appends the text of the kind.
+fn write_as(kind: Kind, notice: &Notice, out: &mut Vec<u8>) -> Result<(), AllocError> {
+    match kind {
+        Kind::Print => print_notice(b"ops desk", notice, out),
+        Kind::Count => count_notice(b"ops desk", notice, out),
+        Kind::MailTo => mail_notice(b"ops desk", notice, out),
+    }
+}
+
+/// Whether the kind writes the text behind a dot.
+fn is_told(alloc: Global, kind: Kind, notice: &Notice, want: &str) -> Result<bool, AllocError> {
+    let mut out = vec![in alloc; b'.']?;
+    write_as(kind, notice, &mut out)?;
+    Ok(out.first() == Some(&b'.') && out.get(1..) == Some(want.as_bytes()))
+}
+
+/// Each telling is its text, twice in a row, where the entries were written down for these
+/// instants.
+fn expect_tellings(rt: &impl Abort, alloc: Global, instants: &[u64]) -> Result<(), AllocError> {
+    let mut notice = notice(alloc, &[(false, 1, "-95.5\n"), (true, 2, "-96\n")])?;
+    for instant in instants {
+        notice.entries.write_down(alloc, *instant)?;
+    }
+    for (kind, instant, text) in TELLINGS {
+        notice.instant = *instant;
+        for _ in 0..2 {
+            assert!(rt; is_told(alloc, *kind, &notice, text)?, "{text}");
+        }
+    }
+    Ok(())
+}
+
+#[test]
+fn entries_are_told_at_each_instant_alike(rt: HostRuntime) -> Result<(), Fail> {
+    for instants in WRITTEN_DOWN {
+        expect_tellings(&rt, rt.alloc(), instants)?;
     }
     Ok(())
 }

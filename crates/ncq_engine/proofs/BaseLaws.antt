@@ -1,17 +1,20 @@
 -- A change behind a compaction: what it does to the engine whose files were compacted, it does to the engine before.
-use Rattle.std.proofs.Common.{◌≡◌, ℕ, List, refl, sym, ◌∙◌, ap, subst}
-use Rattle.std.specs.Prelude.{Option, Some, None, IfSome, IfNone, Result, Ok, Err}
+use Rattle.std.proofs.Common.{◌≡◌, ℕ, List, [], refl, sym, ◌∙◌, ap, subst, inl, inr}
+use Rattle.std.specs.Prelude.{Option, Some, None, IfSome, IfNone, Result, Ok, Err, ◌⊎◌}
 use Rattle.std.specs.FinMap.{get}
+use Rattle.ncq_cache.specs.Cached.{Cached}
 use Rattle.ncq_feed.specs.Feeds.{AreFed}
 use Rattle.ncq_group.specs.Tables.{TableState}
+use Rattle.ncq_live.specs.Shares.{Shares}
 use Rattle.ncq_script.specs.declared.command.Command.{Command}
 use Rattle.ncq_source.specs.declared.change.Portion.{Portion}
 use Rattle.ncq_source.specs.StoreStates.{StoreState}
 use Rattle.ncq_shelf.specs.KeptFiles.{KeptFile}
 use Rattle.ncq_engine.specs.Applies.{Applies, IfAnswered}
+use Rattle.ncq_engine.specs.Cached.{AreToldRight}
 use Rattle.ncq_engine.specs.Compactions.{AreCompacted, KeepBases}
 use Rattle.ncq_engine.specs.History.{History}
-use Rattle.ncq_engine.specs.Stands.{EngineState, Follows, Stands}
+use Rattle.ncq_engine.specs.Stands.{EngineState, Follows, IsBounded, Stands}
 use Rattle.ncq_engine.specs.Works.{IsWithinWork}
 use Rattle.ncq_engine.specs.declared.engine.ApplyError.{ApplyError}
 use Rattle.ncq_engine.specs.declared.engine.ApplyError.TheVariants.{Refused, OutOfMemory}
@@ -28,9 +31,10 @@ answered_more (Ok x) f a = f a
 answered_more (Err (Refused why)) f a = f a
 answered_more (Err OutOfMemory) f a = tt
 
--- an engine with another table, which follows what it followed
-module _ (old : EngineState) (table : TableState) (follows : (h : History) → Follows old h → Follows (record old { table = table }) h) where
-  pub applies_from : (command : Command) (out : List ℕ) (r : Result Answered ApplyError) (new : EngineState) (out' : List ℕ) → Applies (record old { table = table }) command out r new out' → Applies old command out r new out'
+-- an engine with another table that keeps other pairs of what was told, which follows what it followed
+module _ (old : EngineState) (table : TableState) (cache : List Cached) (follows : (h : History) → Follows old h → Follows (record old { table = table; cache = cache }) h) where
+  pub applies_from : (command : Command) (out : List ℕ) (r : Result Answered ApplyError) (new : EngineState) (out' : List ℕ) → Applies (record old { table = table; cache = cache }) command out r new out'
+      → Applies old command out r new out'
   applies_from command out (Ok answered) new out' a = record {
     accepted = λ h s. a.accepted h (follows h s);
     follows = λ h s. a.follows h (follows h s);
@@ -50,9 +54,18 @@ module _ (old : EngineState) (table : TableState) (follows : (h : History) → F
   }
   applies_from command out (Err OutOfMemory) new out' a = record { follows = λ h s. a.follows h (follows h s); uncounted = a.uncounted; labels = a.labels; front = a.front }
 
-  pub work_from : (command : Command) (before after : ℕ) → ((h : History) → Follows (record old { table = table }) h → Stands (record old { table = table }) h)
-      → IsWithinWork (record old { table = table }) command before after → IsWithinWork old command before after
-  work_from command before after stands within h s bound work = within h (stands h (follows h s.follows)) bound work
+-- where that engine stands for what the other stands for, the work is the same
+pub work_from : (old : EngineState) (table : TableState) (cache : List Cached) → ((h : History) → Stands old h → Stands (record old { table = table; cache = cache }) h)
+    → (command : Command) (before after : ℕ) → IsWithinWork (record old { table = table; cache = cache }) command before after → IsWithinWork old command before after
+work_from old table cache stands command before after within h s bound work = within h (stands h s) bound work
+
+-- an engine that follows what another followed, and keeps what that kept of what was told, or nothing
+pub stands_still : (old mid : EngineState) → ((h : History) → Follows old h → Follows mid h) → ((h : History) → Follows mid h → IsBounded mid h) → Shares mid.subscriptions mid.table
+    → (mid ≡ old) ⊎ (mid.cache ≡ []) → (h : History) → Stands old h → Stands mid h
+stands_still old mid follows bounded shares (inl same) h s = subst (λ (e : EngineState). Stands e h) (sym same) s
+stands_still old mid follows bounded shares (inr nothing) h s =
+    let f = follows h s.follows in
+    record { follows = f; bounded = bounded h f; shares = shares; cached = subst (AreToldRight h mid.table) (sym nothing) tt }
 
 -- a change keeps the bases
 pub bases_fed : (store : StoreState) (change : List Portion) (old new : EngineState) → AreFed store change old.table.files new.table.files → KeepBases old new

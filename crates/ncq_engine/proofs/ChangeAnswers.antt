@@ -4,6 +4,7 @@ use Rattle.std.specs.Prelude.{Ok, ◌⊎◌}
 use Rattle.std.specs.List.{AllByRecursion}
 use Rattle.ncq_book.specs.declared.subscription.Subscription.{Subscription as Kept}
 use Rattle.ncq_book.specs.Books.{watchers_of}
+use Rattle.ncq_cache.specs.Cached.{Cached}
 use Rattle.ncq_callback.specs.Labels.{Label}
 use Rattle.ncq_change.specs.Stores.{world_in}
 use Rattle.ncq_feed.specs.Feeds.{AreFed, IsPreparedFrom, NamesTheFed, world_after}
@@ -18,11 +19,15 @@ use Rattle.ncq_source.specs.declared.change.Section.{Section}
 use Rattle.ncq_source.specs.StoreStates.{ArePortionsOf, IsAlike, IsCommitted, StoreState, holdings_of}
 use Rattle.ncq_engine.specs.declared.telling.Answered.{Answered}
 use Rattle.ncq_engine.specs.Applies.{Applies, ok_text}
+use Rattle.ncq_engine.specs.Cached.{AllServe, Grows, KeepsPairs}
 use Rattle.ncq_engine.specs.Engines.{CanTell, IsEngine, last_in}
 use Rattle.ncq_engine.specs.Stands.{EngineState}
 use Rattle.ncq_engine.specs.Tellings.{IsAnswered, firings_text, started_of}
 use Rattle.ncq_engine.proofs.ChangeLaws.{change_accepted, last_either}
-use Rattle.ncq_engine.proofs.InvariantLaws.{Invariant, can_fed, invariant_alike, invariant_changed, invariant_counted}
+use Rattle.ncq_engine.proofs.CachedAnswers.{keeps_fed}
+use Rattle.ncq_engine.proofs.CachedLaws.{grown_serve, serve_fed}
+use Rattle.ncq_engine.proofs.EngineLaws.{applies_cached}
+use Rattle.ncq_engine.proofs.InvariantLaws.{Invariant, can_fed, invariant_alike, invariant_cached, invariant_changed, invariant_counted}
 use Rattle.ncq_engine.proofs.Moved.{portions_alike, prepared_from, world_committed}
 use Rattle.ncq_engine.proofs.FedTexts.{asks_enough, fed_spans, fed_text}
 use Rattle.ncq_engine.proofs.StoreLaws.{last_alike}
@@ -32,9 +37,9 @@ use Rattle.ncq_engine.specs.History.{last_change}
 abbrev pub mid_engine : EngineState → StoreState → EngineState
 mid_engine e ready = record e { store = ready; count = e.count + 1 }
 
--- the engine behind the change: the store after the commit, and what was fed
-abbrev pub changed_engine : EngineState → StoreState → LiveState → EngineState
-changed_engine e after live_table = record e { store = after; clock = live_table.instant; count = e.count + 1; subscriptions = live_table.subscriptions; table = live_table.table }
+-- the engine behind the change: the store after the commit, what was fed, and what is kept of what was told
+abbrev pub changed_engine : EngineState → StoreState → LiveState → List Cached → EngineState
+changed_engine e after live_table cache = record e { store = after; clock = live_table.instant; count = e.count + 1; subscriptions = live_table.subscriptions; table = live_table.table; cache = cache }
 
 -- the change was prepared for the engine, and its sources have room for it
 pub record IsReserved (e : EngineState) (changed : List Section) (change : List Portion) (ready : StoreState) : Type 0 where
@@ -77,13 +82,20 @@ module _ {e : EngineState} {ready : StoreState} {changed : List Section} {change
     still = record { table = table; subscriptions = e.subscriptions; instant = e.clock }
 
     can : AllByRecursion (CanTell e.labels ready table) e.subscriptions
-    can = can_fed (mid_engine e ready) change (world_after ready change) table holds_mid f.fed f.fits
+    can = can_fed (mid_engine e ready) change (world_after ready change) table holds_mid f.fed f.fits f.number
 
     -- the subscriptions can be told of the files as they are fed
     pub can_tell : (known : List Label) → e.labels ≡ known → AllByRecursion (CanTell known ready table) live_table.subscriptions
     can_tell known handled =
         subst (λ (ms : List Kept). AllByRecursion (CanTell known ready table) ms) (sym f.subscriptions)
         (subst (λ (l : List Label). AllByRecursion (CanTell l ready table) e.subscriptions) handled can)
+
+    -- what is kept of what was told serves
+    pub served : AllServe table e.cache
+    served = serve_fed e.table table e.cache f.number f.next_file r.holds.serve
+
+    pub changed_keeps : (cache : List Cached) → Grows table e.cache cache → KeepsPairs e.table e.cache table cache
+    changed_keeps cache = keeps_fed ready change e.table table e.cache cache f.fed r.holds.serve
 
     module _ (after : StoreState) (committed : IsCommitted ready change after) where
       either : (asked : List ℕ) → (last_in after asked ≡ after.changes) ⊎ (last_in after asked ≡ last_in ready asked)
@@ -117,9 +129,10 @@ module _ {e : EngineState} {ready : StoreState} {changed : List Section} {change
           invariant_changed (mid_engine e ready) change after table holds_mid committed.changes (let l : ready.changes + 1 ≤ e.count + 1 = omega (arith, few, same) in l) last_more lasts_after f.fed fits_after f.facts.up_to f.number f.next_file
 
       -- what holds behind the commit
-      pub holds_changed : Invariant (changed_engine e after live_table)
-      holds_changed =
-          subst (λ (ms : List Kept). IsEngine after (e.count + 1) e.creates e.labels ms table) (sym f.subscriptions) changed_holds
+      pub holds_changed : (cache : List Cached) → Grows table e.cache cache → Invariant (changed_engine e after live_table cache)
+      holds_changed cache grows =
+          subst (λ (ms : List Kept). IsEngine after (e.count + 1) e.creates e.labels ms table cache) (sym f.subscriptions)
+          (invariant_cached (record e { store = after; count = e.count + 1; table = table }) cache (grown_serve table e.cache cache served grows) changed_holds)
 
       changed_applies : (out out' : List ℕ) (answered : Answered)
           → IsAnswered (e.count + 1) e.labels ready still (started_of still (watchers_of list e.subscriptions)) out out' answered
@@ -136,10 +149,11 @@ module _ {e : EngineState} {ready : StoreState} {changed : List Section} {change
           answered _ refl told.written refl (λ i. record { from = told.from i; to = told.to i; spans = answered.spans })
 
       -- the answer to the change, by what was told of the files as they were fed
-      pub change_answers : (known : List Label) → e.labels ≡ known → (out out' : List ℕ) (answered : Answered)
+      pub change_answers : (known : List Label) → e.labels ≡ known → (out out' : List ℕ) (answered : Answered) (cache : List Cached)
           → IsAnswered (e.count + 1) known ready live_table (started_of live_table (watchers_of list live_table.subscriptions)) out out' answered
-          → Applies e (Delta changed) out (Ok answered) (changed_engine e after live_table) out'
-      change_answers known handled out out' answered told =
-          subst (λ (p : List Kept × ℕ). Applies e (Delta changed) out (Ok answered) (record e { store = after; clock = p.1; count = e.count + 1; subscriptions = p.0; table = table }) out') (λ i. (sym f.subscriptions i, sym f.instant i))
+          → Applies e (Delta changed) out (Ok answered) (changed_engine e after live_table cache) out'
+      change_answers known handled out out' answered cache told =
+          subst (λ (p : List Kept × ℕ). Applies e (Delta changed) out (Ok answered) (record e { store = after; clock = p.1; count = e.count + 1; subscriptions = p.0; table = table; cache = cache }) out') (λ i. (sym f.subscriptions i, sym f.instant i))
+          (applies_cached e (Delta changed) out (Ok answered) (record e { store = after; count = e.count + 1; table = table }) out' cache
           (changed_applies out out' answered
-          (subst (λ (p : LiveState × List Label). IsAnswered (e.count + 1) p.1 ready p.0 (started_of p.0 (watchers_of list p.0.subscriptions)) out out' answered) (λ i. (record { table = table; subscriptions = f.subscriptions i; instant = f.instant i }, sym handled i)) told))
+          (subst (λ (p : LiveState × List Label). IsAnswered (e.count + 1) p.1 ready p.0 (started_of p.0 (watchers_of list p.0.subscriptions)) out out' answered) (λ i. (record { table = table; subscriptions = f.subscriptions i; instant = f.instant i }, sym handled i)) told)))

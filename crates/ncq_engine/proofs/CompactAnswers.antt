@@ -1,5 +1,5 @@
 -- A file that is compacted, or left, from what the calls give.
-use Rattle.std.proofs.Common.{◌≡◌, ◌≢◌, ℕ, ◌<◌, ◌≤◌, ◌⊎◌, sym, ◌∙◌, ap, subst, arith, inl, inr}
+use Rattle.std.proofs.Common.{◌≡◌, ◌≢◌, ℕ, ◌<◌, ◌≤◌, ◌⊎◌, [], sym, ◌∙◌, ap, subst, arith, inl, inr}
 use Rattle.std.specs.Prelude.{Result, Ok, Err, Some, OnOk, OnErr}
 use Rattle.std.specs.FinMap.{get, insert}
 use Rattle.ncq_live.specs.LiveTables.{LiveState}
@@ -67,9 +67,9 @@ module _ (e : EngineState) (holds : Invariant e) (number least : ℕ) (is_least 
       based : there.file.content.base ≤ least_of e number
       based = let low = base_asked there.file there.at in omega (arith, low, is_least)
 
-      pub holds_compacted : Invariant (record e { table = live_table.table })
-      holds_compacted = elim outcome [
-        | inl m ↦ invariant_compacted e number there.file m.0 live_table.table there.at m.1 m.2 based same next_file holds
+      pub holds_compacted : e.cache ≡ [] → Invariant (record e { table = live_table.table })
+      holds_compacted nothing = elim outcome [
+        | inl m ↦ invariant_compacted e number there.file m.0 live_table.table there.at m.1 m.2 based same next_file nothing holds
         | inr stays ↦ subst (λ t. Invariant (record e { table = t })) (sym stays) holds
       ]
 

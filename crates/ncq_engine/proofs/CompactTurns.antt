@@ -18,6 +18,7 @@ use Rattle.ncq_engine.specs.Compactions.{AreCompacted, HasBase, IsWorn, least_of
 use Rattle.ncq_engine.specs.Engines.{latest_in, mark_in}
 use Rattle.ncq_engine.specs.History.{History}
 use Rattle.ncq_engine.specs.Stands.{EngineState, Follows}
+use Rattle.ncq_engine.proofs.EngineLaws.{follows_cached}
 use Rattle.ncq_engine.proofs.LeastLaws.{IsUnder, least_under}
 use Rattle.ncq_engine.proofs.Lists.{each_more}
 
@@ -136,3 +137,21 @@ there_still old mid done m number there = elim (m.each number there.file there.a
 -- and so is each of a list
 pub each_still_there : (old mid : EngineState) (done : List ℕ) → HaveMet old mid done → (numbers : List ℕ) → AllByRecursion (IsThere old.table.files) numbers → AllByRecursion (IsThere mid.table.files) numbers
 each_still_there old mid done m numbers there = each_more (IsThere old.table.files) (IsThere mid.table.files) (there_still old mid done m) numbers there
+
+-- an engine that is as it was has its own table, and keeps its own
+pub same_alone : (old new : EngineState) → new ≡ old → new ≡ record old { table = new.table; cache = new.cache }
+same_alone old new is = is ∙ (λ i. record old { table = (sym is i).table; cache = (sym is i).cache })
+
+-- an engine that gave up what it kept of what was told, and has another table then
+module _ (old mid new : EngineState) (gave : mid ≡ record old { cache = [] }) (same : new ≡ record mid { table = new.table }) where
+  pub nothing_then : new.cache ≡ []
+  nothing_then = ap (λ (e : EngineState). e.cache) same ∙ ap (λ (e : EngineState). e.cache) gave
+
+  pub same_then : new ≡ record old { table = new.table; cache = new.cache }
+  same_then = same ∙ ap (λ (e : EngineState). record e { table = new.table }) gave ∙ (λ i. record old { table = new.table; cache = sym nothing_then i })
+
+  pub follows_then : ((h : History) → Follows mid h → Follows new h) → (h : History) → Follows old h → Follows new h
+  follows_then follows h s = follows h (subst (λ (e : EngineState). Follows e h) (sym gave) (follows_cached old [] h s))
+
+  pub compacted_then : AreCompacted mid new → AreCompacted old new
+  compacted_then = subst (λ (e : EngineState). AreCompacted e new) gave

@@ -1,5 +1,5 @@
 -- An engine one of whose files was compacted: it stands as it stood.
-use Rattle.std.proofs.Common.{◌≡◌, ◌≢◌, ℕ, ◌*◌, ◌≤◌, sym, ◌∙◌, ap, subst, arith, inl, inr}
+use Rattle.std.proofs.Common.{◌≡◌, ◌≢◌, ℕ, ◌*◌, ◌≤◌, [], sym, ◌∙◌, ap, subst, arith, inl, inr}
 use Rattle.std.specs.Prelude.{Some, IfSome}
 use Rattle.std.specs.FinMap.{get, insert}
 use Rattle.std.proofs.lemmas.Bool.{cases_eq}
@@ -16,7 +16,7 @@ use Rattle.ncq_engine.specs.Compactions.{HasBase, least_of}
 use Rattle.ncq_engine.specs.Engines.{AreSound, CanTell, mark_in}
 use Rattle.ncq_engine.specs.History.{History, sources, up_to, world}
 use Rattle.ncq_engine.specs.Stands.{AreContents, EngineState, Follows}
-use Rattle.ncq_engine.proofs.InvariantLaws.{Invariant}
+use Rattle.ncq_engine.proofs.InvariantLaws.{Invariant, none_serve}
 use Rattle.ncq_engine.proofs.LeastLaws.{IsUnder, least_few, least_under}
 use Rattle.ncq_engine.proofs.Lists.{each_both}
 use Rattle.ncq_engine.proofs.Sounds.{sound_stays}
@@ -60,6 +60,8 @@ module _ (e : EngineState) (number : ℕ) (file next : KeptFile) (table : TableS
           own = done.expr ∙ ap (λ (k : KeptFile). k.expr) (sym one) ∙ can.own;
           sound = fits_sound table.number w table.files fits_now m.file.0 next there;
           base = subst (λ b. IfSome (mark_in e.store m) (λ mark. b ≤ mark)) (sym done.base) (under is);
+          mark = subst (λ n. IfSome (mark_in e.store m) (λ mark. mark ≤ n)) (sym same) can.mark;
+          asked = can.asked;
         }
     | inr differs ↦
         let there : get table.files m.file.0 ≡ Some can.file = others m.file.0 differs ∙ can.at in
@@ -71,6 +73,8 @@ module _ (e : EngineState) (number : ℕ) (file next : KeptFile) (table : TableS
           own = can.own;
           sound = fits_sound table.number w table.files fits_now m.file.0 can.file there;
           base = can.base;
+          mark = subst (λ n. IfSome (mark_in e.store m) (λ mark. mark ≤ n)) (sym same) can.mark;
+          asked = can.asked;
         }
   ]
 
@@ -84,8 +88,8 @@ module _ (e : EngineState) (number : ℕ) (file next : KeptFile) (table : TableS
     | inr differs ↦ held other kept (sym (others other differs) ∙ there) n low
   ]
 
-  pub invariant_compacted : Invariant e → Invariant (record e { table = table })
-  invariant_compacted i =
+  pub invariant_compacted : e.cache ≡ [] → Invariant e → Invariant (record e { table = table })
+  invariant_compacted nothing i =
       let few = least_few e.store number e.subscriptions in
       let now = i.number in
       let fits_now = fits (world_in e.store) (let l : least ≤ e.table.number = omega (arith, few, now) in l) i.fits in
@@ -100,6 +104,7 @@ module _ (e : EngineState) (number : ℕ) (file next : KeptFile) (table : TableS
         fits = fits_now;
         sound = sounds i.sound;
         next = (let n = i.next in let l : table.next_file ≤ 256 * e.creates = omega (arith, n, next_file) in l);
+        serve = none_serve table e.cache nothing;
       }
 
   contents : (h : History) → AreContents e.table.files h → AreContents table.files h

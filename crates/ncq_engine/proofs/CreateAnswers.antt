@@ -10,6 +10,7 @@ use Rattle.ncq_bind.specs.Bindings.{Binds, roots_in}
 use Rattle.ncq_book.specs.declared.subscription.Subscription.{Subscription as Kept}
 use Rattle.ncq_book.specs.Books.{InstallsRise, is_of, subscription_of}
 use Rattle.ncq_book.proofs.Lists.{each_leads}
+use Rattle.ncq_cache.specs.Cached.{Cached}
 use Rattle.ncq_callback.specs.Labels.{Label}
 use Rattle.ncq_change.specs.Stores.{world_in}
 use Rattle.ncq_event.specs.declared.firing.Firing.{Firing}
@@ -33,10 +34,12 @@ use Rattle.ncq_xmlql.specs.declared.model.Statement.{Statement}
 use Rattle.ncq_xmlql.specs.WellFormed.{IsWellFormed as IsWhole}
 use Rattle.ncq_engine.specs.declared.telling.Answered.{Answered}
 use Rattle.ncq_engine.specs.Applies.{Applies, kind_at, ok_text}
-use Rattle.ncq_engine.specs.Engines.{CanTell, InstallsAreUpTo, fired_if, new_subscription}
+use Rattle.ncq_engine.specs.Cached.{AllServe, Grows, KeepsPairs}
+use Rattle.ncq_engine.specs.Engines.{CanTell, InstallsAreUpTo, fired_if, latest_in, new_subscription}
 use Rattle.ncq_engine.specs.Notices.{kind_in, name_at}
 use Rattle.ncq_engine.specs.Output.{is_at_odds}
 use Rattle.ncq_engine.specs.Joins.{IsSubscriptionOf, timed}
+use Rattle.ncq_engine.specs.Scans.{scanned_by}
 use Rattle.ncq_engine.specs.Stands.{EngineState}
 use Rattle.ncq_engine.specs.Tellings.{IsAnswered, firing_text, noted_by, started_at}
 use Rattle.ncq_engine.proofs.BookLaws.{create_fired, create_place, create_text, create_there}
@@ -44,7 +47,10 @@ use Rattle.ncq_engine.proofs.ClockAnswers.{counted_engine}
 use Rattle.ncq_engine.specs.declared.span.Span.{Span}
 use Rattle.ncq_engine.proofs.FiringLaws.{firing_spans}
 use Rattle.ncq_engine.proofs.CreateLaws.{above_all, create_accepted, created_instant}
-use Rattle.ncq_engine.proofs.InvariantLaws.{Invariant, invariant_added, invariant_counted, invariant_noted}
+use Rattle.ncq_engine.proofs.CachedLaws.{grown_serve, keeps_grown, of_old_installed, serve_installed}
+use Rattle.ncq_engine.proofs.EngineLaws.{applies_cached}
+use Rattle.ncq_engine.proofs.InvariantLaws.{Invariant, invariant_added, invariant_cached, invariant_counted, invariant_noted}
+use Rattle.ncq_engine.proofs.ScanLaws.{asked_is}
 use Rattle.ncq_engine.proofs.TableLaws.{can_new}
 use Rattle.ncq_engine.proofs.UndoLaws.{at_mark_again, subscriptions_back, table_again}
 
@@ -104,7 +110,9 @@ module _ (e : EngineState) (statement : Statement) (query : NormalQuery) (action
     fits_now = subst (λ n. Fits n (world_in e.store) live_table.table.files) (sym inn.installed.same) inn.fits
 
     own_can : CanTell e.labels e.store live_table.table (own inn.file)
-    own_can = can_new e.labels e.store live_table.table (world_in e.store) fits_now (own inn.file) read.formed read.within refl inn.installed.stands
+    own_can =
+        can_new e.labels e.store live_table.table (world_in e.store) fits_now (own inn.file) read.formed read.within refl inn.installed.stands
+        (λ any. asked_is statement read.whole any ∙ ap (λ (q : NormalQuery). latest_in any (scanned_by (plan_of q))) (sym read.binds.answer))
 
     added : Invariant (record e { count = e.count + 1; creates = e.creates + 1; subscriptions = all; table = live_table.table })
     added = invariant_added (counted_engine e) (plan_of query) live_table.table inn.file.0 (own inn.file) (invariant_counted e holds) inn.installed fits_now (plan_is_well_formed query read.formed).small own_can refl few
@@ -189,9 +197,9 @@ subscription_of_it e known handled statement query action timing subscription no
 abbrev pub live_of : EngineState → LiveState
 live_of e = record { table = e.table; subscriptions = e.subscriptions; instant = e.clock }
 
--- the engine with this live table behind a create
-abbrev pub created_engine : EngineState → LiveState → EngineState
-created_engine e after = record e { clock = after.instant; count = e.count + 1; creates = e.creates + 1; subscriptions = after.subscriptions; table = after.table }
+-- the engine with this live table behind a create, and what is kept of what was told
+abbrev pub created_engine : EngineState → LiveState → List Cached → EngineState
+created_engine e after cache = record e { clock = after.instant; count = e.count + 1; creates = e.creates + 1; subscriptions = after.subscriptions; table = after.table; cache = cache }
 
 -- the subscription came in, as the live table tells
 pub record HasCome (e : EngineState) (statement : Statement) (m : Kept) (plan : Expr) (live_table : LiveState) : Type 0 where
@@ -230,6 +238,10 @@ module _ {e : EngineState} {statement : Statement} {m : Kept} {plan : Expr} {liv
       subst (λ (ms : List Kept). AllByRecursion (CanTell known e.store live_table.table) ms) (sym inn.subscriptions)
       (subst (λ (l : List Label). AllByRecursion (CanTell l e.store live_table.table) full) handled (can e statement m.query m.action c.holds read live_table inn))
 
+  -- what is kept of what was told serves
+  pub come_serve : AllServe live_table.table e.cache
+  come_serve = serve_installed (plan_of m.query) e.table live_table.table inn.file.0 inn.installed inn.installed.order e.cache c.holds.serve
+
   module _ (firings : List Firing) (started : firings ≡ flat_map (started_at live_table.instant live_table.subscriptions) ((e.creates + 1) ∷ []))
       (after : LiveState) (noted : after ≡ record live_table { subscriptions = noted_by e.store.changes firings live_table.subscriptions }) where
     start : IsStarting (record { table = live_table.table; subscriptions = full; instant = e.clock }) (e.creates + 1) firings
@@ -240,17 +252,26 @@ module _ {e : EngineState} {statement : Statement} {m : Kept} {plan : Expr} {liv
     after_is = noted ∙ (λ i. record { table = live_table.table; subscriptions = noted_by e.store.changes firings (inn.subscriptions i); instant = inn.instant i })
 
     -- what holds behind it
-    pub come_holds : Invariant (created_engine e after)
-    come_holds = subst (λ (l : LiveState). Invariant (created_engine e l)) (sym after_is) (noted_holds e statement m.query m.action c.holds read live_table inn firings start)
+    pub come_holds : (cache : List Cached) → Grows live_table.table e.cache cache → Invariant (created_engine e after cache)
+    come_holds cache grows =
+        subst (λ (l : LiveState). Invariant (created_engine e l cache)) (sym after_is)
+        (invariant_cached (record e { count = e.count + 1; creates = e.creates + 1; subscriptions = noted_by e.store.changes firings full; table = live_table.table }) cache
+        (grown_serve live_table.table e.cache cache come_serve grows) (noted_holds e statement m.query m.action c.holds read live_table inn firings start))
+
+    pub come_keeps : (cache : List Cached) → Grows live_table.table e.cache cache → KeepsPairs e.table e.cache after.table cache
+    come_keeps cache grows =
+        subst (λ (l : LiveState). KeepsPairs e.table e.cache l.table cache) (sym after_is)
+        (keeps_grown e.table live_table.table e.cache cache c.holds.serve (of_old_installed (plan_of m.query) e.table live_table.table inn.file.0 inn.installed inn.installed.order) grows)
 
     -- the answer to the create, by what was told of the files as they are then
-    pub come_answers : (known : List Label) → e.labels ≡ known → (out out' : List ℕ) (answered : Answered)
+    pub come_answers : (known : List Label) → e.labels ≡ known → (out out' : List ℕ) (answered : Answered) (cache : List Cached)
         → IsAnswered (e.count + 1) known e.store live_table firings out out' answered
-        → Applies e (Create statement) out (Ok answered) (created_engine e after) out'
-    come_answers known handled out out' answered told =
-        subst (λ (l : LiveState). Applies e (Create statement) out (Ok answered) (created_engine e l) out') (sym after_is)
+        → Applies e (Create statement) out (Ok answered) (created_engine e after cache) out'
+    come_answers known handled out out' answered cache told =
+        subst (λ (l : LiveState). Applies e (Create statement) out (Ok answered) (created_engine e l cache) out') (sym after_is)
         (let t = subst (λ (p : LiveState × List Label). IsAnswered (e.count + 1) p.1 e.store p.0 firings out out' answered) (λ i. (record { table = live_table.table; subscriptions = inn.subscriptions i; instant = inn.instant i }, sym handled i)) told in
-        applies e statement m.query m.action c.holds read live_table inn firings start out (out ++ ok_text (e.count + 1)) out' answered.spans answered refl (record { text = t.written; stand = t.spans }) t.from t.to refl)
+        applies_cached e (Create statement) out (Ok answered) (record e { count = e.count + 1; creates = e.creates + 1; subscriptions = noted_by e.store.changes firings full; table = live_table.table }) out' cache
+        (applies e statement m.query m.action c.holds read live_table inn firings start out (out ++ ok_text (e.count + 1)) out' answered.spans answered refl (record { text = t.written; stand = t.spans }) t.from t.to refl))
 
   -- the subscription goes again: all is as before it came
   module _ (low : LiveState) (gone : low.subscriptions ≡ filter (λ n. not (is_of (e.creates + 1) n)) live_table.subscriptions)

@@ -4,6 +4,7 @@ use Rattle.std.specs.Prelude.{Some, None, Result, Ok, Err}
 use Rattle.std.specs.Io.{StartsWith}
 use Rattle.std.specs.List.{filter, flat_map, list_any}
 use Rattle.std.proofs.lemmas.List.{append-nil}
+use Rattle.ncq_cache.specs.Cached.{Cached}
 use Rattle.ncq_callback.specs.Labels.{Label}
 use Rattle.ncq_event.specs.Orders.{ordered_by}
 use Rattle.ncq_script.specs.declared.command.Command.{Command}
@@ -32,6 +33,35 @@ rises_quietly h command same rising = ((let l : now h ≤ moved command (now h) 
 -- how many commands were answered, and where the notices of the last one stand, is no matter
 pub follows_still : (e : EngineState) (count : ℕ) (places : List Span) (h : History) → Follows e h → Follows (record e { count = count; spans = places }) h
 follows_still e count places h s = record { sources = s.sources; last = s.last; changes = s.changes; clock = s.clock; creates = s.creates; subscriptions = s.subscriptions; contents = s.contents; rising = s.rising }
+
+-- nor is what it keeps of what was told
+pub follows_cached : (e : EngineState) (cache : List Cached) (h : History) → Follows e h → Follows (record e { cache = cache }) h
+follows_cached e cache h s = record { sources = s.sources; last = s.last; changes = s.changes; clock = s.clock; creates = s.creates; subscriptions = s.subscriptions; contents = s.contents; rising = s.rising }
+
+-- so an answer does to an engine that keeps more or less of it what it does to the engine
+pub applies_cached : (old : EngineState) (command : Command) (out : List ℕ) (result : Result Answered ApplyError) (new : EngineState) (out' : List ℕ) (cache : List Cached)
+    → Applies old command out result new out' → Applies old command out result (record new { cache = cache }) out'
+applies_cached old command out (Ok answered) new out' cache a = record {
+  accepted = a.accepted;
+  follows = λ h s. follows_cached new cache (command ∷ h) (a.follows h s);
+  answer = a.answer;
+  counted = a.counted;
+  labels = a.labels;
+  places = a.places;
+}
+applies_cached old command out (Err (Refused why)) new out' cache a = record {
+  refused = a.refused;
+  follows = λ h s. follows_cached new cache h (a.follows h s);
+  counted = a.counted;
+  labels = a.labels;
+  unwritten = a.unwritten;
+}
+applies_cached old command out (Err OutOfMemory) new out' cache a = record {
+  follows = λ h s. follows_cached new cache h (a.follows h s);
+  uncounted = a.uncounted;
+  labels = a.labels;
+  front = a.front;
+}
 
 -- a command that is refused leaves all as it was, but for the number of commands
 pub refuses : (old : EngineState) (command : Command) (why : Refusal) (out : List ℕ) (result : Result Answered ApplyError) (new : EngineState) (out' : List ℕ)

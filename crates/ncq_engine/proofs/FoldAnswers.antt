@@ -1,5 +1,5 @@
 -- Bases that are raised and rows that are folded, from what the calls give.
-use Rattle.std.proofs.Common.{◌≡◌, ℕ, ◌≤◌, sym, subst, arith, refl}
+use Rattle.std.proofs.Common.{◌≡◌, ℕ, ◌≤◌, [], sym, subst, arith, refl}
 use Rattle.std.specs.Prelude.{Result, Ok, Err, OnOk, OnErr}
 use Rattle.std.specs.FinMap.{insert}
 use Rattle.ncq_live.specs.LiveTables.{LiveState}
@@ -30,8 +30,8 @@ folded e live_table (Err x) done same = subst (λ t. AreMoved e t.files) (sym sa
 -- the engine with a live table whose files are so moved
 module _ (was : EngineState) (live_table : LiveState) (moved : AreMoved was live_table.table.files) (number : live_table.table.number ≡ was.table.number) (next_file : live_table.table.next_file ≡ was.table.next_file)
     (subscriptions : live_table.subscriptions ≡ was.subscriptions) where
-  pub moved_holds : AreUpTo was.table.number was.table.files → Invariant was → Invariant (record was { subscriptions = live_table.subscriptions; table = live_table.table })
-  moved_holds upto holds = invariant_same (record was { table = live_table.table }) live_table subscriptions refl (invariant_moved was live_table.table moved number next_file upto holds)
+  pub moved_holds : AreUpTo was.table.number was.table.files → was.cache ≡ [] → Invariant was → Invariant (record was { subscriptions = live_table.subscriptions; table = live_table.table })
+  moved_holds upto nothing holds = invariant_same (record was { table = live_table.table }) live_table subscriptions refl (invariant_moved was live_table.table moved number next_file upto nothing holds)
 
   pub have_moved : (e : EngineState) → was ≡ e → live_table.instant ≡ was.clock → HaveMoved e (with_parts was was.store live_table)
   have_moved e is instant =

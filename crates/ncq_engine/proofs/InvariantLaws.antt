@@ -2,6 +2,7 @@
 use Rattle.std.proofs.Common.{◌≡◌, ℕ, ◌+◌, ◌*◌, ◌<◌, ◌≤◌, Bool, true, false, cond, List, [], ◌∷◌, ◌++◌, map, refl, sym, ◌∙◌, ap, subst, arith}
 use Rattle.std.specs.Prelude.{not, nat_eq}
 use Rattle.std.specs.List.{filter, list_any, AllByRecursion}
+use Rattle.ncq_cache.specs.Cached.{Cached}
 use Rattle.ncq_change.specs.Stores.{world_in}
 use Rattle.ncq_feed.specs.Feeds.{AreFed}
 use Rattle.ncq_group.specs.Installs.{IsInstalled}
@@ -21,10 +22,12 @@ use Rattle.ncq_source.specs.Stores.{without_room}
 use Rattle.ncq_source.specs.StoreStates.{StoreState, Declares, IsAlike}
 use Rattle.ncq_book.specs.declared.subscription.Subscription.{Subscription as Kept}
 use Rattle.ncq_book.specs.Books.{InstallsRise}
+use Rattle.ncq_engine.specs.Cached.{AllServe}
 use Rattle.ncq_engine.specs.Engines.{CanTell, InstallsAreUpTo, IsEngine, fired_if, last_in}
 use Rattle.ncq_engine.specs.History.{world}
 use Rattle.ncq_engine.specs.Stands.{EngineState, content_of}
 use Rattle.ncq_engine.specs.Tellings.{AreOf, IsLeftBy}
+use Rattle.ncq_engine.proofs.CachedLaws.{serve_fed, serve_installed, serve_left}
 use Rattle.ncq_engine.proofs.Lists.{each_filter, each_more, each_push}
 use Rattle.ncq_engine.proofs.Places.{one_declared, room_is_no_content}
 use Rattle.ncq_engine.proofs.Sounds.{sound_fed, sound_installed, sound_left}
@@ -33,12 +36,32 @@ use Rattle.ncq_engine.proofs.TableLaws.{can_left, can_noted, can_store, can_tabl
 use Rattle.ncq_engine.proofs.Worlds.{new_is_empty, world_is}
 
 abbrev pub Invariant : EngineState → Type 0
-Invariant e = IsEngine e.store e.count e.creates e.labels e.subscriptions e.table
+Invariant e = IsEngine e.store e.count e.creates e.labels e.subscriptions e.table e.cache
+
+-- where nothing is kept of what was told, all of it serves
+pub none_serve : (table : TableState) (cache : List Cached) → cache ≡ [] → AllServe table cache
+none_serve table cache nothing = subst (AllServe table) (sym nothing) tt
+
+-- what is kept of what was told is another
+pub invariant_cached : (e : EngineState) (cache : List Cached) → AllServe e.table cache → Invariant e → Invariant (record e { cache = cache })
+invariant_cached e cache serve i = record {
+  changes = i.changes;
+  creates_too = i.creates_too;
+  lasts = i.lasts;
+  can = i.can;
+  rise = i.rise;
+  installed = i.installed;
+  number = i.number;
+  fits = i.fits;
+  sound = i.sound;
+  next = i.next;
+  serve = serve;
+}
 
 -- it holds with the same subscriptions and files, wherever they are kept
 pub invariant_same : (e : EngineState) (live_table : LiveState) → live_table.subscriptions ≡ e.subscriptions → live_table.table ≡ e.table → Invariant e → Invariant (record e { subscriptions = live_table.subscriptions; table = live_table.table })
 invariant_same e live_table subscriptions table =
-    subst (λ (p : List Kept × TableState). IsEngine e.store e.count e.creates e.labels p.0 p.1) (λ j. (sym subscriptions j, sym table j))
+    subst (λ (p : List Kept × TableState). IsEngine e.store e.count e.creates e.labels p.0 p.1 e.cache) (λ j. (sym subscriptions j, sym table j))
 
 -- sources that differ in room alone have one world
 pub world_alike : (old new : StoreState) → map without_room new.sources ≡ map without_room old.sources → world_in new ≡ world_in old
@@ -67,6 +90,7 @@ invariant_counted e i =
       fits = i.fits;
       sound = i.sound;
       next = i.next;
+      serve = i.serve;
     }
 
 -- one more source
@@ -80,13 +104,15 @@ invariant_declared e store name root key d i =
       creates_too = i.creates_too;
       lasts = λ asked. (let a = last asked in let b = i.lasts asked in let l : last_in store asked ≤ store.changes = omega (arith, a, b, same) in l);
       can = each_more (CanTell e.labels e.store e.table) (CanTell e.labels store e.table)
-          (can_store e.labels e.store store e.table (λ asked. let a = last asked in let l : last_in e.store asked ≤ last_in store asked = omega (arith, a) in l)) e.subscriptions i.can;
+          (can_store e.labels e.store store e.table (λ asked. let a = last asked in let l : last_in e.store asked ≤ last_in store asked = omega (arith, a) in l)
+          (λ asked. let a = last asked in let b = i.lasts asked in let n = i.number in let l : last_in store asked ≤ e.table.number = omega (arith, a, b, n) in l)) e.subscriptions i.can;
       rise = i.rise;
       installed = i.installed;
       number = i.number ∙ sym same;
       fits = subst (λ w. Fits e.table.number w e.table.files) (sym (world_declared e.store store name root key d)) i.fits;
       sound = i.sound;
       next = i.next;
+      serve = i.serve;
     }
 
 -- room for sources
@@ -100,14 +126,20 @@ invariant_alike e store alike i =
       creates_too = i.creates_too;
       lasts = λ asked. (let a = last asked in let b = i.lasts asked in let l : last_in store asked ≤ store.changes = omega (arith, a, b, same) in l);
       can = each_more (CanTell e.labels e.store e.table) (CanTell e.labels store e.table)
-          (can_store e.labels e.store store e.table (λ asked. let a = last asked in let l : last_in e.store asked ≤ last_in store asked = omega (arith, a) in l)) e.subscriptions i.can;
+          (can_store e.labels e.store store e.table (λ asked. let a = last asked in let l : last_in e.store asked ≤ last_in store asked = omega (arith, a) in l)
+          (λ asked. let a = last asked in let b = i.lasts asked in let n = i.number in let l : last_in store asked ≤ e.table.number = omega (arith, a, b, n) in l)) e.subscriptions i.can;
       rise = i.rise;
       installed = i.installed;
       number = i.number ∙ sym same;
       fits = subst (λ w. Fits e.table.number w e.table.files) (sym (world_alike e.store store alike.sources)) i.fits;
       sound = i.sound;
       next = i.next;
+      serve = i.serve;
     }
+
+-- files that were fed stand one change later
+later : (old new : TableState) → new.number ≡ old.number + 1 → old.number ≤ new.number
+later old new number = let l : old.number ≤ new.number = omega (arith, number) in l
 
 -- the files were fed, and the change was committed
 pub invariant_changed : (e : EngineState) (change : List Portion) (store : StoreState) (table : TableState) → Invariant e → store.changes ≡ e.store.changes + 1 → e.store.changes + 1 ≤ e.count
@@ -119,22 +151,29 @@ invariant_changed e change store table i more few last lasts fed fits upto numbe
   creates_too = i.creates_too;
   lasts = lasts;
   can = each_more (CanTell e.labels e.store e.table) (CanTell e.labels store table)
-      (λ m can. can_store e.labels e.store store table last m (can_table e.labels e.store e.table table (fed_still e.store change e.table table (world_in store) fed fits) m can)) e.subscriptions i.can;
+      (λ m can. can_store e.labels e.store store table last few_lasts m
+      (can_table e.labels e.store e.table table (later e.table table number) (fed_still e.store change e.table table (world_in store) fed fits) m can)) e.subscriptions i.can;
   rise = i.rise;
   installed = i.installed;
   number = number_is ∙ sym more;
   fits = fits;
   sound = sound_fed e.store change e.table.files table.files (world_in store) fed (subst (λ n. Fits n (world_in store) table.files) number_is fits) (subst (λ n. AreUpTo n table.files) number_is upto) i.sound;
   next = (let n = i.next in let l : table.next_file ≤ 256 * e.creates = omega (arith, n, next) in l);
+  serve = serve_fed e.table table e.cache number next i.serve;
 }
   where
     number_is : table.number ≡ e.store.changes + 1
     number_is = number ∙ ap (λ n. n + 1) i.number
 
+    few_lasts : (name : List ℕ) → last_in store name ≤ table.number
+    few_lasts name = let a = lasts name in omega (arith, a, more, number_is)
+
 -- before the commit the subscriptions can be told
-pub can_fed : (e : EngineState) (change : List Portion) (w : World) (table : TableState) → Invariant e → AreFed e.store change e.table.files table.files → Fits table.number w table.files → AllByRecursion (CanTell e.labels e.store table) e.subscriptions
-can_fed e change w table i fed fits =
-    each_more (CanTell e.labels e.store e.table) (CanTell e.labels e.store table) (can_table e.labels e.store e.table table (fed_still e.store change e.table table w fed fits)) e.subscriptions i.can
+pub can_fed : (e : EngineState) (change : List Portion) (w : World) (table : TableState) → Invariant e → AreFed e.store change e.table.files table.files → Fits table.number w table.files → table.number ≡ e.table.number + 1
+    → AllByRecursion (CanTell e.labels e.store table) e.subscriptions
+can_fed e change w table i fed fits number =
+    each_more (CanTell e.labels e.store e.table) (CanTell e.labels e.store table)
+    (can_table e.labels e.store e.table table (later e.table table number) (fed_still e.store change e.table table w fed fits)) e.subscriptions i.can
 
 rise_push : (creates : ℕ) (ms : List Kept) (m : Kept) → InstallsRise ms → InstallsAreUpTo creates ms → creates < m.install → InstallsRise (ms ++ m ∷ [])
 rise_push creates [] m r u less = (tt, tt)
@@ -160,6 +199,7 @@ invariant_created e i few =
       fits = i.fits;
       sound = i.sound;
       next = (let l : e.table.next_file ≤ 256 * (e.creates + 1) = omega (arith, n) in l);
+      serve = i.serve;
     }
 
 -- the subscription is there, with the file of its plan
@@ -173,13 +213,15 @@ invariant_added e expr table file m i done fits small can install few =
       creates_too = few;
       lasts = i.lasts;
       can = each_push (CanTell e.labels e.store table) e.subscriptions m
-          (each_more (CanTell e.labels e.store e.table) (CanTell e.labels e.store table) (can_table e.labels e.store e.table table (installed_still expr e.table table file (world_in e.store) done fits)) e.subscriptions i.can) can;
+          (each_more (CanTell e.labels e.store e.table) (CanTell e.labels e.store table)
+          (can_table e.labels e.store e.table table (let same = done.same in let l : e.table.number ≤ table.number = omega (arith, same) in l) (installed_still expr e.table table file (world_in e.store) done fits)) e.subscriptions i.can) can;
       rise = rise_push e.creates e.subscriptions m i.rise i.installed (let l : e.creates < m.install = omega (arith, install) in l);
       installed = each_push (λ (x : Kept). x.install ≤ e.creates + 1) e.subscriptions m (few_more e.creates e.subscriptions i.installed) (let l : m.install ≤ e.creates + 1 = omega (arith, install) in l);
       number = done.same ∙ i.number;
       fits = fits;
       sound = sound_installed expr e.table table file (world_in e.store) done fits i.sound;
       next = (let l : table.next_file ≤ 256 * (e.creates + 1) = omega (arith, n, room, small) in l);
+      serve = serve_installed expr e.table table file done done.order e.cache i.serve;
     }
 
 each_map : (P Q : Kept → Type 0) (f : Kept → Kept) → ((m : Kept) → P m → Q (f m)) → (ms : List Kept) → AllByRecursion P ms → AllByRecursion Q (map f ms)
@@ -204,13 +246,15 @@ module _ (store : StoreState) (test : Kept → Bool) where
 
   pub invariant_noted : (e : EngineState) → e.store ≡ store → AreUpTo e.table.number e.table.files → Invariant e → Invariant (record e { subscriptions = map noted_one e.subscriptions })
   invariant_noted e same upto i =
-      let up : AreUpTo store.changes e.table.files = subst (λ n. AreUpTo n e.table.files) (i.number ∙ ap (λ (s : StoreState). s.changes) same) upto in
+      let now : e.table.number ≡ store.changes = i.number ∙ ap (λ (s : StoreState). s.changes) same in
+      let up : AreUpTo store.changes e.table.files = subst (λ n. AreUpTo n e.table.files) now upto in
+      let lasts = subst (λ (s : StoreState). (name : List ℕ) → last_in s name ≤ s.changes) same i.lasts in
       record {
         changes = i.changes;
         creates_too = i.creates_too;
         lasts = i.lasts;
         can = subst (λ (s : StoreState). AllByRecursion (CanTell e.labels s e.table) (map noted_one e.subscriptions)) (sym same)
-            (each_map (CanTell e.labels store e.table) (CanTell e.labels store e.table) noted_one (λ m can. can_noted e.labels store e.table up (test m) m can) e.subscriptions
+            (each_map (CanTell e.labels store e.table) (CanTell e.labels store e.table) noted_one (λ m can. can_noted e.labels store e.table up now lasts (test m) m can) e.subscriptions
             (subst (λ (s : StoreState). AllByRecursion (CanTell e.labels s e.table) e.subscriptions) same i.can));
         rise = rise_noted e.subscriptions i.rise;
         installed = each_map (λ n. n.install ≤ e.creates) (λ n. n.install ≤ e.creates) noted_one (λ n few. let a = one_install n in (let l : (noted_one n).install ≤ e.creates = omega (arith, few, a) in l)) e.subscriptions i.installed;
@@ -218,6 +262,7 @@ module _ (store : StoreState) (test : Kept → Bool) where
         fits = i.fits;
         sound = i.sound;
         next = i.next;
+        serve = i.serve;
       }
 
 rise_filter : (keep : Kept → Bool) (ms : List Kept) → InstallsRise ms → InstallsRise (filter keep ms)
@@ -253,12 +298,13 @@ invariant_left e keep table i live_table left number next = record {
   fits = subst (λ n. Fits n (world_in e.store) table.files) (sym number) (fits_left e.table.files table.files e.table.number (world_in e.store) left i.fits);
   sound = sound_left e.table.files table.files left i.sound;
   next = (let n = i.next in let l : table.next_file ≤ 256 * e.creates = omega (arith, n, next) in l);
+  serve = serve_left e.table table e.cache left number next i.serve;
 }
 
 -- one subscription is gone
 pub left_holds : (e : EngineState) (install : ℕ) (live_table : LiveState) → Invariant e → IsLeftBy (install ∷ []) (record { table = e.table; subscriptions = e.subscriptions; instant = e.clock }) live_table → IsLiveTable live_table.table live_table.subscriptions
-    → IsEngine e.store e.count e.creates e.labels live_table.subscriptions live_table.table
+    → IsEngine e.store e.count e.creates e.labels live_table.subscriptions live_table.table e.cache
 left_holds e install live_table holds left owns =
     let subscriptions : live_table.subscriptions ≡ filter (λ m. not (list_any (nat_eq m.install) (install ∷ []))) e.subscriptions = left.subscriptions in
-    subst (λ (ms : List Kept). IsEngine e.store e.count e.creates e.labels ms live_table.table) (sym subscriptions)
+    subst (λ (ms : List Kept). IsEngine e.store e.count e.creates e.labels ms live_table.table e.cache) (sym subscriptions)
     (invariant_left e (λ m. not (list_any (nat_eq m.install) (install ∷ []))) live_table.table holds (subst (IsLiveTable live_table.table) subscriptions owns) left.files left.number left.next_file)

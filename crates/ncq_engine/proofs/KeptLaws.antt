@@ -1,11 +1,14 @@
 -- What a firing tells: the text of the notice, and the mark that follows from what is written down.
-use Rattle.std.proofs.Common.{◌≡◌, ℕ, zero, suc, ◌<◌, ◌≤◌, max, true, false, List, [], ◌∷◌, ◌++◌, length, length-append, refl, sym, ◌∙◌, ap, subst, arith, ◌+◌}
-use Rattle.std.specs.Prelude.{Option, ◌==◌, slice_get, IfSome}
+use Rattle.std.proofs.Common.{◌≡◌, ◌⊎◌, ℕ, zero, suc, ◌<◌, ◌≤◌, max, true, false, inl, inr, List, [], ◌∷◌, ◌++◌, length, length-append, refl, sym, ◌∙◌, ap, subst, arith, ◌+◌}
+use Rattle.std.specs.Prelude.{Option, Some, None, Result, Ok, Err, ◌==◌, slice_get, IfSome, OnOk}
 use Rattle.std.specs.List.{AllByRecursion}
 use Rattle.std.specs.Option.{option_map}
 use Rattle.ncq_bag.specs.declared.bag.Difference.{Difference}
 use Rattle.std.proofs.lemmas.List.{append-nil}
 use Rattle.std.proofs.lemmas.Bool.Decides.{nat_tests}
+use Rattle.std.proofs.lemmas.Option.{same_Some}
+use Rattle.ncq_cache.specs.Cached.{Cached, found, with_pair}
+use Rattle.ncq_cache.specs.declared.key.NoticeKey.{NoticeKey}
 use Rattle.ncq_callback.specs.Labels.{Label}
 use Rattle.ncq_callback.specs.Texts.{render}
 use Rattle.ncq_callback.specs.declared.notice.Kind.TheVariants.{Print, Count, MailTo}
@@ -21,17 +24,21 @@ use Rattle.ncq_delta.specs.Leads.{unnumbered}
 use Rattle.ncq_news.specs.News.{entries_of, since_mark}
 use Rattle.ncq_plan.specs.Residuals.{passes}
 use Rattle.std.specs.FinMap.{empty, get}
+use Rattle.ncq_plan.specs.declared.expr.Expr.{Expr}
 use Rattle.ncq_plan.specs.Exprs.{expr_width}
 use Rattle.ncq_plan.specs.WellFormed.{arms_width}
 use Rattle.ncq_plan.proofs.CallerLemmas.{plan_is_wide}
-use Rattle.ncq_shelf.specs.KeptFiles.{Files}
+use Rattle.ncq_shelf.specs.KeptFiles.{Files, KeptFile}
 use Rattle.ncq_source.specs.StoreStates.{StoreState}
+use Rattle.ncq_engine.specs.Cached.{AllServe, Grows, IsFresh, key_of}
 use Rattle.ncq_engine.specs.Engines.{CanTell, last_in, latest_in, mark_in, news_of, rows_in_file, notice_text}
 use Rattle.ncq_engine.specs.declared.span.Span.{Span}
 use Rattle.ncq_engine.specs.Notices.{rendered}
+use Rattle.ncq_engine.specs.Scans.{scanned_by}
 use Rattle.ncq_engine.specs.Spans.{span_of}
-use Rattle.ncq_engine.specs.Tellings.{AskAlike, IsLatest}
+use Rattle.ncq_engine.specs.Tellings.{AskAlike, HasNews, IsKeyed, IsLatest, KnowsChange}
 use Rattle.ncq_engine.specs.declared.latest.Latest.{Latest}
+use Rattle.ncq_engine.proofs.CachedLaws.{found_fresh, grows_none, grows_put}
 
 -- what is written for a handler that is there
 written_as : (labels : List Label) (action : ℕ) → action < length labels → (argument name : List ℕ) (instant : ℕ) (entries : List Difference) (out out' : List ℕ)
@@ -116,21 +123,81 @@ module _ (labels : List Label) (store : StoreState) (table : TableState) (m : Ke
   base_mark o e = subst (λ (o : Option ℕ). IfSome o (λ number. content.base ≤ number)) (sym e)
       (subst (λ (c : FileState). IfSome (mark_in store m) (λ number. c.base ≤ number)) (sym is) can.base)
 
-  pub entries_are : (o : Option ℕ) (entries : List Difference) → o ≡ mark_in store m → entries ≡ entries_of m.query (since_mark o content.rows) → entries ≡ entries_of m.query (news_of store table.files m)
-  entries_are o entries e f = f ∙ (λ i. entries_of m.query (since_mark (e i) (is i).rows)) ∙ (λ i. entries_of m.query (since_mark (mark_in store m) (rows_in_file (sym can.at i))))
+-- what holds holds where there was memory
+pub on_any : {T E P : Type 0} (result : Result T E) → P → OnOk result P
+on_any (Ok value) held = held
+on_any (Err why) held = tt
+
+-- what is found by a key of the subscription is what its rows tell
+pub found_told : (table : TableState) (m : Kept) (mark : Option ℕ) (file : KeptFile) → get table.files m.file.0 ≡ Some file → (key : NoticeKey) → key ≡ key_of m mark table.number → (pairs : List Cached) → AllServe table pairs
+    → (entries : List Difference) → Some entries ≡ found key pairs → entries ≡ entries_of m.query (since_mark mark (rows_in_file (get table.files m.file.0)))
+found_told table m mark file at key is pairs serve entries there =
+    let fresh : IsFresh table key entries = subst (λ (o : Option (List Difference)). IfSome o (IsFresh table key)) (sym there) (found_fresh table key pairs serve (ap (λ (k : NoticeKey). k.change) is)) in
+    let here : IsFresh table (key_of m mark table.number) entries = subst (λ (k : NoticeKey). IsFresh table k entries) is fresh in
+    here.told file at ∙ (λ i. entries_of m.query (since_mark mark (rows_in_file (sym at i))))
+
+-- what the rows of its file tell since its mark
+module _ (labels : List Label) (store : StoreState) (table : TableState) (m : Kept) (can : CanTell labels store table m) (facts : Facts table) (mark : Option ℕ) (own : mark ≡ mark_in store m)
+    (entries : List Difference) (are : entries ≡ entries_of m.query (since_mark mark (rows_in_file (get table.files m.file.0)))) where
+  fresh_as : IsFresh table (key_of m mark table.number) entries
+  fresh_as = record {
+    given = facts.below m.file.0 can.file can.at;
+    change = refl;
+    mark = subst (λ (o : Option ℕ). IfSome o (λ number. number ≤ table.number)) (sym own) can.mark;
+    base = λ file at.
+        let same : can.file ≡ file = same_Some can.file file (sym can.at ∙ at) in
+        subst (λ (p : KeptFile × Option ℕ). IfSome p.1 (λ number. p.0.content.base ≤ number)) (λ i. (same i, sym own i)) can.base;
+    told = λ file at. are ∙ (λ i. entries_of m.query (since_mark mark (rows_in_file (at i))));
+  }
+
+  -- it is fresh under the key by which others find it
+  pub fresh_keyed : (key : Option NoticeKey) → IfSome key (λ k. k ≡ key_of m mark table.number) → IfSome key (λ k. IsFresh table k entries)
+  fresh_keyed None is = tt
+  fresh_keyed (Some key) is = subst (λ (k : NoticeKey). IsFresh table k entries) (sym is) fresh_as
+
+  -- it is what the subscription is told
+  pub told_now : entries ≡ entries_of m.query (news_of store table.files m)
+  told_now = are ∙ (λ i. entries_of m.query (since_mark (own i) (rows_in_file (get table.files m.file.0))))
 
 -- what was told last serves a subscription that asks alike, since the same mark
-pub serves_as : (store : StoreState) (files : Files) (latest : Latest) (m : Kept) (o : Option ℕ) → IsLatest files latest → AskAlike latest.subscription.now m → latest.mark ≡ o → o ≡ mark_in store m
-    → latest.entries ≡ entries_of m.query (news_of store files m)
-serves_as store files latest m o is alike same own =
-    is
-    ∙ (λ i. differences (counts_after (passes (alike.residual i)) (answer_of (alike.template i)) empty (unnumbered (since_mark (same i) (rows_in_file (get files (alike.file i)))))))
-    ∙ (λ i. entries_of m.query (since_mark (own i) (rows_in_file (get files m.file.0))))
+pub serves_as : (store : StoreState) (table : TableState) (latest : Latest) (m : Kept) (o : Option ℕ) → IsLatest store table latest → AskAlike latest.subscription.now m → latest.mark ≡ o → o ≡ mark_in store m
+    → latest.notice.entries ≡ entries_of m.query (news_of store table.files m)
+serves_as store table latest m o is alike same own =
+    is.entries
+    ∙ (λ i. differences (counts_after (passes (alike.residual i)) (answer_of (alike.template i)) empty (unnumbered (since_mark (same i) (rows_in_file (get table.files (alike.file i)))))))
+    ∙ (λ i. entries_of m.query (since_mark (own i) (rows_in_file (get table.files m.file.0))))
 
--- what is made anew is what was told last from then on
-pub latest_as : (store : StoreState) (files : Files) (m : Kept) (o : Option ℕ) (entries : List Difference) → o ≡ mark_in store m → entries ≡ entries_of m.query (news_of store files m)
-    → entries ≡ entries_of m.query (since_mark o (rows_in_file (get files m.file.0)))
-latest_as store files m o entries own are = are ∙ (λ i. entries_of m.query (since_mark (sym own i) (rows_in_file (get files m.file.0))))
+-- what others find of what was told last is fresh
+pub latest_keyed : (store : StoreState) (table : TableState) (o : Option Latest) → IfSome o (IsLatest store table) → IfSome o (IsKeyed table)
+latest_keyed store table None is = tt
+latest_keyed store table (Some told) is = is.key
+
+-- the last change of what its file scans is known
+pub latest_changed : (store : StoreState) (table : TableState) (o : Option Latest) → IfSome o (IsLatest store table) → IfSome o (KnowsChange store table)
+latest_changed store table None is = tt
+latest_changed store table (Some told) is = is.changed
+
+-- what its file scans last changed when its sources did
+module _ (labels : List Label) (store : StoreState) (table : TableState) (m : Kept) (can : CanTell labels store table m) where
+  pub change_as : (latest : Latest) → KnowsChange store table latest → latest.subscription.now.file.0 ≡ m.file.0 → latest.changed ≡ latest_in store m.sources
+  change_as latest knows same = knows can.file (ap (get table.files) same ∙ can.at) ∙ ap (λ (expr : Expr). latest_in store (scanned_by expr)) can.own ∙ sym (can.asked store)
+
+  pub knows_as : (changed : ℕ) → changed ≡ latest_in store m.sources → (file : KeptFile) → get table.files m.file.0 ≡ Some file → changed ≡ latest_in store (scanned_by file.expr)
+  knows_as changed is file at =
+      is ∙ can.asked store ∙ ap (λ (expr : Expr). latest_in store (scanned_by expr)) (sym can.own) ∙ ap (λ (kept : KeptFile). latest_in store (scanned_by kept.expr)) (same_Some can.file file (sym can.at ∙ at))
+
+-- what the subscription is told is what was told last
+pub news_there : (store : StoreState) (files : Files) (m : Kept) (o : Option Latest) (told : Latest) → HasNews store files m o → o ≡ Some told → told.notice.entries ≡ entries_of m.query (news_of store files m)
+news_there store files m o told has is =
+    subst (λ (t : Latest). t.notice.entries ≡ entries_of m.query (news_of store files m)) (same_Some has.0 told (sym has.1 ∙ is)) has.2
+
+-- what was told last is put among the others, or let go
+pub grows_back : (table : TableState) (key : NoticeKey) (entries : List Difference) (old new : List Cached) → IsFresh table key entries → (new ≡ old) ⊎ (new ≡ with_pair key entries old) → Grows table old new
+grows_back table key entries old new fresh put =
+    elim put [
+      | inl same ↦ subst (λ (pairs : List Cached). Grows table old pairs) (sym same) (grows_none table old)
+      | inr more ↦ subst (λ (pairs : List Cached). Grows table old pairs) (sym more) (grows_put table key entries old fresh)
+    ]
 
 -- the greatest of last changes, with one source more
 pub latest_push : (store : StoreState) (names : List (List ℕ)) (name : List ℕ) → latest_in store (names ++ name ∷ []) ≡ max (latest_in store names) (last_in store name)

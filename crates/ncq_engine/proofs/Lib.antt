@@ -9,6 +9,7 @@ pub mod Keeping
 pub mod ToldLaws
 pub mod Places
 pub mod StoreLaws
+pub mod ScanLaws
 pub mod Moved
 pub mod EngineLaws
 pub mod NamedLaws
@@ -19,8 +20,10 @@ pub mod TellingLoops
 pub mod StartedLaws
 pub mod TableLaws
 pub mod ContentLaws
+pub mod CachedLaws
 pub mod Sounds
 pub mod InvariantLaws
+pub mod CachedAnswers
 pub mod CreateLaws
 pub mod BoundLaws
 pub mod Actions

@@ -19,7 +19,7 @@ use Rattle.ncq_engine.specs.Compactions.{AreCompacted, HasBase, MoveBases, least
 use Rattle.ncq_engine.specs.Engines.{AreSound, CanTell, mark_in}
 use Rattle.ncq_engine.specs.History.{History, sources, up_to, world}
 use Rattle.ncq_engine.specs.Stands.{AreContents, EngineState, Follows}
-use Rattle.ncq_engine.proofs.InvariantLaws.{Invariant}
+use Rattle.ncq_engine.proofs.InvariantLaws.{Invariant, none_serve}
 use Rattle.ncq_engine.proofs.LeastLaws.{IsUnder, least_few, least_under}
 use Rattle.ncq_engine.proofs.Lists.{each_both}
 use Rattle.ncq_engine.proofs.Sounds.{sound_stays}
@@ -76,6 +76,8 @@ module _ (e : EngineState) (table : TableState) (moved : AreMoved e table.files)
           | inl is ↦ subst (λ b. IfSome (mark_in e.store m) (λ mark. b ≤ mark)) (sym is) can.base
           | inr p ↦ subst (λ b. IfSome (mark_in e.store m) (λ mark. b ≤ mark)) (sym p.0) (under m.file.0 refl)
         ];
+        mark = subst (λ n. IfSome (mark_in e.store m) (λ mark. mark ≤ n)) (sym same) can.mark;
+        asked = can.asked;
       }
 
   -- the base that a file had is not above the one that it has
@@ -87,8 +89,8 @@ module _ (e : EngineState) (table : TableState) (moved : AreMoved e table.files)
       let m = moved.back number new there in
       sound_stays n m.0.content.rows new.content.rows (λ list. m.2.stays n list low) (held number m.0 m.1 n (under (least_of e number) n m.0 new m.2 low))
 
-  pub invariant_moved : AreUpTo e.table.number e.table.files → Invariant e → Invariant (record e { table = table })
-  invariant_moved upto i =
+  pub invariant_moved : AreUpTo e.table.number e.table.files → e.cache ≡ [] → Invariant e → Invariant (record e { table = table })
+  invariant_moved upto nothing i =
       let now = i.number in
       let early : (number : ℕ) → least_of e number ≤ e.table.number = λ number. (let few = least_few e.store number e.subscriptions in omega (arith, few, now)) in
       let fits_now = fits (world_in e.store) upto early i.fits in
@@ -104,6 +106,7 @@ module _ (e : EngineState) (table : TableState) (moved : AreMoved e table.files)
         fits = fits_now;
         sound = sounds i.sound;
         next = (let n = i.next in let l : table.next_file ≤ 256 * e.creates = omega (arith, n, next_file) in l);
+        serve = none_serve table e.cache nothing;
       }
 
   contents : (h : History) → AreContents e.table.files h → AreContents table.files h

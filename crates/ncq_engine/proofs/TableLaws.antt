@@ -24,7 +24,8 @@ use Rattle.ncq_shelf.specs.Contents.{AreUpTo, Fits, cut_to}
 use Rattle.ncq_midfile.specs.declared.signed.SignedRow.{SignedRow}
 use Rattle.ncq_source.specs.declared.change.Portion.{Portion}
 use Rattle.ncq_source.specs.StoreStates.{StoreState}
-use Rattle.ncq_engine.specs.Engines.{CanTell, fired_if, last_in, latest_in, mark_in}
+use Rattle.ncq_engine.specs.Engines.{CanTell, fired_if, last_in, latest_in, mark_in, noted_at}
+use Rattle.ncq_engine.specs.Scans.{scanned_by}
 use Rattle.ncq_engine.specs.Tellings.{AreOf}
 
 -- files that tell a world are sound
@@ -45,9 +46,24 @@ mark_more old new more m base = by (m.timing.every == 0) m.noted
     by true (Some first) h = let l = latest_more old new more m.sources in omega (arith, h, l)
     by false noted h = h
 
--- behind a store whose last changes do not fall
-pub can_store : (labels : List Label) (old new : StoreState) (table : TableState) → ((name : List ℕ) → last_in old name ≤ last_in new name) → (m : Kept) → CanTell labels old table m → CanTell labels new table m
-can_store labels old new table more m can = record {
+-- the greatest of last changes that are not above a number is not above it
+latest_few : (store : StoreState) (most : ℕ) → ((name : List ℕ) → last_in store name ≤ most) → (names : List (List ℕ)) → latest_in store names ≤ most
+latest_few store most few [] = let z : 0 ≤ most = omega arith in z
+latest_few store most few (name ∷ names) = let a = few name in let b = latest_few store most few names in omega (arith, a, b)
+
+mark_few : (old new : StoreState) (most : ℕ) → ((name : List ℕ) → last_in new name ≤ most) → (m : Kept) → IfSome (mark_in old m) (λ n. n ≤ most) → IfSome (mark_in new m) (λ n. n ≤ most)
+mark_few old new most few m = by (m.timing.every == 0) m.noted
+  where
+    by : (based : Bool) (noted : Option ℕ) → IfSome (if based then option_map (λ first. max first (latest_in old m.sources)) noted else noted) (λ n. n ≤ most)
+        → IfSome (if based then option_map (λ first. max first (latest_in new m.sources)) noted else noted) (λ n. n ≤ most)
+    by true None h = tt
+    by true (Some first) h = let l = latest_few new most few m.sources in omega (arith, h, l)
+    by false noted h = h
+
+-- behind a store whose last changes do not fall, and are not later than the files
+pub can_store : (labels : List Label) (old new : StoreState) (table : TableState) → ((name : List ℕ) → last_in old name ≤ last_in new name) → ((name : List ℕ) → last_in new name ≤ table.number)
+    → (m : Kept) → CanTell labels old table m → CanTell labels new table m
+can_store labels old new table more few m can = record {
   formed = can.formed;
   action = can.action;
   file = can.file;
@@ -55,7 +71,14 @@ can_store labels old new table more m can = record {
   own = can.own;
   sound = can.sound;
   base = mark_more old new more m can.file.content.base can.base;
+  mark = mark_few old new table.number few m can.mark;
+  asked = can.asked;
 }
+
+-- a mark that is not later than the files is not later than files that stand no earlier
+later_mark : (o : Option ℕ) (old new : ℕ) → old ≤ new → IfSome o (λ n. n ≤ old) → IfSome o (λ n. n ≤ new)
+later_mark None old new order h = tt
+later_mark (Some n) old new order h = let l : n ≤ new = omega (arith, order, h) in l
 
 -- its file has the expression and the base that it had, and is sound now
 pub record HasStill (table : TableState) (number : ℕ) (was : KeptFile) : Type 0 where
@@ -65,8 +88,9 @@ pub record HasStill (table : TableState) (number : ℕ) (was : KeptFile) : Type 
   pub base : file.content.base ≡ was.content.base
   pub sound : IsSoundAt table.number file.content.rows
 
-pub can_table : (labels : List Label) (store : StoreState) (old new : TableState) → ((number : ℕ) (file : KeptFile) → get old.files number ≡ Some file → HasStill new number file) → (m : Kept) → CanTell labels store old m → CanTell labels store new m
-can_table labels store old new still m can =
+pub can_table : (labels : List Label) (store : StoreState) (old new : TableState) → old.number ≤ new.number → ((number : ℕ) (file : KeptFile) → get old.files number ≡ Some file → HasStill new number file)
+    → (m : Kept) → CanTell labels store old m → CanTell labels store new m
+can_table labels store old new order still m can =
     let s = still m.file.0 can.file can.at in
     record {
       formed = can.formed;
@@ -76,6 +100,8 @@ can_table labels store old new still m can =
       own = s.own ∙ can.own;
       sound = s.sound;
       base = subst (λ b. IfSome (mark_in store m) (λ n. b ≤ n)) (sym s.base) can.base;
+      mark = later_mark (mark_in store m) old.number new.number order can.mark;
+      asked = can.asked;
     }
 
 -- behind a change that the files were fed
@@ -119,12 +145,14 @@ can_left labels store old new left same m has can =
       own = has.of;
       sound = subst (λ n. IsSoundAt n has.file.content.rows) (sym same) (subst (λ (c : FileState). IsSoundAt old.number c.rows) (sym content) can.sound);
       base = subst (λ (c : FileState). IfSome (mark_in store m) (λ n. c.base ≤ n)) (sym content) can.base;
+      mark = subst (λ n. IfSome (mark_in store m) (λ mark. mark ≤ n)) (sym same) can.mark;
+      asked = can.asked;
     }
 
 -- a subscription that is new has not fired
 pub can_new : (labels : List Label) (store : StoreState) (table : TableState) (w : World) → Fits table.number w table.files → (m : Kept) → IsWellFormed m.query → m.action < length labels → m.noted ≡ None → HasFile table.files (plan_of m.query) m.file.0
-    → CanTell labels store table m
-can_new labels store table w fits m formed action none has = record {
+    → ((any : StoreState) → latest_in any m.sources ≡ latest_in any (scanned_by (plan_of m.query))) → CanTell labels store table m
+can_new labels store table w fits m formed action none has asked = record {
   formed = formed;
   action = action;
   file = has.file;
@@ -132,6 +160,8 @@ can_new labels store table w fits m formed action none has = record {
   own = has.of;
   sound = fits_sound table.number w table.files fits m.file.0 has.file has.at;
   base = subst (λ o. IfSome o (λ n. has.file.content.base ≤ n)) (sym unmarked) tt;
+  mark = subst (λ o. IfSome o (λ n. n ≤ table.number)) (sym unmarked) tt;
+  asked = asked;
 }
   where
     unmarked : mark_in store m ≡ None
@@ -142,9 +172,10 @@ can_new labels store table w fits m formed action none has = record {
         both false = refl
 
 -- a subscription that has fired now
-pub can_noted : (labels : List Label) (store : StoreState) (table : TableState) → AreUpTo store.changes table.files → (fires : Bool) (m : Kept) → CanTell labels store table m → CanTell labels store table (fired_if fires store m)
-can_noted labels store table upto false m can = can
-can_noted labels store table upto true m can = record {
+pub can_noted : (labels : List Label) (store : StoreState) (table : TableState) → AreUpTo store.changes table.files → table.number ≡ store.changes → ((name : List ℕ) → last_in store name ≤ store.changes)
+    → (fires : Bool) (m : Kept) → CanTell labels store table m → CanTell labels store table (fired_if fires store m)
+can_noted labels store table upto now lasts false m can = can
+can_noted labels store table upto now lasts true m can = record {
   formed = can.formed;
   action = can.action;
   file = can.file;
@@ -152,6 +183,8 @@ can_noted labels store table upto true m can = record {
   own = can.own;
   sound = can.sound;
   base = by (m.timing.every == 0);
+  mark = subst (λ n. IfSome (mark_in store (noted_at store.changes m)) (λ mark. mark ≤ n)) (sym now) (high (m.timing.every == 0));
+  asked = can.asked;
 }
   where
     low : can.file.content.base ≤ store.changes
@@ -160,6 +193,10 @@ can_noted labels store table upto true m can = record {
     by : (based : Bool) → IfSome (if based then option_map (λ first. max first (latest_in store m.sources)) (Some store.changes) else Some store.changes) (λ n. can.file.content.base ≤ n)
     by true = omega (arith, low)
     by false = low
+
+    high : (based : Bool) → IfSome (if based then option_map (λ first. max first (latest_in store m.sources)) (Some store.changes) else Some store.changes) (λ n. n ≤ store.changes)
+    high true = let l = latest_few store store.changes lasts m.sources in omega (arith, l)
+    high false = let l : store.changes ≤ store.changes = omega arith in l
 
 -- without the rows of a change that was fed the files are those before
 pub rolled_back : (store : StoreState) (change : List Portion) (old fed after : Files) → AreFed store change old fed → AreUpTo store.changes old

@@ -1,20 +1,25 @@
 -- A loop over firings that appends their notices: what is made so far, with one more.
 use Rattle.std.proofs.Common.{◌≡◌, ℕ, zero, suc, ◌+◌, ◌<◌, true, false, cond, List, [], ◌∷◌, ◌++◌, map, length, take, get_or, refl, sym, ◌∙◌, ap, subst, arith, append_assoc, length-append, true≢false}
-use Rattle.std.specs.Prelude.{Option, Some, None, IsSome, is_some}
+use Rattle.std.specs.Prelude.{Option, Some, None, IsSome, is_some, if◌then◌else◌}
 use Rattle.std.specs.Borrow.{Bor}
 use Rattle.std.specs.Option.{option_copied}
 use Rattle.std.proofs.lemmas.List.{append-nil, take_more}
 use Rattle.std.specs.List.{flat_map, AllByRecursion}
 use Rattle.ncq_book.specs.declared.subscription.Subscription.{Subscription as Kept}
 use Rattle.ncq_book.specs.Books.{is_of, subscription_of}
+use Rattle.ncq_cache.specs.Cached.{Cached}
 use Rattle.ncq_callback.specs.Labels.{Label}
 use Rattle.ncq_event.specs.declared.firing.Firing.{Firing}
+use Rattle.ncq_group.specs.Tables.{TableState}
+use Rattle.ncq_live.specs.LiveTables.{LiveState}
 use Rattle.ncq_source.specs.StoreStates.{StoreState}
+use Rattle.ncq_engine.specs.Cached.{Grows}
 use Rattle.ncq_engine.specs.Engines.{Pairwise, notice_text}
 use Rattle.ncq_shelf.specs.KeptFiles.{Files}
 use Rattle.ncq_engine.specs.declared.span.Span.{Span}
 use Rattle.ncq_engine.specs.Spans.{span_of, spans_of}
-use Rattle.ncq_engine.specs.Tellings.{firing_name, firing_text, name_of, text_of}
+use Rattle.ncq_engine.specs.Tellings.{firing_name, firing_text, firings_spans, firings_text, has_started, name_of, started_at, text_of}
+use Rattle.ncq_engine.proofs.CachedLaws.{grows_more}
 use Rattle.ncq_engine.proofs.Lists.{flat_map_append}
 
 pub pairwise_push : {A B : Type 0} (R : A → B → Type 0) (xs : List A) (ys : List B) (x : A) (y : B) → Pairwise R xs ys → R x y → Pairwise R (xs ++ x ∷ []) (ys ++ y ∷ [])
@@ -107,3 +112,24 @@ not_missing o p e none some = true≢false (sym some ∙ ap is_some (sym e ∙ a
 
 pub found_as : (o : Option (Bor Kept)) (p : Option Kept) (m : Bor Kept) → option_copied o ≡ p → o ≡ Some m → p ≡ Some m.now
 found_as o p m e is = sym e ∙ ap option_copied is
+
+-- what one that is there and has started is told, and where that stands
+module _ (labels : List Label) (store : StoreState) (live_table : LiveState) (install : ℕ) (m : Kept) (found : subscription_of install live_table.subscriptions ≡ Some m)
+    (started : has_started live_table.instant (subscription_of install live_table.subscriptions) ≡ true) where
+  starts : started_at live_table.instant live_table.subscriptions install ≡ record { instant = live_table.instant; install = install } ∷ []
+  starts = λ i. if started i then record { instant = live_table.instant; install = install } ∷ [] else []
+
+  pub text_started : firings_text labels store live_table (started_at live_table.instant live_table.subscriptions install) ≡ notice_text labels store live_table.table.files m live_table.instant
+  text_started =
+      ap (firings_text labels store live_table) starts ∙ append-nil (text_of labels store live_table.table.files live_table.instant (subscription_of install live_table.subscriptions))
+      ∙ ap (text_of labels store live_table.table.files live_table.instant) found
+
+  pub spans_started : (from : ℕ) → firings_spans labels store live_table from (started_at live_table.instant live_table.subscriptions install) ≡ span_of m.name from (notice_text labels store live_table.table.files m live_table.instant)
+  spans_started from =
+      ap (firings_spans labels store live_table from) starts
+      ∙ append-nil (span_of (name_of (subscription_of install live_table.subscriptions)) from (text_of labels store live_table.table.files live_table.instant (subscription_of install live_table.subscriptions)))
+      ∙ (λ i. span_of (name_of (found i)) from (text_of labels store live_table.table.files live_table.instant (found i)))
+
+-- what grew, with what a call on the table added
+pub grows_on : (table called : TableState) → called ≡ table → (old mid new : List Cached) → Grows table old mid → Grows called mid new → Grows table old new
+grows_on table called is old mid new first second = grows_more table old mid new first (subst (λ (t : TableState). Grows t mid new) is second)

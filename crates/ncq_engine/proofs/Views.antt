@@ -12,4 +12,5 @@ view_of i = record {
   subscriptions = i.live_table.subscriptions;
   table = i.live_table.table;
   spans = i.spans;
+  cache = i.cache;
 }

@@ -17,6 +17,7 @@ use Rattle.ncq_engine.specs.declared.engine.Applied.{Applied}
 use Rattle.ncq_engine.specs.declared.engine.ApplyError.{ApplyError}
 use Rattle.ncq_engine.specs.declared.span.Span.{Span}
 use Rattle.ncq_engine.specs.declared.engine.ApplyError.TheVariants.{Refused, OutOfMemory}
+use Rattle.ncq_engine.specs.Cached.{KeepsPairs}
 use Rattle.ncq_engine.specs.History.{History}
 use Rattle.ncq_engine.specs.Languages.{language_of}
 use Rattle.ncq_engine.specs.Output.{accepted_text, first_refusal, notices}
@@ -138,3 +139,7 @@ abbrev pub Applies : EngineState → Command → List ℕ → Result Answered Ap
 Applies old command out (Ok answered) new out' = Accepts old command out answered new out'
 Applies old command out (Err (Refused why)) new out' = Refuses old command out why new out'
 Applies old command out (Err OutOfMemory) new out' = GivesUp old out new out'
+
+-- each pair of the cache was there, with the file that it was, or tells the rows of now
+abbrev pub KeepsCache : EngineState → EngineState → Type 0
+KeepsCache old new = KeepsPairs old.table old.cache new.table new.cache

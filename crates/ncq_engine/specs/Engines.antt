@@ -8,6 +8,7 @@ use Rattle.std.specs.FinMap.{get}
 use Rattle.std.specs.Option.{option_map, unwrap_or}
 use Rattle.std.specs.List.{list_any, AllByRecursion}
 use Rattle.ncq_base.specs.declared.atom.FileId.{FileId}
+use Rattle.ncq_cache.specs.Cached.{Cached}
 use Rattle.ncq_callback.specs.Labels.{Label}
 use Rattle.ncq_change.specs.Stores.{world_in}
 use Rattle.ncq_event.specs.Instants.{due}
@@ -28,8 +29,10 @@ use Rattle.ncq_book.specs.Books.{InstallsRise}
 use Rattle.ncq_news.specs.News.{since_mark, entries_of}
 use Rattle.ncq_xmlql.specs.declared.model.Statement.{Statement}
 use Rattle.ncq_source.specs.declared.change.Section.{Section}
+use Rattle.ncq_engine.specs.Cached.{AllServe}
 use Rattle.ncq_engine.specs.Firing.{are_named, sources_of}
 use Rattle.ncq_engine.specs.Notices.{rendered}
+use Rattle.ncq_engine.specs.Scans.{scanned_by}
 
 -- the number of the last change of the source of this name, 0 where it never changed or is not
 -- declared
@@ -83,7 +86,8 @@ moved_instant store now to m =
     if has_news_in store (mark_in store m) m.sources then due m.timing now to else None
 
 -- a subscription that can be told: its query is well formed, its handler is there, it has the file
--- of its plan, and that file tells its content now and at the subscription's mark
+-- of its plan, and that file tells its content now and at the subscription's mark, which is not
+-- later than the files; its sources last change when those do that its plan scans
 pub record CanTell (labels : List Label) (store : StoreState) (table : TableState) (m : Kept)
     : Type 0 where
   pub formed : IsWellFormed m.query
@@ -93,6 +97,8 @@ pub record CanTell (labels : List Label) (store : StoreState) (table : TableStat
   pub own : file.expr ≡ plan_in m
   pub sound : IsSoundAt table.number file.content.rows
   pub base : IfSome (mark_in store m) (λ number. file.content.base ≤ number)
+  pub mark : IfSome (mark_in store m) (λ number. number ≤ table.number)
+  pub asked : (any : StoreState) → latest_in any m.sources ≡ latest_in any (scanned_by (plan_in m))
 
 -- a subscription that has fired at a number of changes
 abbrev pub noted_at : ℕ → Kept → Kept
@@ -153,7 +159,7 @@ AreSound files = EachFile files (λ number file.
 -- by install number; its files have the rows of the sources as they stand, and were sound at each
 -- change since their bases, and no more numbers were given than creates can take
 pub record IsEngine (store : StoreState) (count creates : ℕ) (labels : List Label)
-    (subscriptions : List Kept) (table : TableState) : Type 0 where
+    (subscriptions : List Kept) (table : TableState) (cache : List Cached) : Type 0 where
   pub changes : store.changes ≤ count
   pub creates_too : creates ≤ count
   pub lasts : (name : List ℕ) → last_in store name ≤ store.changes
@@ -164,3 +170,4 @@ pub record IsEngine (store : StoreState) (count creates : ℕ) (labels : List La
   pub fits : Fits table.number (world_in store) table.files
   pub sound : AreSound table.files
   pub next : table.next_file ≤ 256 * creates
+  pub serve : AllServe table cache

@@ -1,5 +1,6 @@
 pub mod History
 pub mod Firing
+pub mod Scans
 pub mod Notices
 pub mod Spans
 pub mod Reports
@@ -7,6 +8,7 @@ pub mod Output
 pub mod Alone
 pub mod Marks
 pub mod Languages
+pub mod Cached
 pub mod Engines
 pub mod Stands
 pub mod Applies

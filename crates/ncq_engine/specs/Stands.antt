@@ -6,6 +6,7 @@ use Rattle.std.specs.Option.{option_map, unwrap_or}
 use Rattle.std.specs.Coded.{Coded, code_by, coded×, coded_ℕ, coded_list}
 use Rattle.ncq_bind.specs.Bound.{query_is_bound}
 use Rattle.ncq_bind.specs.NormalQueries.{normal_query}
+use Rattle.ncq_cache.specs.Cached.{Cached, cached_code}
 use Rattle.ncq_callback.specs.Labels.{Label}
 use Rattle.ncq_callback.specs.contracts.notice.Kind.{the_row as kind_row}
 use Rattle.ncq_book.specs.contracts.subscription.Subscription.{the_row as subscription_row}
@@ -21,6 +22,7 @@ use Rattle.ncq_source.specs.StoreStates.{StoreState, store_code}
 use Rattle.ncq_xmlql.specs.WellFormed.{IsWellFormed}
 use Rattle.ncq_engine.specs.contracts.span.Span.{the_row as span_row}
 use Rattle.ncq_engine.specs.declared.span.Span.{Span}
+use Rattle.ncq_engine.specs.Cached.{AreToldRight}
 use Rattle.ncq_engine.specs.Engines.{Pairwise, last_in}
 use Rattle.ncq_engine.specs.Firing.{mark, sources_of}
 use Rattle.ncq_engine.specs.History.{History, Source, Subscription, changes, creates, last_change}
@@ -30,8 +32,8 @@ use Rattle.ncq_engine.specs.Notices.{kind_in, name_at}
 
 -- what contracts see of an engine: the store, the clock, how many commands were answered and how
 -- many creates accepted, the names and kinds of its handlers, the live subscriptions in the order
--- of their creates, the table of the files that they share, and where the notices of the last
--- answer stand
+-- of their creates, the table of the files that they share, where the notices of the last answer
+-- stand, and what is kept of what was told, the most lately used first
 pub record EngineState : Type 0 where
   pub store : StoreState
   pub clock : ℕ
@@ -41,15 +43,18 @@ pub record EngineState : Type 0 where
   pub subscriptions : List Kept
   pub table : TableState
   pub spans : List Span
+  pub cache : List Cached
 
 -- how an engine is written as a value
 abbrev pub engine_code : Coded EngineState
 engine_code =
-    code_by (StoreState × (ℕ × (ℕ × (ℕ × (List Label × (List Kept × (TableState × List Span)))))))
+    code_by
+    (StoreState × (ℕ × (ℕ × (ℕ × (List Label × (List Kept × (TableState × (List Span
+    × List Cached))))))))
     (coded× store_code (coded× coded_ℕ (coded× coded_ℕ (coded× coded_ℕ
     (coded× (coded_list (coded× (coded_list coded_ℕ) kind_row.coded))
     (coded× (coded_list subscription_row.coded)
-    (coded× table_code (coded_list span_row.coded))))))))
+    (coded× table_code (coded× (coded_list span_row.coded) cached_code))))))))
     (λ e. (
       e.store,
       (
@@ -64,7 +69,10 @@ engine_code =
                 e.subscriptions,
                 (
                   e.table,
-                  e.spans,
+                  (
+                    e.spans,
+                    e.cache,
+                  ),
                 ),
               ),
             ),
@@ -80,7 +88,8 @@ engine_code =
       labels = p.1.1.1.1.0;
       subscriptions = p.1.1.1.1.1.0;
       table = p.1.1.1.1.1.1.0;
-      spans = p.1.1.1.1.1.1.1;
+      spans = p.1.1.1.1.1.1.1.0;
+      cache = p.1.1.1.1.1.1.1.1;
     })
     (λ _. refl)
 
@@ -147,8 +156,10 @@ pub record IsBounded (engine : EngineState) (history : History) : Type 0 where
   pub few_creates : creates history ≤ engine.count
   pub few_files : engine.table.next_file ≤ 256 * creates history
 
--- the engine stands for the history, its subscriptions share their files, and it is bounded
+-- the engine stands for the history, its subscriptions share their files, it is bounded, and what it
+-- keeps of what was told is right
 pub record Stands (engine : EngineState) (history : History) : Type 0 where
   pub follows : Follows engine history
   pub bounded : IsBounded engine history
   pub shares : Shares engine.subscriptions engine.table
+  pub cached : AreToldRight history engine.table engine.cache

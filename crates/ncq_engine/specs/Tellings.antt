@@ -1,13 +1,14 @@
 -- Who fires and what they are told, by install numbers. Only the crate's private clauses cite it.
 use Rattle.std.specs.Prelude.{◌≡◌, ◌++◌, ℕ, Bool, false, nat_le, nat_eq}
 use Rattle.std.specs.Prelude.{List, [], ◌∷◌, length}
-use Rattle.std.specs.Prelude.{Option, Some, None, if◌then◌else◌, map, not}
+use Rattle.std.specs.Prelude.{Option, Some, None, IfSome, if◌then◌else◌, map, not}
 use Rattle.std.specs.FinMap.{get}
 use Rattle.std.specs.List.{filter, flat_map, list_any, AllByRecursion}
 use Rattle.ncq_book.specs.declared.subscription.Subscription.{Subscription as Kept}
 use Rattle.ncq_book.specs.Books.{subscription_of, is_of}
 use Rattle.ncq_callback.specs.Labels.{Label}
 use Rattle.ncq_event.specs.declared.firing.Firing.{Firing}
+use Rattle.ncq_group.specs.Tables.{TableState}
 use Rattle.ncq_live.specs.LiveTables.{LiveState}
 use Rattle.ncq_shelf.specs.KeptFiles.{KeptFile, Files}
 use Rattle.ncq_source.specs.StoreStates.{StoreState}
@@ -15,9 +16,11 @@ use Rattle.ncq_news.specs.News.{entries_of, since_mark}
 use Rattle.ncq_engine.specs.declared.latest.Latest.{Latest}
 use Rattle.ncq_engine.specs.declared.span.Span.{Span}
 use Rattle.ncq_engine.specs.declared.telling.Answered.{Answered}
-use Rattle.ncq_engine.specs.Engines.{CanTell, has_news_in, mark_in, rows_in_file, notice_text}
-use Rattle.ncq_engine.specs.Engines.{noted_at}
+use Rattle.ncq_engine.specs.Cached.{IsFresh}
+use Rattle.ncq_engine.specs.Engines.{CanTell, has_news_in, latest_in, mark_in, news_of, noted_at}
+use Rattle.ncq_engine.specs.Engines.{notice_text, rows_in_file}
 use Rattle.ncq_engine.specs.Output.{expired_line, ok_text}
+use Rattle.ncq_engine.specs.Scans.{scanned_by}
 use Rattle.ncq_engine.specs.Spans.{spans_of}
 
 -- the line of a subscription that expires
@@ -121,11 +124,30 @@ pub record AskAlike (a b : Kept) : Type 0 where
   pub template : a.query.template ≡ b.query.template
   pub residual : a.query.residual ≡ b.query.residual
 
--- what the answer of a subscription gained and lost by the rows of its file since a mark
-abbrev pub IsLatest : Files → Latest → Type 0
-IsLatest files latest = latest.entries
-    ≡ entries_of latest.subscription.now.query
-    (since_mark latest.mark (rows_in_file (get files latest.subscription.now.file.0)))
+-- what others find of it is fresh
+abbrev pub IsKeyed : TableState → Latest → Type 0
+IsKeyed table latest = IfSome latest.key (λ key. IsFresh table key latest.notice.entries)
+
+-- the last change of what its file scans
+abbrev pub KnowsChange : StoreState → TableState → Latest → Type 0
+KnowsChange store table latest =
+    (file : KeptFile) → get table.files latest.subscription.now.file.0 ≡ Some file
+    → latest.changed ≡ latest_in store (scanned_by file.expr)
+
+-- what the answer of a subscription gained and lost by the rows of its file since a mark, beside
+-- the last change of its sources
+pub record IsLatest (store : StoreState) (table : TableState) (latest : Latest) : Type 0 where
+  pub changed : KnowsChange store table latest
+  pub entries : latest.notice.entries
+      ≡ entries_of latest.subscription.now.query
+      (since_mark latest.mark (rows_in_file (get table.files latest.subscription.now.file.0)))
+  pub key : IsKeyed table latest
+
+-- there is what the subscription is told
+abbrev pub HasNews : StoreState → Files → Kept → Option Latest → Type 0
+HasNews store files m latest =
+    (told : Latest) × (latest ≡ Some told)
+    × (told.notice.entries ≡ entries_of m.query (news_of store files m))
 
 -- the answer to the command of this number was appended: its first line, and the notices of these
 -- firings

@@ -8,8 +8,9 @@ ghost use Rattle.std.specs.List.{flat_map, list_all, AllByRecursion};
 ghost use Rattle.std.specs.Option.{is_some, unwrap_or};
 ghost use Rattle.ncq_bind.specs.Bindings.{are_declared, roots_in};
 ghost use Rattle.ncq_callback.specs.Labels.{labels};
+ghost use Rattle.ncq_engine.specs.Cached.{AllServe};
 ghost use Rattle.ncq_engine.specs.Firing.{source_of};
-ghost use Rattle.ncq_engine.specs.Stands.{EngineState, Follows, Stands};
+ghost use Rattle.ncq_engine.specs.Stands.{EngineState, Follows, IsBounded, Stands};
 ghost use Rattle.ncq_engine.specs.Summaries.{IsSummary};
 ghost use Rattle.ncq_engine.specs.Works.{IsWithinWork};
 ghost use Rattle.ncq_live.specs.Shares.{Shares};
@@ -17,7 +18,7 @@ ghost use Rattle.ncq_engine.specs.Applies.{Applies, WritesNotices, IfAnswered, I
 ghost use Rattle.ncq_engine.specs.Applies.{IfRefused, OfEach, AreSpans, kind_at};
 ghost use Rattle.ncq_engine.specs.Applies.{refused_change, change_refusal, refused_query};
 ghost use Rattle.ncq_engine.specs.Applies.{query_refusal};
-ghost use Rattle.ncq_engine.specs.Applies.{OfFollowed};
+ghost use Rattle.ncq_engine.specs.Applies.{KeepsCache, OfFollowed};
 ghost use Rattle.ncq_engine.specs.Compactions.{AreCompacted, HasBase, IsChange, IsWorn, KeepBases};
 ghost use Rattle.ncq_engine.specs.Compactions.{least_of, MoveBases};
 ghost use Rattle.ncq_engine.specs.Engines.{new_subscription};
@@ -44,6 +45,7 @@ use crate::who::with_news;
 use ncq_base::{Bytes, Copied, FileId, Sequence, Steps};
 use ncq_bind::{BindError, bind};
 use ncq_book::Subscription;
+use ncq_cache::NoticeCache;
 use ncq_callback::{Handlers, Kind};
 use ncq_event::{Timing, is_expired};
 use ncq_live::LiveTable;
@@ -101,6 +103,7 @@ pub struct Engine {
     creates: u64,
     labels: Vec<(Bytes, Kind)>,
     spans: Spans,
+    cache: NoticeCache,
 }
 
 impl Drop for Engine {
@@ -112,11 +115,13 @@ impl Drop for Engine {
             creates: _,
             labels,
             spans,
+            cache,
         } = self;
         drop(store);
         drop(live_table);
         drop(labels);
         drop(spans);
+        drop(cache);
     }
 }
 
@@ -137,11 +142,12 @@ impl Model for Engine {
       subscriptions = e.live_table.subscriptions;
       table = e.live_table.table;
       spans = e.spans;
+      cache = e.cache;
     } };
 
     ghost invariant = { λ e.
         IsEngine e.store e.count e.creates e.labels.items e.live_table.subscriptions
-        e.live_table.table };
+        e.live_table.table e.cache };
 }
 
 impl Engine {
@@ -151,6 +157,7 @@ impl Engine {
         ensures stands { IfOk result (λ engine. Stands engine []) }
         ensures count { IfOk result (λ engine. engine.count ≡ 0) }
         ensures no_spans { IfOk result (λ engine. engine.spans ≡ []) }
+        ensures no_cache { IfOk result (λ engine. engine.cache ≡ []) }
         ensures labels { IfOk result (λ engine. engine.labels
             ≡ (labels handlers.now.items.items (λ h. h.name) (λ h. h.kind))) }
     {
@@ -162,6 +169,7 @@ impl Engine {
             creates: 0,
             labels,
             spans: Spans::new(alloc),
+            cache: NoticeCache::new(alloc)?,
         };
         engine.stands();
         Ok(engine)
@@ -194,6 +202,20 @@ impl Engine {
         ensures { CountsRows self.now.table.files result }
     {
         self.live_table.groups().rows()
+    }
+
+    /// How many lists of what was told are kept for whoever asks the same. It takes no memory.
+    pub fn cached(&self) -> usize
+        ensures lists { result ≡ length self.now.cache }
+        ensures few { result ≤ 64 }
+    {
+        self.cache.len()
+    }
+
+    /// How often such a list was found and told again, 2^64 - 1 at most. No clause says that one
+    /// is: this tells it.
+    pub fn served(&self) -> u64 {
+        self.cache.served()
     }
 
     /// Answers a command. Ok appends the answer of an accepted one: the line `<k> ok` with its
@@ -280,10 +302,13 @@ impl Engine {
         self.live_table.shares();
     }
 
-    /// The engine stands for each history that it follows: this call does nothing.
+    /// The engine is bounded by each history that it follows, its subscriptions share their files,
+    /// and what it keeps of what was told serves: this call does nothing.
     fn stands(&self)
-        ensures { (history : History) → Follows self.now history
-            → Stands self.now history }
+        ensures bounded { (history : History) → Follows self.now history
+            → IsBounded self.now history }
+        ensures shares { Shares self.now.subscriptions self.now.table }
+        ensures serve { AllServe self.now.table self.now.cache }
     {
         self.live_table.shares();
     }
@@ -297,11 +322,14 @@ impl Engine {
         self.spans.as_slice()
     }
 
-    /// Gives back what serves speed alone. Nothing is kept for that alone, so nothing changes. It
-    /// takes no memory.
+    /// Gives back what serves speed alone: what is kept of what was told. The engine stands for
+    /// what it stood for. It takes no memory.
     pub fn shed(&mut self)
-        ensures { self.new ≡ self.old }
-    {}
+        ensures shed { self.new ≡ record self.old { cache = [] } }
+        ensures stands { OfEach self.old (Stands self.new) }
+    {
+        self.cache.clear();
+    }
 
     /// Keeps where the notices stand, and tells where they begin and end and how many they are.
     fn keep(&mut self, answered: Answered) -> Applied
@@ -339,6 +367,7 @@ impl Engine {
         ensures labels { self.new.labels ≡ self.old.labels }
         ensures compacted { IfAnswered result
             (IsChange command.now → AreCompacted self.old self.new) }
+        ensures cached { KeepsCache self.old self.new }
         ensures work { IsWithinWork self.old command.now steps.old steps.new }
     {
         match command {
@@ -366,6 +395,7 @@ impl Engine {
         ensures applies { Applies self.old (Command.Declare name.now root.now key.now)
             out.old.items result self.new out.new.items }
         ensures labels { self.new.labels ≡ self.old.labels }
+        ensures cached { KeepsCache self.old self.new }
     {
         let before = out.len();
         let answered = write_accepted(alloc, self.count + 1, out)?;
@@ -402,6 +432,7 @@ impl Engine {
             out.old.items result self.new out.new.items }
         ensures labels { self.new.labels ≡ self.old.labels }
         ensures compacted { IfAnswered result (AreCompacted self.old self.new) }
+        ensures cached { KeepsCache self.old self.new }
         ensures work { IsWithinWork self.old (Command.Delta sections.now) steps.old steps.new }
     {
         self.compact_worn(alloc)?;
@@ -410,13 +441,20 @@ impl Engine {
     }
 
     /// Compacts the files that are worn, and folds the rows that such files share with others,
-    /// where that is worth its cost. Where memory runs out, a part of this is done.
+    /// where that is worth its cost. Where memory runs out, a part of this is done. What is kept of
+    /// what was told is given up: only who asks before the next change could be told it.
     fn compact_worn(&mut self, alloc: Global) -> Result<(), AllocError>
         ensures follows { OfFollowed self.old (Follows self.new) }
-        ensures same { self.new ≡ record self.old { table = self.new.table } }
+        ensures same { self.new
+            ≡ record self.old { table = self.new.table; cache = self.new.cache } }
         ensures compacted { OnOk result (AreCompacted self.old self.new) }
+        ensures cached { (self.new ≡ self.old) ⊎ (self.new.cache ≡ []) }
     {
         let worn = self.live_table.worn(alloc)?;
+        if worn.as_slice().is_empty() {
+            return Ok(());
+        }
+        self.cache.clear();
         for number in worn.as_slice() {
             self.compact_file(alloc, *number)?;
         }
@@ -425,7 +463,8 @@ impl Engine {
 
     /// Compacts a file to the least mark of those who have it, where it is due.
     fn compact_file(&mut self, alloc: Global, number: u64) -> Result<(), AllocError>
-        requires { IsThere self.old.table.files number }
+        requires there { IsThere self.old.table.files number }
+        requires nothing { self.old.cache ≡ [] }
         ensures follows { OfFollowed self.old (Follows self.new) }
         ensures same { self.new ≡ record self.old { table = self.new.table } }
         ensures others { (other : ℕ) → other ≢ number
@@ -450,7 +489,8 @@ impl Engine {
     /// Folds the rows that these files share with others, where that is worth its cost. Where
     /// memory runs out, a part of this is done.
     fn fold_worn(&mut self, alloc: Global, worn: &[u64]) -> Result<(), AllocError>
-        requires { AllByRecursion (IsThere self.old.table.files) worn.now }
+        requires there { AllByRecursion (IsThere self.old.table.files) worn.now }
+        requires nothing { self.old.cache ≡ [] }
         ensures follows { OfFollowed self.old (Follows self.new) }
         ensures same { self.new ≡ record self.old { table = self.new.table } }
         ensures bases { MoveBases self.old self.new }
@@ -466,7 +506,8 @@ impl Engine {
     /// Makes the least marks the bases of the files that share their rows with this one, and folds
     /// these rows. Where memory runs out, a part of this is done.
     fn fold_group(&mut self, alloc: Global, number: u64) -> Result<(), AllocError>
-        requires { IsThere self.old.table.files number }
+        requires there { IsThere self.old.table.files number }
+        requires nothing { self.old.cache ≡ [] }
         ensures follows { OfFollowed self.old (Follows self.new) }
         ensures same { self.new ≡ record self.old { table = self.new.table } }
         ensures bases { MoveBases self.old self.new }
@@ -481,7 +522,8 @@ impl Engine {
     /// Makes the least mark of those who have a file its base, where the mark is above the base and
     /// the file shares its rows.
     fn raise_base(&mut self, alloc: Global, number: u64) -> Result<(), AllocError>
-        requires { IsThere self.old.table.files number }
+        requires there { IsThere self.old.table.files number }
+        requires nothing { self.old.cache ≡ [] }
         ensures follows { OfFollowed self.old (Follows self.new) }
         ensures same { self.new ≡ record self.old { table = self.new.table } }
         ensures bases { MoveBases self.old self.new }
@@ -497,7 +539,8 @@ impl Engine {
 
     /// Folds the rows that a file shares with others.
     fn fold(&mut self, alloc: Global, number: u64) -> Result<(), AllocError>
-        requires { IsThere self.old.table.files number }
+        requires there { IsThere self.old.table.files number }
+        requires nothing { self.old.cache ≡ [] }
         ensures follows { OfFollowed self.old (Follows self.new) }
         ensures same { self.new ≡ record self.old { table = self.new.table } }
         ensures bases { MoveBases self.old self.new }
@@ -523,6 +566,7 @@ impl Engine {
             out.old.items result self.new out.new.items }
         ensures labels { self.new.labels ≡ self.old.labels }
         ensures bases { IfAnswered result (KeepBases self.old self.new) }
+        ensures cached { KeepsCache self.old self.new }
         ensures work { IsWithinWork self.old (Command.Delta sections.now) steps.old steps.new }
     {
         let change = match self.store.prepare(alloc, sections) {
@@ -542,6 +586,7 @@ impl Engine {
             &self.store,
             handlers,
             out,
+            &mut self.cache,
         ) {
             Ok(answered) => {
                 self.store.commit(change);
@@ -549,6 +594,8 @@ impl Engine {
                 Ok(answered)
             }
             Err(AllocError) => {
+                // The number of the change is given again.
+                self.cache.clear();
                 self.live_table.roll_back(mark);
                 Err(ApplyError::OutOfMemory)
             }
@@ -571,6 +618,7 @@ impl Engine {
         ensures applies { Applies self.old (Command.Create statement.now)
             out.old.items result self.new out.new.items }
         ensures labels { self.new.labels ≡ self.old.labels }
+        ensures cached { KeepsCache self.old self.new }
         ensures work { IsWithinWork self.old (Command.Create statement.now) steps.old steps.new }
     {
         if self.live_table.book().has(&statement.name) {
@@ -610,6 +658,7 @@ impl Engine {
             Applies self.old (Command.Create statement) out.old.items result self.new
             out.new.items) }
         ensures labels { self.new.labels ≡ self.old.labels }
+        ensures cached { KeepsCache self.old self.new }
         ensures work { OfStatement self.old subscription (λ statement.
             IsWithinWork self.old (Command.Create statement) steps.old steps.new) }
     {
@@ -628,6 +677,7 @@ impl Engine {
             &self.store,
             handlers,
             out,
+            &mut self.cache,
         ) {
             Ok((answered, firings)) => {
                 let changes = self.store.changes();
@@ -637,6 +687,8 @@ impl Engine {
                 Ok(answered)
             }
             Err(AllocError) => {
+                // The numbers of its files are given again.
+                self.cache.clear();
                 self.live_table.remove(install);
                 self.live_table.roll_back(mark);
                 Err(ApplyError::OutOfMemory)
@@ -684,6 +736,7 @@ impl Engine {
         ensures applies { Applies self.old (Command.Delete name.now)
             out.old.items result self.new out.new.items }
         ensures labels { self.new.labels ≡ self.old.labels }
+        ensures cached { KeepsCache self.old self.new }
     {
         let Some(install) = self.live_table.book().find(name) else {
             return self.refuse(Refusal::NoName);
@@ -710,6 +763,7 @@ impl Engine {
         ensures applies { Applies self.old (Command.Clock instant)
             out.old.items result self.new out.new.items }
         ensures labels { self.new.labels ≡ self.old.labels }
+        ensures cached { KeepsCache self.old self.new }
     {
         if instant < self.live_table.book().instant() {
             return self.refuse(Refusal::Clock);
@@ -725,6 +779,7 @@ impl Engine {
             &self.store,
             handlers,
             out,
+            &mut self.cache,
         )?;
         let answered = answered.with(spans, out);
         let expired = self.live_table.book().expired(alloc, instant)?;
@@ -744,6 +799,7 @@ impl Engine {
         ensures applies { Applies self.old Command.Report
             out.old.items result self.new out.new.items }
         ensures labels { self.new.labels ≡ self.old.labels }
+        ensures cached { KeepsCache self.old self.new }
     {
         let answered = write_accepted(alloc, self.count + 1, out)?;
         self.live_table.shares();

@@ -1,24 +1,29 @@
 //! A firing: what the answer of a subscription gained and lost since its latest one.
-ghost use Rattle.std.specs.Prelude.{◌≡◌, ◌++◌, length, IfOk, IfSome, OnOk};
+ghost use Rattle.std.specs.Prelude.{◌≡◌, ◌++◌, length, IfSome, OnOk};
 ghost use Rattle.std.specs.Io.{StartsWith};
 ghost use Rattle.ncq_callback.specs.Labels.{labels};
+ghost use Rattle.ncq_source.specs.StoreStates.{StoreState};
+ghost use Rattle.ncq_engine.specs.Cached.{AllServe, Grows};
 ghost use Rattle.ncq_engine.specs.Engines.{mark_in, latest_in, notice_text, CanTell};
 ghost use Rattle.ncq_engine.specs.Spans.{span_of};
 ghost use Rattle.ncq_engine.specs.Tellings.{IsLatest};
 
-use crate::latest::{Latest, news_for};
+use crate::latest::{Latest, find_news};
 use crate::span::{Span, Spans};
 use crate::who::last_change;
 use ncq_base::{Bytes, Copied};
 use ncq_book::Subscription;
-use ncq_callback::{Handlers, Notice};
+use ncq_cache::NoticeCache;
+use ncq_callback::Handlers;
 use ncq_group::GroupTable;
 use ncq_source::Store;
 use std::alloc::{AllocError, Global};
+use std::mem::replace;
 
 /// Appends what the answer of the subscription gained and lost since its latest firing, and adds
 /// where that stands, if anything differs. What was told last, if anything was, serves where it is
-/// the same; what this subscription is told comes back. What was written before stays in front.
+/// the same, and what is kept of what was told before; what this subscription is told is what was
+/// told last from then on. What was written before stays in front.
 pub(crate) fn fire<'a>(
     alloc: Global,
     subscription: &'a Subscription,
@@ -28,11 +33,13 @@ pub(crate) fn fire<'a>(
     handlers: &Handlers,
     out: &mut Vec<u8>,
     spans: &mut Spans,
-    latest: Option<Latest<'a>>,
-) -> Result<Latest<'a>, AllocError>
+    latest: &mut Option<Latest<'a>>,
+    cache: &mut NoticeCache,
+) -> Result<(), AllocError>
     requires can { CanTell (labels handlers.now.items.items (λ h. h.name) (λ h. h.kind))
         store.now groups.now subscription.now }
-    requires latest { IfSome latest (IsLatest groups.now.files) }
+    requires latest { IfSome latest.old (IsLatest store.now groups.now) }
+    requires serve { AllServe groups.now cache.old }
     ensures text { OnOk result (out.new.items ≡ out.old.items
         ++ notice_text (labels handlers.now.items.items (λ h. h.name) (λ h. h.kind))
         store.now groups.now.files subscription.now instant) }
@@ -41,27 +48,24 @@ pub(crate) fn fire<'a>(
         ++ span_of subscription.now.name (length out.old.items)
         (notice_text (labels handlers.now.items.items (λ h. h.name) (λ h. h.kind))
         store.now groups.now.files subscription.now instant)) }
-    ensures latest { IfOk result (IsLatest groups.now.files) }
+    ensures latest { IfSome latest.new (IsLatest store.now groups.now) }
+    ensures cached { Grows groups.now cache.old cache.new }
 {
-    let told = news_for(alloc, subscription, groups, store, latest)?;
-    if told.entries.as_slice().is_empty() {
-        return Ok(told);
-    }
-    let notice = Notice {
-        name: subscription.name.copy(alloc)?,
-        instant,
-        entries: told.entries,
+    find_news(alloc, subscription, instant, groups, store, latest, cache)?;
+    let Some(told) = latest else {
+        unreachable!();
     };
+    if told.notice.entries.as_slice().is_empty() {
+        return Ok(());
+    }
+    told.notice.name = subscription.name.copy(alloc)?;
+    told.notice.instant = instant;
     let from = out.len();
     let argument = subscription.argument.as_slice();
-    handlers.call(subscription.action, argument, &notice, out)?;
-    let (name, to) = (notice.name, out.len());
-    spans.push(Span { name, from, to })?;
-    Ok(Latest {
-        subscription: told.subscription,
-        mark: told.mark,
-        entries: notice.entries,
-    })
+    handlers.call(subscription.action, argument, &told.notice, out)?;
+    let to = out.len();
+    let name = replace(&mut told.notice.name, Bytes::new(alloc));
+    spans.push(Span { name, from, to })
 }
 
 /// The number of changes at the subscription's latest firing. Of one that fires at changes it
@@ -70,16 +74,27 @@ pub(crate) fn fire<'a>(
 pub(crate) fn mark_of(subscription: &Subscription, store: &Store) -> Option<u64>
     ensures { result ≡ mark_in store.now subscription.now }
 {
+    mark_at(
+        subscription,
+        latest_change(store, subscription.sources.as_slice()),
+    )
+}
+
+/// The number of changes at the latest firing of a subscription whose sources last changed at this
+/// number.
+pub(crate) fn mark_at(subscription: &Subscription, changed: u64) -> Option<u64>
+    ensures { (store : StoreState) → changed ≡ latest_in store subscription.now.sources
+        → result ≡ mark_in store subscription.now }
+{
     let first = subscription.noted?;
     if subscription.timing.every != 0 {
         return Some(first);
     }
-    let latest = latest_change(store, subscription.sources.as_slice());
-    Some(if latest > first { latest } else { first })
+    Some(if changed > first { changed } else { first })
 }
 
 /// The greatest of the last changes of these sources.
-fn latest_change(store: &Store, sources: &[Bytes]) -> u64
+pub(crate) fn latest_change(store: &Store, sources: &[Bytes]) -> u64
     ensures { result ≡ latest_in store.now sources.now }
 {
     let mut latest = 0;

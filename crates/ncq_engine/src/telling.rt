@@ -5,15 +5,17 @@ ghost use Rattle.std.specs.Io.{StartsWith};
 ghost use Rattle.std.specs.List.{AllByRecursion};
 ghost use Rattle.ncq_book.specs.Books.{subscription_of, watchers_of, InstallsRise};
 ghost use Rattle.ncq_callback.specs.Labels.{labels};
+ghost use Rattle.ncq_engine.specs.Cached.{AllServe, Grows};
 ghost use Rattle.ncq_engine.specs.Output.{ok_text};
 ghost use Rattle.ncq_engine.specs.Tellings.{firings_spans, firings_text, noted_by, started_at};
 ghost use Rattle.ncq_engine.specs.Tellings.{started_of, CanTellEach, IsAnswered, IsLatest};
 
 use crate::firing::fire;
-use crate::latest::Latest;
+use crate::latest::{Latest, put_back};
 use crate::span::Spans;
 use crate::who::{started, starter};
 use ncq_base::write_decimal;
+use ncq_cache::NoticeCache;
 use ncq_callback::Handlers;
 use ncq_event::{Firing, Firings};
 use ncq_live::LiveTable;
@@ -80,9 +82,11 @@ pub(crate) fn tell(
     store: &Store,
     handlers: &Handlers,
     out: &mut Vec<u8>,
+    cache: &mut NoticeCache,
 ) -> Result<Spans, AllocError>
     requires can { CanTellEach (labels handlers.now.items.items (λ h. h.name) (λ h. h.kind))
         store.now live_table.now }
+    requires serve { AllServe live_table.now.table cache.old }
     requires there { AllByRecursion
         (λ f. IsSome (subscription_of f.install live_table.now.subscriptions)) firings.now }
     ensures text { OnOk result (out.new.items ≡ out.old.items
@@ -92,6 +96,7 @@ pub(crate) fn tell(
     ensures spans { IfOk result (λ spans. spans
         ≡ firings_spans (labels handlers.now.items.items (λ h. h.name) (λ h. h.kind)) store.now
         live_table.now (length out.old.items) firings.now) }
+    ensures cached { Grows live_table.now.table cache.old cache.new }
 {
     let mut spans = Spans::new(alloc);
     let mut latest = None;
@@ -99,7 +104,7 @@ pub(crate) fn tell(
         let Some(subscription) = live_table.book().get(firing.install) else {
             unreachable!();
         };
-        let told = fire(
+        fire(
             alloc,
             subscription,
             firing.instant,
@@ -108,10 +113,11 @@ pub(crate) fn tell(
             handlers,
             out,
             &mut spans,
-            latest,
+            &mut latest,
+            cache,
         )?;
-        latest = Some(told);
     }
+    put_back(&mut latest, cache);
     Ok(spans)
 }
 
@@ -124,9 +130,11 @@ fn tell_started(
     store: &Store,
     handlers: &Handlers,
     out: &mut Vec<u8>,
+    cache: &mut NoticeCache,
 ) -> Result<Spans, AllocError>
     requires can { CanTellEach (labels handlers.now.items.items (λ h. h.name) (λ h. h.kind))
         store.now live_table.now }
+    requires serve { AllServe live_table.now.table cache.old }
     ensures text { OnOk result (out.new.items ≡ out.old.items
         ++ firings_text (labels handlers.now.items.items (λ h. h.name) (λ h. h.kind)) store.now
         live_table.now (started_of live_table.now installs.now)) }
@@ -134,19 +142,29 @@ fn tell_started(
     ensures spans { IfOk result (λ spans. spans
         ≡ firings_spans (labels handlers.now.items.items (λ h. h.name) (λ h. h.kind)) store.now
         live_table.now (length out.old.items) (started_of live_table.now installs.now)) }
+    ensures cached { Grows live_table.now.table cache.old cache.new }
 {
     let mut spans = Spans::new(alloc);
     let mut latest = None;
     for install in installs {
-        latest = tell_one(
-            alloc, live_table, *install, store, handlers, out, &mut spans, latest,
+        tell_one(
+            alloc,
+            live_table,
+            *install,
+            store,
+            handlers,
+            out,
+            &mut spans,
+            &mut latest,
+            cache,
         )?;
     }
+    put_back(&mut latest, cache);
     Ok(spans)
 }
 
 /// Appends the notice of the subscription of this install number now, if it has started, and adds
-/// where it stands. What was told last comes back.
+/// where it stands. What it is told is what was told last from then on.
 fn tell_one<'a>(
     alloc: Global,
     live_table: &'a LiveTable,
@@ -155,11 +173,13 @@ fn tell_one<'a>(
     handlers: &Handlers,
     out: &mut Vec<u8>,
     spans: &mut Spans,
-    latest: Option<Latest<'a>>,
-) -> Result<Option<Latest<'a>>, AllocError>
+    latest: &mut Option<Latest<'a>>,
+    cache: &mut NoticeCache,
+) -> Result<(), AllocError>
     requires can { CanTellEach (labels handlers.now.items.items (λ h. h.name) (λ h. h.kind))
         store.now live_table.now }
-    requires latest { IfSome latest (IsLatest live_table.now.table.files) }
+    requires latest { IfSome latest.old (IsLatest store.now live_table.now.table) }
+    requires serve { AllServe live_table.now.table cache.old }
     ensures text { OnOk result (out.new.items ≡ out.old.items
         ++ firings_text (labels handlers.now.items.items (λ h. h.name) (λ h. h.kind)) store.now
         live_table.now (started_at live_table.now.instant live_table.now.subscriptions install)) }
@@ -168,12 +188,13 @@ fn tell_one<'a>(
         ++ firings_spans (labels handlers.now.items.items (λ h. h.name) (λ h. h.kind)) store.now
         live_table.now (length out.old.items)
         (started_at live_table.now.instant live_table.now.subscriptions install)) }
-    ensures latest { IfOk result (λ told. IfSome told (IsLatest live_table.now.table.files)) }
+    ensures latest { IfSome latest.new (IsLatest store.now live_table.now.table) }
+    ensures cached { Grows live_table.now.table cache.old cache.new }
 {
     let Some(subscription) = starter(live_table.book(), install) else {
-        return Ok(latest);
+        return Ok(());
     };
-    let told = fire(
+    fire(
         alloc,
         subscription,
         live_table.book().instant(),
@@ -183,8 +204,8 @@ fn tell_one<'a>(
         out,
         spans,
         latest,
-    )?;
-    Ok(Some(told))
+        cache,
+    )
 }
 
 /// Appends the answer to an accepted change: its first line, and the notices of those that fire at
@@ -197,18 +218,22 @@ pub(crate) fn answer_change(
     store: &Store,
     handlers: &Handlers,
     out: &mut Vec<u8>,
+    cache: &mut NoticeCache,
 ) -> Result<Answered, AllocError>
     requires can { CanTellEach (labels handlers.now.items.items (λ h. h.name) (λ h. h.kind))
         store.now live_table.now }
+    requires serve { AllServe live_table.now.table cache.old }
     ensures told { IfOk result (IsAnswered number
         (labels handlers.now.items.items (λ h. h.name) (λ h. h.kind)) store.now live_table.now
         (started_of live_table.now (watchers_of fed.now live_table.now.subscriptions))
         out.old.items out.new.items) }
     ensures front { StartsWith out.new.items out.old.items }
+    ensures cached { Grows live_table.now.table cache.old cache.new }
 {
     let answered = write_accepted(alloc, number, out)?;
     let watchers = live_table.book().watchers(alloc, fed)?;
-    let spans = tell_started(alloc, live_table, watchers.as_slice(), store, handlers, out)?;
+    let installs = watchers.as_slice();
+    let spans = tell_started(alloc, live_table, installs, store, handlers, out, cache)?;
     Ok(answered.with(spans, out))
 }
 
@@ -222,18 +247,29 @@ pub(crate) fn answer_create(
     store: &Store,
     handlers: &Handlers,
     out: &mut Vec<u8>,
+    cache: &mut NoticeCache,
 ) -> Result<(Answered, Firings), AllocError>
     requires can { CanTellEach (labels handlers.now.items.items (λ h. h.name) (λ h. h.kind))
         store.now live_table.now }
+    requires serve { AllServe live_table.now.table cache.old }
     ensures told { IfOk result (λ told. IsAnswered number
         (labels handlers.now.items.items (λ h. h.name) (λ h. h.kind)) store.now live_table.now
         told.1 out.old.items out.new.items told.0) }
     ensures front { StartsWith out.new.items out.old.items }
     ensures firings { IfOk result (λ told. told.1 ≡ started_of live_table.now (install ∷ [])) }
+    ensures cached { Grows live_table.now.table cache.old cache.new }
 {
     let answered = write_accepted(alloc, number, out)?;
     let firings = started(alloc, live_table.book(), &[install])?;
-    let spans = tell(alloc, live_table, firings.as_slice(), store, handlers, out)?;
+    let spans = tell(
+        alloc,
+        live_table,
+        firings.as_slice(),
+        store,
+        handlers,
+        out,
+        cache,
+    )?;
     Ok((answered.with(spans, out), firings))
 }
 

@@ -7,5 +7,6 @@ pub mod TallyLaws
 pub mod Turns
 pub mod SinkLaws
 pub mod WorkLaws
+pub mod SecondTries
 pub mod Answered
 pub mod ClockLaws

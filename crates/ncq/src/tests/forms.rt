@@ -201,3 +201,13 @@ fn a_load_is_the_same_each_time(rt: HostRuntime) -> Result<(), Fail> {
     assert!(rt; first.written.as_slice().starts_with(front));
     Ok(())
 }
+
+/// Two thousand subscribers make 4,004 commands, and none is refused.
+#[test]
+fn a_load_of_two_thousand_ends(rt: HostRuntime) -> Result<(), Fail> {
+    let outcome = outcome_with(&rt, &["load", "2000"], b"", in_pieces(64))?;
+    assert!(rt; outcome.status == Status::Done);
+    let front = b"commands 4004\nrefused 0\nnotices ";
+    assert!(rt; outcome.written.as_slice().starts_with(front));
+    Ok(())
+}

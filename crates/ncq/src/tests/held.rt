@@ -44,7 +44,7 @@ const ROUNDS: u64 = 60;
 const MAX_ROWS_OF_MANY: u64 = 40 + 128 + 40 + 2 * 513;
 
 /// Handlers with one of the name `print`, which writes each notice.
-fn printing(alloc: Global) -> Result<Handlers, AllocError> {
+pub(super) fn printing(alloc: Global) -> Result<Handlers, AllocError> {
     let call: Call = Box::new(alloc, print)?;
     let mut handlers = Handlers::new(alloc);
     add_handler(alloc, &mut handlers, b"print", Kind::Print, call)?;
@@ -74,7 +74,7 @@ fn answer<L: Ledger>(
 }
 
 /// The command that the text is.
-fn command_of(rt: &impl Abort, alloc: Global, text: &[u8]) -> Result<Command, AllocError>
+pub(super) fn command_of(rt: &impl Abort, alloc: Global, text: &[u8]) -> Result<Command, AllocError>
     ensures { IfOk result IsProperCommand }
 {
     let mut reader = ScriptReader::new(alloc, MAX_LINE);

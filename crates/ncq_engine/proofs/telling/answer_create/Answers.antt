@@ -9,6 +9,7 @@ use Rattle.ncq_engine.specs.declared.telling.Answered.{Answered}
 use Rattle.ncq_engine.specs.Tellings.{firing_name, firing_text, started_at}
 use Rattle.ncq_engine.specs.Spans.{spans_of}
 use Rattle.ncq_engine.proofs.BookLaws.{started_there}
+use Rattle.ncq_engine.proofs.CachedLaws.{grows_none}
 use Rattle.ncq_engine.proofs.telling.answer_create.Goals as goal
 
 pub tell-requires-clause-there : goal.tell-requires-clause-there
@@ -46,3 +47,9 @@ returns-clause-front g c = front_still c.args.out.now.items _ c.write_accepted.n
 
 pub returns-in_err-spans-clause-front : goal.returns-in_err-spans-clause-front
 returns-in_err-spans-clause-front g c = front_still c.args.out.now.items _ c.write_accepted.new.out.items c.tell.new.out.items c.in_ok-answered.ensures.text c.tell.ensures.front
+
+pub returns-in_err-answered-clause-cached : goal.returns-in_err-answered-clause-cached
+returns-in_err-answered-clause-cached g c = grows_none c.args.live_table.now.table c.args.cache.now
+
+pub returns-in_err-firings-clause-cached : goal.returns-in_err-firings-clause-cached
+returns-in_err-firings-clause-cached g c = grows_none c.args.live_table.now.table c.args.cache.now

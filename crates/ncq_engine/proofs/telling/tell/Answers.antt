@@ -9,10 +9,13 @@ use Rattle.ncq_callback.specs.Labels.{Label, labels}
 use Rattle.ncq_event.specs.declared.firing.Firing.{Firing}
 use Rattle.ncq_group.specs.Tables.{TableState}
 use Rattle.ncq_shelf.specs.KeptFiles.{Files}
+use Rattle.ncq_engine.specs.Cached.{AllServe}
 use Rattle.ncq_engine.specs.Engines.{CanTell, notice_text}
 use Rattle.ncq_engine.specs.Spans.{span_of, spans_of}
 use Rattle.ncq_engine.specs.Tellings.{IsLatest, firing_name, firing_text}
-use Rattle.ncq_engine.proofs.TellingLoops.{each_here, found_has, name_found, not_missing, spans_on, text_found, text_on}
+use Rattle.ncq_engine.proofs.CachedLaws.{grown_serve, grows_more}
+use Rattle.ncq_engine.proofs.KeptLaws.{latest_keyed}
+use Rattle.ncq_engine.proofs.TellingLoops.{each_here, found_has, grows_on, name_found, not_missing, spans_on, text_found, text_on}
 use Rattle.ncq_engine.proofs.telling.tell.Goals as goal
 
 pub unreachable-requires : goal.unreachable-requires
@@ -29,7 +32,9 @@ fire-requires g c =
     record {
       can = subst (λ (t : TableState). CanTell all c.args.store.now t c.in-Some.subscription.now) (sym c.groups.ensures)
           (found_has (CanTell all c.args.store.now c.args.live_table.now.table) item.install c.args.live_table.now.subscriptions c.in-Some.subscription.now c.requires.can found);
-      latest = subst (λ (t : TableState). IfSome c.loop-firing.latest (IsLatest t.files)) (sym c.groups.ensures) c.loop-firing.invariant.latest;
+      latest = subst (λ (t : TableState). IfSome c.loop-firing.latest (IsLatest c.args.store.now t)) (sym c.groups.ensures) c.loop-firing.invariant.latest;
+      serve = subst (λ (t : TableState). AllServe t c.loop-firing.cache) (sym c.groups.ensures)
+          (grown_serve c.args.live_table.now.table c.args.cache.now c.loop-firing.cache c.requires.serve c.loop-firing.invariant.cached);
     }
 
 pub loop-firing-preserved : goal.loop-firing-preserved
@@ -49,15 +54,16 @@ loop-firing-preserved g c =
     ap (λ (t : TableState). notice_text all store t.files m item.instant) c.groups.ensures ∙ text_found all store files subscriptions item m found in
     let before : List ℕ = c.loop-firing.out.items in
     let after : List ℕ = c.fire.new.out.items in
-    let written : after ≡ before ++ firing_text all store files subscriptions item = c.in_ok-told.ensures.text ∙ ap (λ (l : List ℕ). before ++ l) text in
+    let written : after ≡ before ++ firing_text all store files subscriptions item = c.in_ok-fire.ensures.text ∙ ap (λ (l : List ℕ). before ++ l) text in
     let name : m.name ≡ firing_name subscriptions item = name_found subscriptions item m found in
     let placed : c.fire.new.spans ≡ c.loop-firing.spans ++ span_of (firing_name subscriptions item) (length before) (firing_text all store files subscriptions item) =
-    c.in_ok-told.ensures.span ∙ (λ i. c.loop-firing.spans ++ span_of (name i) (length before) (text i)) in
+    c.in_ok-fire.ensures.span ∙ (λ i. c.loop-firing.spans ++ span_of (name i) (length before) (text i)) in
     record {
       text = text_on firings at item one (firing_text all store files subscriptions) c.args.out.now.items before after c.loop-firing.invariant.text written;
       spans = spans_on firings at item one (firing_name subscriptions) (firing_text all store files subscriptions) (length c.args.out.now.items) (length before) c.loop-firing.spans c.fire.new.spans c.loop-firing.invariant.spans
           (ap length c.loop-firing.invariant.text ∙ length-append c.args.out.now.items (flat_map (firing_text all store files subscriptions) (take at firings))) placed;
-      latest = subst (λ (t : TableState). IsLatest t.files c.in_ok-told.told) c.groups.ensures c.in_ok-told.ensures.latest;
+      latest = subst (λ (t : TableState). IfSome c.fire.new.latest (IsLatest store t)) c.groups.ensures c.fire.ensures.latest;
+      cached = grows_on c.args.live_table.now.table c.groups.result.now c.groups.ensures c.args.cache.now c.loop-firing.cache c.fire.new.cache c.loop-firing.invariant.cached c.fire.ensures.cached;
     }
 
 pub returns-clause-text : goal.returns-clause-text
@@ -75,5 +81,15 @@ returns-clause-spans g c =
     ∙ ap (spans_of (firing_name c.args.live_table.now.subscriptions) (firing_text all c.args.store.now c.args.live_table.now.table.files c.args.live_table.now.subscriptions) (length c.args.out.now.items))
     (take_all c.loop-firing.firing-index c.args.firings.now past)
 
-pub returns-in_err-told-clause-front : goal.returns-in_err-told-clause-front
-returns-in_err-told-clause-front g c = front_still c.args.out.now.items _ c.loop-firing.out.items c.fire.new.out.items c.loop-firing.invariant.text c.fire.ensures.front
+pub returns-in_err-fire-clause-front : goal.returns-in_err-fire-clause-front
+returns-in_err-fire-clause-front g c = front_still c.args.out.now.items _ c.loop-firing.out.items c.fire.new.out.items c.loop-firing.invariant.text c.fire.ensures.front
+
+pub returns-in_err-fire-clause-cached : goal.returns-in_err-fire-clause-cached
+returns-in_err-fire-clause-cached g c =
+    grows_on c.args.live_table.now.table c.groups.result.now c.groups.ensures c.args.cache.now c.loop-firing.cache c.fire.new.cache c.loop-firing.invariant.cached c.fire.ensures.cached
+
+pub returns-clause-cached : goal.returns-clause-cached
+returns-clause-cached g c =
+    let table = c.args.live_table.now.table in
+    grows_more table c.args.cache.now c.loop-firing.cache c.put_back.new.cache c.loop-firing.invariant.cached
+    (c.put_back.ensures.cached table (latest_keyed c.args.store.now table c.loop-firing.latest c.loop-firing.invariant.latest))

@@ -6,8 +6,17 @@ use Rattle.ncq_callback.specs.Labels.{labels}
 use Rattle.ncq_event.specs.declared.firing.Firing.{Firing}
 use Rattle.ncq_engine.specs.Spans.{spans_of}
 use Rattle.ncq_engine.specs.Tellings.{firing_name, firing_text, started_at}
+use Rattle.ncq_engine.proofs.CachedLaws.{grown_serve, grows_more}
+use Rattle.ncq_engine.proofs.KeptLaws.{latest_keyed}
 use Rattle.ncq_engine.proofs.TellingLoops.{made_more, spans_onto, texts_onto}
 use Rattle.ncq_engine.proofs.telling.tell_started.Goals as goal
+
+pub tell_one-requires : goal.tell_one-requires
+tell_one-requires g c = record {
+  can = c.requires.can;
+  latest = c.loop-install.invariant.latest;
+  serve = grown_serve c.args.live_table.now.table c.args.cache.now c.loop-install.cache c.requires.serve c.loop-install.invariant.cached;
+}
 
 pub loop-install-preserved : goal.loop-install-preserved
 loop-install-preserved g c =
@@ -22,10 +31,11 @@ loop-install-preserved g c =
     let after : List Firing = flat_map starts (take (at + 1) installs) in
     let all : after ≡ before ++ starts item = made_more starts installs at 0 here in
     record {
-      text = texts_onto before (starts item) after all text c.args.out.now.items c.loop-install.out.items c.tell_one.new.out.items c.loop-install.invariant.text c.in_ok-latest.ensures.text;
+      text = texts_onto before (starts item) after all text c.args.out.now.items c.loop-install.out.items c.tell_one.new.out.items c.loop-install.invariant.text c.in_ok-tell_one.ensures.text;
       spans = spans_onto before (starts item) after all (firing_name live_table.subscriptions) text (length c.args.out.now.items) (length c.loop-install.out.items) c.loop-install.spans c.tell_one.new.spans c.loop-install.invariant.spans
-          (ap length c.loop-install.invariant.text ∙ length-append c.args.out.now.items (flat_map text before)) c.in_ok-latest.ensures.spans;
-      latest = c.in_ok-latest.ensures.latest;
+          (ap length c.loop-install.invariant.text ∙ length-append c.args.out.now.items (flat_map text before)) c.in_ok-tell_one.ensures.spans;
+      latest = c.tell_one.ensures.latest;
+      cached = grows_more live_table.table c.args.cache.now c.loop-install.cache c.tell_one.new.cache c.loop-install.invariant.cached c.tell_one.ensures.cached;
     }
 
 pub returns-clause-text : goal.returns-clause-text
@@ -45,5 +55,15 @@ returns-clause-spans g c =
     (flat_map (started_at live_table.instant live_table.subscriptions) ns))
     (take_all c.loop-install.install-index c.args.installs.now past)
 
-pub returns-in_err-latest-clause-front : goal.returns-in_err-latest-clause-front
-returns-in_err-latest-clause-front g c = front_still c.args.out.now.items _ c.loop-install.out.items c.tell_one.new.out.items c.loop-install.invariant.text c.tell_one.ensures.front
+pub returns-in_err-tell_one-clause-front : goal.returns-in_err-tell_one-clause-front
+returns-in_err-tell_one-clause-front g c = front_still c.args.out.now.items _ c.loop-install.out.items c.tell_one.new.out.items c.loop-install.invariant.text c.tell_one.ensures.front
+
+pub returns-in_err-tell_one-clause-cached : goal.returns-in_err-tell_one-clause-cached
+returns-in_err-tell_one-clause-cached g c =
+    grows_more c.args.live_table.now.table c.args.cache.now c.loop-install.cache c.tell_one.new.cache c.loop-install.invariant.cached c.tell_one.ensures.cached
+
+pub returns-clause-cached : goal.returns-clause-cached
+returns-clause-cached g c =
+    let table = c.args.live_table.now.table in
+    grows_more table c.args.cache.now c.loop-install.cache c.put_back.new.cache c.loop-install.invariant.cached
+    (c.put_back.ensures.cached table (latest_keyed c.args.store.now table c.loop-install.latest c.loop-install.invariant.latest))

@@ -1,8 +1,9 @@
-use Rattle.std.proofs.Common.{subst, sym}
+use Rattle.std.proofs.Common.{◌+◌, subst, sym}
 use Rattle.ncq_engine.specs.Applies.{Applies}
 use Rattle.ncq_engine.specs.Compactions.{IsChange}
 use Rattle.ncq_engine.specs.Works.{IsWithinWork}
 use Rattle.ncq_engine.proofs.BaseLaws.{answered_more, answered_so}
+use Rattle.ncq_engine.proofs.CachedAnswers.{keeps_counted}
 use Rattle.ncq_engine.proofs.OneCommand.{batch_applies, batch_work}
 use Rattle.ncq_engine.proofs.engine.Engine.answer.Goals as goal
 
@@ -46,3 +47,7 @@ returns-in-Report-clause-compacted g c = answered_so c.report.result (λ is. abs
 
 pub returns-in-Malformed-clause-compacted : goal.returns-in-Malformed-clause-compacted
 returns-in-Malformed-clause-compacted g c = answered_so c.refuse.result (λ is. absurd (subst IsChange c.in-Malformed.is is))
+
+-- a command that cannot be read leaves what is kept of what was told
+pub returns-in-Malformed-clause-cached : goal.returns-in-Malformed-clause-cached
+returns-in-Malformed-clause-cached g c = keeps_counted c.args.self.now c.refuse.new.self (c.args.self.now.count + 1) c.refuse.ensures.counted

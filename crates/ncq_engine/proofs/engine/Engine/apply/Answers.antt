@@ -1,12 +1,13 @@
 use Rattle.std.proofs.Common.{◌≡◌, ◌∷◌, ap, length, rules, subst, sym}
 use Rattle.std.specs.Prelude.{Err}
-use Rattle.ncq_engine.specs.Applies.{AreNotices, IfAnswered}
+use Rattle.ncq_engine.specs.Applies.{AreNotices, IfAnswered, KeepsCache}
 use Rattle.ncq_engine.specs.Compactions.{AreCompacted, IsChange}
 use Rattle.ncq_engine.specs.History.{History}
 use Rattle.ncq_engine.specs.Stands.{EngineState, Follows, Stands}
 use Rattle.ncq_engine.specs.declared.engine.Applied.{Applied}
 use Rattle.ncq_engine.specs.declared.engine.ApplyError.TheVariants.{Refused}
-use Rattle.ncq_engine.proofs.BoundLaws.{stands_with}
+use Rattle.ncq_engine.proofs.BoundLaws.{stands_behind, stands_with}
+use Rattle.ncq_engine.proofs.CachedLaws.{Goes, goes_not, goes_on}
 use Rattle.ncq_engine.proofs.EngineLaws.{follows_still}
 use Rattle.ncq_engine.proofs.Views.{view_of}
 use Rattle.ncq_engine.proofs.engine.Engine.apply.Given.{Over}
@@ -14,16 +15,18 @@ use Rattle.ncq_engine.proofs.engine.Engine.apply.Goals.{After-stands}
 use Rattle.ncq_engine.proofs.engine.Engine.apply.Goals as goal
 
 -- what the engine followed behind the answer, it stands for once the places of notices are forgotten
-still : (g : Over) (c : After-stands g) (h : History) → Follows c.answer-result.new.self h → Stands (record (view_of c.self.inside) { spans = c.new.result }) h
-still g c h follows =
+still : (g : Over) (c : After-stands g) {earlier later : History} → Goes earlier later → Stands c.args.self.now earlier → Follows c.answer-result.new.self later → Stands (record (view_of c.self.inside) { spans = c.new.result }) later
+still g c {later = later} goes s follows =
     let after = c.answer-result.new.self in
-    c.stands.ensures h (subst (λ (e : EngineState). Follows (record e { spans = c.new.result }) h) (sym c.self.view_is) (follows_still after after.count c.new.result h follows))
+    let here = subst (λ (e : EngineState). Follows (record e { spans = c.new.result }) later) (sym c.self.view_is) (follows_still after after.count c.new.result later follows) in
+    stands_behind c.args.self.now (record (view_of c.self.inside) { spans = c.new.result }) goes s here (c.stands.ensures.bounded later here) c.stands.ensures.shares c.stands.ensures.serve
+    (subst (λ (e : EngineState). KeepsCache c.args.self.now e) (sym c.self.view_is) c.answer-result.ensures.cached)
 
 pub returns-in-Ok-clause-joined : goal.returns-in-Ok-clause-joined
 returns-in-Ok-clause-joined g c = λ h s.
     let at = goal.at.returns-in-Ok-clause-joined g c in
     let now = c.args.command.now ∷ h in
-    stands_with _ c.keep.new.self _ c.keep.ensures.kept now (still g at.After-stands now (c.in-Ok.ensures.applies.follows h s.follows))
+    stands_with _ c.keep.new.self _ c.keep.ensures.kept now (still g at.After-stands (goes_on c.args.command.now h) s (c.in-Ok.ensures.applies.follows h s.follows))
 
 pub returns-in-Ok-clause-notices : goal.returns-in-Ok-clause-notices
 returns-in-Ok-clause-notices g c = λ h s.
@@ -33,12 +36,12 @@ returns-in-Ok-clause-notices g c = λ h s.
 pub returns-in-Err-Refused-clause-stays : goal.returns-in-Err-Refused-clause-stays
 returns-in-Err-Refused-clause-stays g c = λ h s.
     let was = s.follows in
-    still g (goal.at.returns-in-Err-Refused-clause-stays g c).After-stands h (search rules)
+    still g (goal.at.returns-in-Err-Refused-clause-stays g c).After-stands (goes_not h) s (search rules)
 
 pub returns-in-Err-OutOfMemory-clause-stays : goal.returns-in-Err-OutOfMemory-clause-stays
 returns-in-Err-OutOfMemory-clause-stays g c = λ h s.
     let was = s.follows in
-    still g (goal.at.returns-in-Err-OutOfMemory-clause-stays g c).After-stands h (search rules)
+    still g (goal.at.returns-in-Err-OutOfMemory-clause-stays g c).After-stands (goes_not h) s (search rules)
 
 -- to forget the places of notices leaves the files
 pub returns-in-Ok-clause-compacted : goal.returns-in-Ok-clause-compacted

@@ -34,7 +34,7 @@ compact-requires-clause-number c =
     early (view_of c.self.inside) c.self.invariant c.args.number c.in_ok-least.least (is_least at)
 
 there : (c : After-compact) → IsThere c.self.inside.live_table.table.files c.args.number
-there c = subst (λ (e : EngineState). IsThere e.table.files c.args.number) (sym c.self.view_is) c.requires
+there c = subst (λ (e : EngineState). IsThere e.table.files c.args.number) (sym c.self.view_is) c.requires.there
 
 failed : (c : After-compact) → OnErr c.compact.result (c.compact.new.self.table ≡ c.self.inside.live_table.table)
 failed c = on_err c.compact.result (ap (λ (l : LiveState). l.table)) c.compact.ensures.err
@@ -45,7 +45,7 @@ invariant_of-self c =
     let was = view_of c.self.inside in
     invariant_same (record was { table = c.compact.new.self.table }) c.compact.new.self c.compact.ensures.subscriptions refl
     (holds_compacted was c.self.invariant c.args.number c.in_ok-least.least (is_least at) (shown c.file-view.result) (shows at) (c.is_due.ensures.due c.if-is_due.true)
-    (there c) c.compact.new.self c.compact.result c.compact.ensures.ok (failed c) c.compact.ensures.next_file c.compact.ensures.number)
+    (there c) c.compact.new.self c.compact.result c.compact.ensures.ok (failed c) c.compact.ensures.next_file c.compact.ensures.number (ap (λ (e : EngineState). e.cache) c.self.view_is ∙ c.requires.nothing))
 
 pub returns-then-is_due-clause-follows : goal.returns-then-is_due-clause-follows
 returns-then-is_due-clause-follows c = λ h s.

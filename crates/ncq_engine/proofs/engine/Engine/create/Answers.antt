@@ -1,4 +1,4 @@
-use Rattle.std.proofs.Common.{◌≡◌, ◌∙◌, Bool, List, ℕ, ap, subst, sym, arith, true, false}
+use Rattle.std.proofs.Common.{◌≡◌, ◌∙◌, ◌+◌, Bool, List, ℕ, ap, subst, sym, arith, true, false}
 use Rattle.std.specs.Prelude.{Err, Ok}
 use Rattle.std.specs.List.{list_any}
 use Rattle.std.specs.Str.{bytes_eq}
@@ -8,10 +8,12 @@ use Rattle.ncq_book.specs.declared.subscription.Subscription.{Subscription as Ke
 use Rattle.ncq_callback.specs.Labels.{Label, labels}
 use Rattle.ncq_event.specs.declared.timing.Timing.{Timing}
 use Rattle.ncq_event.specs.Instants.{is_expired}
+use Rattle.ncq_engine.specs.Applies.{query_refusal}
 use Rattle.ncq_engine.specs.Joins.{IsSubscriptionOf, timed}
 use Rattle.ncq_engine.specs.Notices.{kind_in}
 use Rattle.ncq_engine.specs.Output.{is_at_odds}
 use Rattle.ncq_engine.specs.Stands.{EngineState}
+use Rattle.ncq_engine.proofs.CachedAnswers.{keeps_counted, keeps_itself, keeps_refused}
 use Rattle.ncq_engine.proofs.CreateAnswers.{subscription_of_it}
 use Rattle.ncq_engine.proofs.CreateLaws.{create_late, create_odd, create_taken, create_unbound}
 use Rattle.ncq_engine.proofs.engine.Engine.create.Given.{Over}
@@ -97,3 +99,20 @@ returns-then-is_expired-clause-work g c = λ h stands bound work. omega arith
 
 pub returns-in_err-subscription-clause-work : goal.returns-in_err-subscription-clause-work
 returns-in_err-subscription-clause-work g c = λ h stands bound work. omega arith
+
+-- what is kept of what was told is kept still
+pub returns-then-has-clause-cached : goal.returns-then-has-clause-cached
+returns-then-has-clause-cached g c = keeps_counted c.args.self.now c.refuse.new.self (c.args.self.now.count + 1) c.refuse.ensures.counted
+
+pub returns-in-Err-clause-cached : goal.returns-in-Err-clause-cached
+returns-in-Err-clause-cached g c =
+    keeps_refused (query_refusal c.in-Err.error) c.args.self.now c.refuse_query.new.self (c.args.self.now.count + 1) c.refuse_query.ensures.counted c.refuse_query.ensures.same
+
+pub returns-in_default-clause-cached : goal.returns-in_default-clause-cached
+returns-in_default-clause-cached g c = keeps_counted c.args.self.now c.refuse-in_default.new.self (c.args.self.now.count + 1) c.refuse-in_default.ensures.counted
+
+pub returns-then-is_expired-clause-cached : goal.returns-then-is_expired-clause-cached
+returns-then-is_expired-clause-cached g c = keeps_counted c.args.self.now c.refuse-then-is_expired.new.self (c.args.self.now.count + 1) c.refuse-then-is_expired.ensures.counted
+
+pub returns-in_err-subscription-clause-cached : goal.returns-in_err-subscription-clause-cached
+returns-in_err-subscription-clause-cached g c = keeps_itself c.args.self.now

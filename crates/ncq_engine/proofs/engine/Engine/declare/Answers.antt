@@ -4,9 +4,10 @@ use Rattle.std.proofs.Math.Seq.{take-append_seam}
 use Rattle.ncq_script.specs.declared.command.Command.TheVariants.{Declare}
 use Rattle.ncq_source.specs.StoreStates.{Declares, StoreState, found}
 use Rattle.ncq_source.specs.declared.key.Key.{Key}
-use Rattle.ncq_engine.specs.Applies.{Applies, ok_text}
+use Rattle.ncq_engine.specs.Applies.{Applies, KeepsCache, ok_text}
 use Rattle.ncq_engine.specs.Engines.{IsEngine}
 use Rattle.ncq_engine.specs.Stands.{EngineState}
+use Rattle.ncq_engine.proofs.CachedAnswers.{keeps_as_was, keeps_itself, keeps_same}
 use Rattle.ncq_engine.proofs.CommandLaws.{declare_accepted, declare_refused, not_exists}
 use Rattle.ncq_engine.proofs.InvariantLaws.{invariant_counted, invariant_declared}
 use Rattle.ncq_engine.proofs.Views.{view_of}
@@ -44,9 +45,33 @@ invariant_of-self c =
 pub invariant_of-self-in-Err-Exists : goal.invariant_of-self-in-Err-Exists
 invariant_of-self-in-Err-Exists c =
     let i = c.self.inside in
-    subst (λ (s : StoreState). IsEngine s i.count i.creates i.labels.items i.live_table.subscriptions i.live_table.table) (sym c.in-Err-Exists.ensures.err) c.self.invariant
+    subst (λ (s : StoreState). IsEngine s i.count i.creates i.labels.items i.live_table.subscriptions i.live_table.table i.cache) (sym c.in-Err-Exists.ensures.err) c.self.invariant
 
 pub invariant_of-self-in-Err-OutOfMemory : goal.invariant_of-self-in-Err-OutOfMemory
 invariant_of-self-in-Err-OutOfMemory c =
     let i = c.self.inside in
-    subst (λ (s : StoreState). IsEngine s i.count i.creates i.labels.items i.live_table.subscriptions i.live_table.table) (sym c.in-Err-OutOfMemory.ensures.err) c.self.invariant
+    subst (λ (s : StoreState). IsEngine s i.count i.creates i.labels.items i.live_table.subscriptions i.live_table.table i.cache) (sym c.in-Err-OutOfMemory.ensures.err) c.self.invariant
+
+-- what is kept of what was told is kept still
+pub returns-in_err-answered-clause-cached : goal.returns-in_err-answered-clause-cached
+returns-in_err-answered-clause-cached c = keeps_itself c.args.self.now
+
+pub returns-in_err-its_name-clause-cached : goal.returns-in_err-its_name-clause-cached
+returns-in_err-its_name-clause-cached c = keeps_itself c.args.self.now
+
+pub returns-in_err-its_root-clause-cached : goal.returns-in_err-its_root-clause-cached
+returns-in_err-its_root-clause-cached c = keeps_itself c.args.self.now
+
+pub returns-in_err-its_key-clause-cached : goal.returns-in_err-its_key-clause-cached
+returns-in_err-its_key-clause-cached c = keeps_itself c.args.self.now
+
+pub returns-in-Ok-clause-cached : goal.returns-in-Ok-clause-cached
+returns-in-Ok-clause-cached c = keeps_as_was c.self.view_is
+
+pub returns-in-Err-Exists-clause-cached : goal.returns-in-Err-Exists-clause-cached
+returns-in-Err-Exists-clause-cached c =
+    subst (λ (e : EngineState). KeepsCache e c.refuse.new.self) c.self.view_is
+    (keeps_same (view_of c.self.inside) c.refuse.new.self (ap (λ (e : EngineState). e.table) c.refuse.ensures.counted) (ap (λ (e : EngineState). e.cache) c.refuse.ensures.counted))
+
+pub returns-clause-cached : goal.returns-clause-cached
+returns-clause-cached c = keeps_as_was c.self.view_is

@@ -4,7 +4,10 @@ use Rattle.ncq_book.specs.Books.{BookState}
 use Rattle.ncq_book.specs.Kept.{install_of}
 use Rattle.ncq_script.specs.declared.command.Command.TheVariants.{Delete}
 use Rattle.ncq_engine.specs.Applies.{Applies}
+use Rattle.ncq_engine.specs.Cached.{KeepsPairs}
 use Rattle.ncq_engine.specs.Stands.{EngineState}
+use Rattle.ncq_engine.proofs.CachedAnswers.{keeps_counted, keeps_itself, keeps_left}
+use Rattle.ncq_engine.proofs.CachedLaws.{grows_none}
 use Rattle.ncq_engine.proofs.CommandLaws.{delete_answers, delete_refused, none_named}
 use Rattle.ncq_engine.proofs.InvariantLaws.{invariant_counted, left_holds}
 use Rattle.ncq_engine.proofs.Views.{view_of}
@@ -32,3 +35,18 @@ returns-clause-applies c =
     (record was { clock = after.instant; count = was.count + 1; subscriptions = after.subscriptions; table = after.table }) c.write_accepted.new.out.items) c.self.view_is
     (delete_answers was c.args.name.now c.in-Some.install found c.facts.ensures.rise c.facts.ensures.names
     after c.take_all.ensures c.args.out.now.items c.in_ok-answered.answered c.write_accepted.new.out.items c.in_ok-answered.ensures.text c.in_ok-answered.ensures.places)
+
+-- what is kept of what was told is kept still
+pub returns-in_default-clause-cached : goal.returns-in_default-clause-cached
+returns-in_default-clause-cached c = keeps_counted c.args.self.now c.refuse.new.self (c.args.self.now.count + 1) c.refuse.ensures.counted
+
+pub returns-in_err-answered-clause-cached : goal.returns-in_err-answered-clause-cached
+returns-in_err-answered-clause-cached c = keeps_itself c.args.self.now
+
+pub returns-clause-cached : goal.returns-clause-cached
+returns-clause-cached c =
+    let was = view_of c.self.inside in
+    let after = c.take_all.new.live_table in
+    let left = c.take_all.ensures in
+    subst (λ (e : EngineState). KeepsPairs e.table e.cache after.table was.cache) c.self.view_is
+    (keeps_left was.table after.table left.files left.number left.next_file was.cache was.cache (grows_none was.table was.cache))

@@ -1,5 +1,6 @@
-use Rattle.std.proofs.Common.{ap}
+use Rattle.std.proofs.Common.{◌∙◌, ap}
 use Rattle.ncq_live.specs.LiveTables.{LiveState}
+use Rattle.ncq_engine.specs.Stands.{EngineState}
 use Rattle.ncq_engine.proofs.CompactAnswers.{on_err}
 use Rattle.ncq_engine.proofs.FoldAnswers.{folded, have_moved, moved_holds}
 use Rattle.ncq_engine.proofs.GivenUp.{with_parts}
@@ -17,7 +18,7 @@ has_moved c =
 
 pub invariant_of-self : goal.invariant_of-self
 invariant_of-self c =
-    moved_holds (view_of c.self.inside) c.fold.new.self (moved c) c.fold.ensures.number c.fold.ensures.next_file c.fold.ensures.subscriptions c.facts.ensures.facts.up_to c.self.invariant
+    moved_holds (view_of c.self.inside) c.fold.new.self (moved c) c.fold.ensures.number c.fold.ensures.next_file c.fold.ensures.subscriptions c.facts.ensures.facts.up_to (ap (λ (e : EngineState). e.cache) c.self.view_is ∙ c.requires.nothing) c.self.invariant
 
 pub returns-clause-follows : goal.returns-clause-follows
 returns-clause-follows c = (has_moved c).follows

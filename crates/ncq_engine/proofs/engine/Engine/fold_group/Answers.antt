@@ -16,9 +16,9 @@ each_there c =
 pub loop-sibling-init : goal.loop-sibling-init
 loop-sibling-init c = moved_none _
 
-pub raise_base-requires : goal.raise_base-requires
-raise_base-requires c =
-    let before = (goal.at.raise_base-requires c).After-as_slice-sibling-items in
+pub raise_base-requires-clause-there : goal.raise_base-requires-clause-there
+raise_base-requires-clause-there c =
+    let before = (goal.at.raise_base-requires-clause-there c).After-as_slice-sibling-items in
     let list = c.as_slice-sibling-items.result.now in
     let at = c.loop-sibling.sibling-index in
     there_moved c.args.self.now c.loop-sibling.self c.loop-sibling.invariant.bases (get_or list at 0) (each_here (IsThere c.args.self.now.table.files) list at 0 c.loop-sibling-test.true (each_there before))
@@ -31,8 +31,14 @@ pub returns-in_err-raise_base-clause-bases : goal.returns-in_err-raise_base-clau
 returns-in_err-raise_base-clause-bases c =
     (moved_more c.args.self.now c.loop-sibling.self c.raise_base.new.self c.loop-sibling.invariant c.raise_base.ensures.same c.raise_base.ensures.follows c.raise_base.ensures.bases).bases
 
-pub fold-requires : goal.fold-requires
-fold-requires c = there_moved c.args.self.now c.loop-sibling.self c.loop-sibling.invariant.bases c.args.number c.requires
+pub raise_base-requires-clause-nothing : goal.raise_base-requires-clause-nothing
+raise_base-requires-clause-nothing c = ap (λ (e : EngineState). e.cache) c.loop-sibling.invariant.same ∙ c.requires.nothing
+
+pub fold-requires-clause-there : goal.fold-requires-clause-there
+fold-requires-clause-there c = there_moved c.args.self.now c.loop-sibling.self c.loop-sibling.invariant.bases c.args.number c.requires.there
+
+pub fold-requires-clause-nothing : goal.fold-requires-clause-nothing
+fold-requires-clause-nothing c = ap (λ (e : EngineState). e.cache) c.loop-sibling.invariant.same ∙ c.requires.nothing
 
 pub returns-clause-bases : goal.returns-clause-bases
 returns-clause-bases c = (moved_more c.args.self.now c.loop-sibling.self c.fold.new.self c.loop-sibling.invariant c.fold.ensures.same c.fold.ensures.follows c.fold.ensures.bases).bases

@@ -7,13 +7,15 @@ use Rattle.ncq_script.specs.declared.command.Command.TheVariants.{Create}
 use Rattle.ncq_xmlql.specs.declared.model.Statement.{Statement}
 use Rattle.ncq_engine.specs.declared.engine.ApplyError.TheVariants.{OutOfMemory}
 use Rattle.ncq_engine.specs.Applies.{Applies}
+use Rattle.ncq_engine.specs.Cached.{KeepsPairs}
 use Rattle.ncq_engine.specs.Joins.{IsSubscriptionOf}
 use Rattle.ncq_engine.specs.Stands.{EngineState}
 use Rattle.ncq_engine.specs.Tellings.{noted_by}
-use Rattle.ncq_engine.proofs.CreateAnswers.{HasCome, above_is, come_answers, come_can, come_holds, created_engine, free_is, gone_mark, gone_subscriptions, gone_table, room_left, subscriptions_few}
-use Rattle.ncq_engine.proofs.EngineLaws.{gives_up}
-use Rattle.ncq_engine.proofs.GivenUp.{IsStill, given_up}
-use Rattle.ncq_engine.proofs.InvariantLaws.{invariant_same}
+use Rattle.ncq_engine.proofs.CachedAnswers.{keeps_itself, keeps_none, keeps_same}
+use Rattle.ncq_engine.proofs.CreateAnswers.{HasCome, above_is, come_answers, come_can, come_holds, come_keeps, come_serve, created_engine, free_is, gone_mark, gone_subscriptions, gone_table, room_left, subscriptions_few}
+use Rattle.ncq_engine.proofs.EngineLaws.{applies_cached, gives_up}
+use Rattle.ncq_engine.proofs.GivenUp.{IsStill, given_up, with_parts}
+use Rattle.ncq_engine.proofs.InvariantLaws.{invariant_cached, invariant_same, none_serve}
 use Rattle.ncq_engine.proofs.Views.{view_of}
 use Rattle.ncq_engine.proofs.WorkAnswers.{join_work}
 use Rattle.ncq_engine.proofs.engine.Engine.join.Given.{Over}
@@ -93,7 +95,10 @@ add-requires-clause-room g c =
 pub answer_create-requires : goal.answer_create-requires
 answer_create-requires g c =
     let come_in = come g (goal.at.answer_create-requires g c).After-facts-2 c.requires.some.0 c.requires.some.1 in
-    record { can = come_can come_in (labels c.args.handlers.now.items.items (λ h. h.name) (λ h. h.kind)) (ap (λ (e : EngineState). e.labels) c.self.view_is ∙ c.requires.handlers) }
+    record {
+      can = come_can come_in (labels c.args.handlers.now.items.items (λ h. h.name) (λ h. h.kind)) (ap (λ (e : EngineState). e.labels) c.self.view_is ∙ c.requires.handlers);
+      serve = come_serve come_in;
+    }
 
 pub invariant_of-self : goal.invariant_of-self
 invariant_of-self g c =
@@ -103,7 +108,7 @@ invariant_of-self g c =
 pub invariant_of-self-in-Ok : goal.invariant_of-self-in-Ok
 invariant_of-self-in-Ok g c =
     let at = goal.at.invariant_of-self-in-Ok g c in
-    come_holds (come g at.After-facts-2 c.requires.some.0 c.requires.some.1) c.in-Ok.firings c.in-Ok.ensures.firings c.note_all.new.live_table (noted g at.After-note_all)
+    come_holds (come g at.After-facts-2 c.requires.some.0 c.requires.some.1) c.in-Ok.firings c.in-Ok.ensures.firings c.note_all.new.live_table (noted g at.After-note_all) c.answer_create.new.cache c.answer_create.ensures.cached
 
 pub roll_back-requires-clause-base : goal.roll_back-requires-clause-base
 roll_back-requires-clause-base g c = λ number file there.
@@ -118,16 +123,18 @@ roll_back-requires-clause-below g c = λ number file there.
 pub invariant_of-self-in-Err : goal.invariant_of-self-in-Err
 invariant_of-self-in-Err g c =
     let at = goal.at.invariant_of-self-in-Err g c in
+    let after = c.roll_back.new.self in
     let still = gone g at.After-roll_back c.requires.some.0 (come g at.After-facts-2 c.requires.some.0 c.requires.some.1) in
-    invariant_same (view_of c.self.inside) c.roll_back.new.self still.subscriptions still.table c.self.invariant
+    invariant_cached (record (view_of c.self.inside) { subscriptions = after.subscriptions; table = after.table }) c.clear.new.self (none_serve after.table c.clear.new.self c.clear.ensures)
+    (invariant_same (view_of c.self.inside) after still.subscriptions still.table c.self.invariant)
 
 pub returns-in-Ok-clause-applies : goal.returns-in-Ok-clause-applies
 returns-in-Ok-clause-applies g c = λ statement its.
     let at = goal.at.returns-in-Ok-clause-applies g c in
     let was = view_of c.self.inside in
-    subst (λ (e : EngineState). Applies e (Create statement) c.args.out.now.items (Ok c.in-Ok.answered) (created_engine was c.note_all.new.live_table) c.answer_create.new.out.items) c.self.view_is
+    subst (λ (e : EngineState). Applies e (Create statement) c.args.out.now.items (Ok c.in-Ok.answered) (created_engine was c.note_all.new.live_table c.answer_create.new.cache) c.answer_create.new.out.items) c.self.view_is
     (come_answers (come g at.After-facts-2 statement its) c.in-Ok.firings c.in-Ok.ensures.firings c.note_all.new.live_table (noted g at.After-note_all)
-    (labels c.args.handlers.now.items.items (λ h. h.name) (λ h. h.kind)) (ap (λ (e : EngineState). e.labels) c.self.view_is ∙ c.requires.handlers) c.args.out.now.items c.answer_create.new.out.items c.in-Ok.answered c.in-Ok.ensures.told)
+    (labels c.args.handlers.now.items.items (λ h. h.name) (λ h. h.kind)) (ap (λ (e : EngineState). e.labels) c.self.view_is ∙ c.requires.handlers) c.args.out.now.items c.answer_create.new.out.items c.in-Ok.answered c.answer_create.new.cache c.in-Ok.ensures.told)
 
 pub returns-in_err-plan-clause-applies : goal.returns-in_err-plan-clause-applies
 returns-in_err-plan-clause-applies g c = λ statement its.
@@ -141,8 +148,10 @@ returns-in_err-add-clause-applies g c = λ statement its.
 pub returns-clause-applies : goal.returns-clause-applies
 returns-clause-applies g c = λ statement its.
     let at = goal.at.returns-clause-applies g c in
-    given_up c.self.view_is (Create statement) c.args.out.now.items (Err OutOfMemory) refl c.self.inside.store (record { changes = refl; sources = refl })
-    c.roll_back.new.self (gone g at.After-roll_back statement (come g at.After-facts-2 statement its)) c.answer_create.new.out.items c.answer_create.ensures.front
+    let written = c.answer_create.new.out.items in
+    applies_cached c.args.self.now (Create statement) c.args.out.now.items (Err OutOfMemory) (with_parts (view_of c.self.inside) c.self.inside.store c.roll_back.new.self) written c.clear.new.self
+    (given_up c.self.view_is (Create statement) c.args.out.now.items (Err OutOfMemory) refl c.self.inside.store (record { changes = refl; sources = refl })
+    c.roll_back.new.self (gone g at.After-roll_back statement (come g at.After-facts-2 statement its)) written c.answer_create.ensures.front)
 
 pub returns-in-Ok-clause-work : goal.returns-in-Ok-clause-work
 returns-in-Ok-clause-work g c = join_work c.self.view_is c.args.steps.now c.add.new.steps c.args.subscription c.in_ok-plan.plan c.in_ok-plan.ensures c.add.ensures.cost
@@ -155,3 +164,21 @@ returns-in_err-add-clause-work g c = join_work c.self.view_is c.args.steps.now c
 
 pub returns-in_err-plan-clause-work : goal.returns-in_err-plan-clause-work
 returns-in_err-plan-clause-work g c = λ statement its h stands bound work. omega arith
+
+-- what is kept of what was told
+pub returns-in_err-plan-clause-cached : goal.returns-in_err-plan-clause-cached
+returns-in_err-plan-clause-cached g c = keeps_itself c.args.self.now
+
+pub returns-in_err-add-clause-cached : goal.returns-in_err-add-clause-cached
+returns-in_err-add-clause-cached g c =
+    keeps_same c.args.self.now (with_parts (view_of c.self.inside) c.self.inside.store c.add.new.self)
+    ((not_in g (goal.at.returns-in_err-add-clause-cached g c).In_err-add).table ∙ ap (λ (e : EngineState). e.table) c.self.view_is) (ap (λ (e : EngineState). e.cache) c.self.view_is)
+
+pub returns-in-Ok-clause-cached : goal.returns-in-Ok-clause-cached
+returns-in-Ok-clause-cached g c =
+    let at = goal.at.returns-in-Ok-clause-cached g c in
+    subst (λ (e : EngineState). KeepsPairs e.table e.cache c.note_all.new.live_table.table c.answer_create.new.cache) c.self.view_is
+    (come_keeps (come g at.After-facts-2 c.requires.some.0 c.requires.some.1) c.in-Ok.firings c.in-Ok.ensures.firings c.note_all.new.live_table (noted g at.After-note_all) c.answer_create.new.cache c.answer_create.ensures.cached)
+
+pub returns-clause-cached : goal.returns-clause-cached
+returns-clause-cached g c = keeps_none c.args.self.now c.roll_back.new.self.table c.clear.new.self c.clear.ensures

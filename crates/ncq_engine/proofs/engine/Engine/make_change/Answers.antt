@@ -1,4 +1,4 @@
-use Rattle.std.proofs.Common.{◌≡◌, ◌∙◌, ◌+◌, ℕ, List, arith, ap, refl, rules, subst, sym}
+use Rattle.std.proofs.Common.{◌≡◌, ◌∙◌, ◌+◌, arith, ap, refl, rules, subst, sym}
 use Rattle.std.specs.Prelude.{Err, Ok, IfNone, IfSome}
 use Rattle.std.proofs.Math.Seq.{take-length}
 use Rattle.std.specs.FinMap.{get}
@@ -10,15 +10,18 @@ use Rattle.ncq_group.specs.declared.mark.GroupMark.{GroupMark}
 use Rattle.ncq_script.specs.declared.command.Command.TheVariants.{Delta}
 use Rattle.ncq_shelf.specs.Contents.{cut_to}
 use Rattle.ncq_engine.specs.Applies.{Applies, change_refusal}
+use Rattle.ncq_engine.specs.Cached.{KeepsPairs}
 use Rattle.ncq_engine.specs.Stands.{EngineState}
 use Rattle.ncq_engine.specs.Tellings.{IsAnswered, started_of}
 use Rattle.ncq_engine.specs.Compactions.{KeepBases}
 use Rattle.ncq_engine.proofs.BaseLaws.{answered_so, bases_fed, bases_same, refused_table}
-use Rattle.ncq_engine.proofs.ChangeAnswers.{IsFed, IsReserved, can_tell, change_answers, changed_engine, holds_changed, holds_ready, is_prepared}
+use Rattle.ncq_engine.proofs.CachedAnswers.{keeps_as_was, keeps_none, keeps_refused, keeps_same}
+use Rattle.ncq_engine.proofs.ChangeAnswers.{IsFed, IsReserved, can_tell, change_answers, changed_engine, changed_keeps, holds_changed, holds_ready, is_prepared, served}
 use Rattle.ncq_engine.proofs.ChangeLaws.{change_refused, told_known}
 use Rattle.ncq_engine.specs.declared.engine.ApplyError.TheVariants.{OutOfMemory}
-use Rattle.ncq_engine.proofs.GivenUp.{IsStill, given_up}
-use Rattle.ncq_engine.proofs.InvariantLaws.{invariant_alike, invariant_same}
+use Rattle.ncq_engine.proofs.EngineLaws.{applies_cached}
+use Rattle.ncq_engine.proofs.GivenUp.{IsStill, given_up, with_parts}
+use Rattle.ncq_engine.proofs.InvariantLaws.{invariant_alike, invariant_cached, invariant_same, none_serve}
 use Rattle.ncq_engine.proofs.TableLaws.{table_back}
 use Rattle.ncq_engine.proofs.Views.{view_of}
 use Rattle.ncq_engine.proofs.WorkAnswers.{change_work}
@@ -106,19 +109,23 @@ feed-requires-clause-fits g c = (holds_ready (reserved g (goal.at.feed-requires-
 pub answer_change-requires : goal.answer_change-requires
 answer_change-requires g c =
     let at = goal.at.answer_change-requires g c in
-    record { can = can_tell (reserved g at.In_ok-reserve) (fed g at.After-facts-2) (labels c.args.handlers.now.items.items (λ h. h.name) (λ h. h.kind)) (ap (λ (e : EngineState). e.labels) c.self.view_is ∙ c.requires.handlers) }
+    let ready = reserved g at.In_ok-reserve in
+    let done = fed g at.After-facts-2 in
+    record { can = can_tell ready done (labels c.args.handlers.now.items.items (λ h. h.name) (λ h. h.kind)) (ap (λ (e : EngineState). e.labels) c.self.view_is ∙ c.requires.handlers); serve = served ready done }
 
 pub invariant_of-self-in-Ok-answer_change : goal.invariant_of-self-in-Ok-answer_change
 invariant_of-self-in-Ok-answer_change g c =
     let at = goal.at.invariant_of-self-in-Ok-answer_change g c in
-    holds_changed (reserved g at.In_ok-reserve) (fed g at.After-facts-2) c.commit.new.self c.commit.ensures.done
+    holds_changed (reserved g at.In_ok-reserve) (fed g at.After-facts-2) c.commit.new.self c.commit.ensures.done c.answer_change.new.cache c.answer_change.ensures.cached
 
 pub invariant_of-self-in-Err-answer_change : goal.invariant_of-self-in-Err-answer_change
 invariant_of-self-in-Err-answer_change g c =
     let at = goal.at.invariant_of-self-in-Err-answer_change g c in
     let ready = reserved g at.In_ok-reserve in
+    let after = c.roll_back.new.self in
     let still = rolled_back g at.After-roll_back ready in
-    invariant_same (record (view_of c.self.inside) { store = c.reserve.new.self }) c.roll_back.new.self still.subscriptions still.table (holds_ready ready)
+    invariant_cached (record (view_of c.self.inside) { store = c.reserve.new.self; subscriptions = after.subscriptions; table = after.table }) c.clear.new.self (none_serve after.table c.clear.new.self c.clear.ensures)
+    (invariant_same (record (view_of c.self.inside) { store = c.reserve.new.self }) after still.subscriptions still.table (holds_ready ready))
 
 pub returns-in-Ok-answer_change-clause-applies : goal.returns-in-Ok-answer_change-clause-applies
 returns-in-Ok-answer_change-clause-applies g c =
@@ -126,9 +133,9 @@ returns-in-Ok-answer_change-clause-applies g c =
     let known = labels c.args.handlers.now.items.items (λ h. h.name) (λ h. h.kind) in
     let after = c.feed.new.self in
     let told = subst (λ list. IsAnswered (c.self.inside.count + 1) known c.reserve.new.self after (started_of after (watchers_of list after.subscriptions)) c.args.out.now.items c.answer_change.new.out.items c.in-Ok-answer_change.answered) c.as_slice.ensures c.in-Ok-answer_change.ensures.told in
-    subst (λ (e : EngineState). Applies e (Delta c.args.sections.now) c.args.out.now.items (Ok c.in-Ok-answer_change.answered) (changed_engine (view_of c.self.inside) c.commit.new.self after) c.answer_change.new.out.items) c.self.view_is
+    subst (λ (e : EngineState). Applies e (Delta c.args.sections.now) c.args.out.now.items (Ok c.in-Ok-answer_change.answered) (changed_engine (view_of c.self.inside) c.commit.new.self after c.answer_change.new.cache) c.answer_change.new.out.items) c.self.view_is
     (change_answers (reserved g at.In_ok-reserve) (fed g at.After-facts-2) c.commit.new.self c.commit.ensures.done known (ap (λ (e : EngineState). e.labels) c.self.view_is ∙ c.requires.handlers)
-    c.args.out.now.items c.answer_change.new.out.items c.in-Ok-answer_change.answered told)
+    c.args.out.now.items c.answer_change.new.out.items c.in-Ok-answer_change.answered c.answer_change.new.cache told)
 
 pub returns-in_err-reserve-clause-applies : goal.returns-in_err-reserve-clause-applies
 returns-in_err-reserve-clause-applies g c =
@@ -144,8 +151,10 @@ returns-in_err-fed-clause-applies g c =
 pub returns-in-Err-answer_change-clause-applies : goal.returns-in-Err-answer_change-clause-applies
 returns-in-Err-answer_change-clause-applies g c =
     let at = goal.at.returns-in-Err-answer_change-clause-applies g c in
-    given_up c.self.view_is (Delta c.args.sections.now) c.args.out.now.items (Err OutOfMemory) refl c.reserve.new.self c.in_ok-reserve.ensures.same
-    c.roll_back.new.self (rolled_back g at.After-roll_back (reserved g at.In_ok-reserve)) c.answer_change.new.out.items c.answer_change.ensures.front
+    let written = c.answer_change.new.out.items in
+    applies_cached c.args.self.now (Delta c.args.sections.now) c.args.out.now.items (Err OutOfMemory) (with_parts (view_of c.self.inside) c.reserve.new.self c.roll_back.new.self) written c.clear.new.self
+    (given_up c.self.view_is (Delta c.args.sections.now) c.args.out.now.items (Err OutOfMemory) refl c.reserve.new.self c.in_ok-reserve.ensures.same
+    c.roll_back.new.self (rolled_back g at.After-roll_back (reserved g at.In_ok-reserve)) written c.answer_change.ensures.front)
 
 pub returns-in-Ok-answer_change-clause-work : goal.returns-in-Ok-answer_change-clause-work
 returns-in-Ok-answer_change-clause-work g c = change_work c.self.view_is c.args.steps.now c.feed.new.steps (reserved g (goal.at.returns-in-Ok-answer_change-clause-work g c).In_ok-reserve) c.feed.ensures.cost
@@ -159,10 +168,31 @@ returns-in_err-fed-clause-work g c = change_work c.self.view_is c.args.steps.now
 -- the files keep their bases
 pub returns-in-Ok-answer_change-clause-bases : goal.returns-in-Ok-answer_change-clause-bases
 returns-in-Ok-answer_change-clause-bases g c =
-    let after = changed_engine (view_of c.self.inside) c.commit.new.self c.feed.new.self in
+    let after = changed_engine (view_of c.self.inside) c.commit.new.self c.feed.new.self c.answer_change.new.cache in
     subst (λ (e : EngineState). KeepBases e after) c.self.view_is (bases_fed c.reserve.new.self c.in-Ok.change (view_of c.self.inside) after c.in_ok-fed.ensures.fed)
 
 pub returns-in-Err-clause-bases : goal.returns-in-Err-clause-bases
 returns-in-Err-clause-bases g c =
     answered_so c.refuse_change.result (bases_same c.args.self.now c.refuse_change.new.self
     (refused_table (change_refusal c.in-Err.error) c.args.self.now c.refuse_change.new.self (c.args.self.now.count + 1) c.refuse_change.ensures.counted c.refuse_change.ensures.same))
+
+-- what is kept of what was told
+pub returns-in-Err-clause-cached : goal.returns-in-Err-clause-cached
+returns-in-Err-clause-cached g c =
+    keeps_refused (change_refusal c.in-Err.error) c.args.self.now c.refuse_change.new.self (c.args.self.now.count + 1) c.refuse_change.ensures.counted c.refuse_change.ensures.same
+
+pub returns-in_err-reserve-clause-cached : goal.returns-in_err-reserve-clause-cached
+returns-in_err-reserve-clause-cached g c = keeps_as_was c.self.view_is
+
+pub returns-in_err-fed-clause-cached : goal.returns-in_err-fed-clause-cached
+returns-in_err-fed-clause-cached g c =
+    keeps_same c.args.self.now (with_parts (view_of c.self.inside) c.reserve.new.self c.feed.new.self) (c.in_err-fed.ensures.err ∙ ap (λ (e : EngineState). e.table) c.self.view_is) (ap (λ (e : EngineState). e.cache) c.self.view_is)
+
+pub returns-in-Ok-answer_change-clause-cached : goal.returns-in-Ok-answer_change-clause-cached
+returns-in-Ok-answer_change-clause-cached g c =
+    let at = goal.at.returns-in-Ok-answer_change-clause-cached g c in
+    subst (λ (e : EngineState). KeepsPairs e.table e.cache c.feed.new.self.table c.answer_change.new.cache) c.self.view_is
+    (changed_keeps (reserved g at.In_ok-reserve) (fed g at.After-facts-2) c.answer_change.new.cache c.answer_change.ensures.cached)
+
+pub returns-in-Err-answer_change-clause-cached : goal.returns-in-Err-answer_change-clause-cached
+returns-in-Err-answer_change-clause-cached g c = keeps_none c.args.self.now c.roll_back.new.self.table c.clear.new.self c.clear.ensures

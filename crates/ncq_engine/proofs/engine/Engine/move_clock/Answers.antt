@@ -1,23 +1,32 @@
-use Rattle.std.proofs.Common.{◌≡◌, ◌∙◌, ◌++◌, ◌+◌, ◌≤◌, ap, subst, sym, refl, arith, map, length, List, ℕ, false}
-use Rattle.std.specs.Prelude.{Ok, nat_lt, IsSome}
+use Rattle.std.proofs.Common.{◌≡◌, ◌∙◌, ◌++◌, ◌+◌, ◌≤◌, ap, subst, sym, refl, arith, map, rules, length, List, ℕ, false}
+use Rattle.std.proofs.Transfers.{starts_with_trans}
+use Rattle.std.specs.Io.{StartsWith}
+use Rattle.std.specs.Prelude.{Err, Ok, Result, nat_lt, IsSome}
 use Rattle.std.specs.List.{filter, flat_map, AllByRecursion}
 use Rattle.std.proofs.lemmas.Bool.Decides.{nat_tests}
 use Rattle.ncq_book.specs.Books.{BookState, subscription_of, timing_of}
 use Rattle.ncq_callback.specs.Labels.{labels}
 use Rattle.ncq_event.specs.Calendars.{due_firings, expired_at}
 use Rattle.ncq_event.specs.declared.firing.Firing.{Firing}
+use Rattle.ncq_group.specs.Tables.{TableState}
 use Rattle.ncq_live.specs.LiveTables.{LiveState}
 use Rattle.ncq_script.specs.declared.command.Command.TheVariants.{Clock}
+use Rattle.ncq_engine.specs.declared.engine.ApplyError.{ApplyError}
+use Rattle.ncq_engine.specs.declared.engine.ApplyError.TheVariants.{OutOfMemory}
 use Rattle.ncq_engine.specs.declared.telling.Answered.{Answered}
 use Rattle.ncq_engine.specs.Applies.{Applies}
+use Rattle.ncq_engine.specs.Cached.{KeepsPairs}
 use Rattle.ncq_engine.specs.Stands.{EngineState}
 use Rattle.ncq_engine.specs.Tellings.{IsLeftBy, expired_of, firing_text, is_news_at, noted_by}
-use Rattle.ncq_engine.proofs.ClockAnswers.{AreAsked, IsMoved, IsWritten, clock_can, moved_applies, moved_holds, there}
+use Rattle.ncq_engine.proofs.CachedAnswers.{keeps_counted, keeps_itself}
+use Rattle.ncq_engine.proofs.ClockAnswers.{AreAsked, IsMoved, IsWritten, clock_can, moved_applies, moved_engine, moved_holds, moved_keeps, there, told_holds, told_keeps}
+use Rattle.ncq_engine.proofs.EngineLaws.{applies_cached, gives_up}
 use Rattle.ncq_engine.proofs.FiringLaws.{firing_spans}
+use Rattle.ncq_engine.proofs.GivenUp.{given_up, with_parts}
 use Rattle.ncq_engine.proofs.InvariantLaws.{invariant_same}
 use Rattle.ncq_engine.proofs.Views.{view_of}
 use Rattle.ncq_engine.proofs.engine.Engine.move_clock.Given.{Over}
-use Rattle.ncq_engine.proofs.engine.Engine.move_clock.Goals.{After-facts, After-facts-2, In_ok-write_expired}
+use Rattle.ncq_engine.proofs.engine.Engine.move_clock.Goals.{After-facts, After-facts-2, After-tell, After-write_expired, In_ok-write_expired}
 use Rattle.ncq_engine.proofs.engine.Engine.move_clock.Goals as goal
 
 -- who fires, and who expires
@@ -64,13 +73,28 @@ pub tell-requires-clause-there : goal.tell-requires-clause-there
 tell-requires-clause-there g c =
     subst (λ (fs : List Firing). AllByRecursion (λ f. IsSome (subscription_of f.install c.self.inside.live_table.subscriptions)) fs) (sym c.as_slice-2.ensures) (there (asked g (goal.at.tell-requires-clause-there g c).After-facts))
 
+pub tell-requires-clause-serve : goal.tell-requires-clause-serve
+tell-requires-clause-serve g c = c.self.invariant.serve
+
+-- behind the telling, what is kept of what was told
 pub invariant_of-self : goal.invariant_of-self
-invariant_of-self g c = invariant_same (view_of c.self.inside) c.move_to.new.self c.move_to.ensures.subscriptions c.move_to.ensures.table c.self.invariant
+invariant_of-self g c = told_holds (asked g (goal.at.invariant_of-self g c).After-facts) c.tell.new.cache c.tell.ensures.cached
+
+pub invariant_of-self-in_err-expired : goal.invariant_of-self-in_err-expired
+invariant_of-self-in_err-expired g c = told_holds (asked g (goal.at.invariant_of-self-in_err-expired g c).After-facts) c.tell.new.cache c.tell.ensures.cached
+
+pub invariant_of-self-in_err-write_expired : goal.invariant_of-self-in_err-write_expired
+invariant_of-self-in_err-write_expired g c = told_holds (asked g (goal.at.invariant_of-self-in_err-write_expired g c).After-facts) c.tell.new.cache c.tell.ensures.cached
+
+pub invariant_of-self-in_err-move_to : goal.invariant_of-self-in_err-move_to
+invariant_of-self-in_err-move_to g c =
+    let at = goal.at.invariant_of-self-in_err-move_to g c in
+    invariant_same (record (view_of c.self.inside) { cache = c.tell.new.cache }) c.move_to.new.self c.move_to.ensures.subscriptions c.move_to.ensures.table (told_holds (asked g at.After-facts) c.tell.new.cache c.tell.ensures.cached)
 
 pub invariant_of-self-2 : goal.invariant_of-self-2
 invariant_of-self-2 g c =
     let at = goal.at.invariant_of-self-2 g c in
-    moved_holds (asked g at.After-facts) c.take_all.new.live_table (moved g at.After-facts-2)
+    moved_holds (asked g at.After-facts) c.take_all.new.live_table (moved g at.After-facts-2) c.tell.new.cache c.tell.ensures.cached
 
 pub returns-clause-applies : goal.returns-clause-applies
 returns-clause-applies g c =
@@ -80,10 +104,90 @@ returns-clause-applies g c =
     let late : c.instant.result ≤ c.args.instant = c.if-instant.false in
     let here : c.instant.result ≡ was.clock = c.instant.ensures ∙ ap (λ (b : BookState). b.instant) c.book.ensures in
     let later : nat_lt c.args.instant was.clock ≡ false = grind (arith, nat_tests, late, here) in
-    subst (λ (e : EngineState). Applies e (Clock c.args.instant) c.args.out.now.items (Ok c.with-answered.result)
-    (record was { clock = after.instant; count = was.count + 1; subscriptions = after.subscriptions; table = after.table }) c.write_expired.new.out.items) c.self.view_is
+    subst (λ (e : EngineState). Applies e (Clock c.args.instant) c.args.out.now.items (Ok c.with-answered.result) (moved_engine was after c.tell.new.cache) c.write_expired.new.out.items) c.self.view_is
     (moved_applies (asked g at.After-facts) after (moved g at.After-facts-2) later (labels c.args.handlers.now.items.items (λ h. h.name) (λ h. h.kind)) (ap (λ (e : EngineState). e.labels) c.self.view_is ∙ c.requires.handlers)
-    c.args.out.now.items c.write_accepted.new.out.items c.tell.new.out.items c.write_expired.new.out.items c.in_ok-spans.spans c.with-answered.result c.in_ok-answered.ensures.text (written g at.In_ok-write_expired)
+    c.args.out.now.items c.write_accepted.new.out.items c.tell.new.out.items c.write_expired.new.out.items c.in_ok-spans.spans c.with-answered.result c.tell.new.cache c.in_ok-answered.ensures.text (written g at.In_ok-write_expired)
     (ap (λ (a : Answered). a.from) c.with-answered.ensures ∙ ap (λ (a : Answered). a.from) c.in_ok-answered.ensures.places)
     (ap (λ (a : Answered). a.to) c.with-answered.ensures)
     (ap (λ (a : Answered). a.spans) c.with-answered.ensures))
+
+-- what is kept of what was told
+pub returns-then-instant-clause-cached : goal.returns-then-instant-clause-cached
+returns-then-instant-clause-cached g c = keeps_counted c.args.self.now c.refuse.new.self (c.args.self.now.count + 1) c.refuse.ensures.counted
+
+pub returns-in_err-answered-clause-cached : goal.returns-in_err-answered-clause-cached
+returns-in_err-answered-clause-cached g c = keeps_itself c.args.self.now
+
+pub returns-in_err-due-clause-cached : goal.returns-in_err-due-clause-cached
+returns-in_err-due-clause-cached g c = keeps_itself c.args.self.now
+
+pub returns-in_err-firings-clause-cached : goal.returns-in_err-firings-clause-cached
+returns-in_err-firings-clause-cached g c = keeps_itself c.args.self.now
+
+told : (g : Over) (c : After-tell g) {firings : List Firing} {expired : List ℕ} → AreAsked (view_of c.self.inside) c.args.instant firings expired → (table : TableState) → table ≡ c.self.inside.live_table.table
+    → KeepsPairs c.args.self.now.table c.args.self.now.cache table c.tell.new.cache
+told g c asked table same = subst (λ (e : EngineState). KeepsPairs e.table e.cache table c.tell.new.cache) c.self.view_is (told_keeps asked table c.tell.new.cache same c.tell.ensures.cached)
+
+pub returns-in_err-spans-clause-cached : goal.returns-in_err-spans-clause-cached
+returns-in_err-spans-clause-cached g c =
+    let at = goal.at.returns-in_err-spans-clause-cached g c in
+    told g at.After-tell (asked g at.After-facts) c.self.inside.live_table.table refl
+
+pub returns-in_err-expired-clause-cached : goal.returns-in_err-expired-clause-cached
+returns-in_err-expired-clause-cached g c =
+    let at = goal.at.returns-in_err-expired-clause-cached g c in
+    told g at.After-tell (asked g at.After-facts) c.self.inside.live_table.table refl
+
+pub returns-in_err-write_expired-clause-cached : goal.returns-in_err-write_expired-clause-cached
+returns-in_err-write_expired-clause-cached g c =
+    let at = goal.at.returns-in_err-write_expired-clause-cached g c in
+    told g at.After-tell (asked g at.After-facts) c.self.inside.live_table.table refl
+
+pub returns-in_err-move_to-clause-cached : goal.returns-in_err-move_to-clause-cached
+returns-in_err-move_to-clause-cached g c =
+    let at = goal.at.returns-in_err-move_to-clause-cached g c in
+    told g at.After-tell (asked g at.After-facts) c.move_to.new.self.table c.move_to.ensures.table
+
+pub returns-clause-cached : goal.returns-clause-cached
+returns-clause-cached g c =
+    let at = goal.at.returns-clause-cached g c in
+    subst (λ (e : EngineState). KeepsPairs e.table e.cache c.take_all.new.live_table.table c.tell.new.cache) c.self.view_is
+    (moved_keeps (asked g at.After-facts) c.take_all.new.live_table (moved g at.After-facts-2) c.tell.new.cache c.tell.ensures.cached)
+
+-- given up behind the telling, it keeps what it keeps then
+front : (g : Over) (c : After-tell g) → StartsWith c.tell.new.out.items c.args.out.now.items
+front g c = starts_with_trans c.tell.new.out.items c.write_accepted.new.out.items c.args.out.now.items c.tell.ensures.front c.write_accepted.ensures.front
+
+front_expired : (g : Over) (c : After-write_expired g) → StartsWith c.tell.new.out.items c.args.out.now.items → StartsWith c.write_expired.new.out.items c.args.out.now.items
+front_expired g c = starts_with_trans c.write_expired.new.out.items c.tell.new.out.items c.args.out.now.items c.write_expired.ensures.front
+
+given_up_told : (g : Over) (c : After-tell g) (result : Result Answered ApplyError) → result ≡ Err OutOfMemory → (out' : List ℕ) → StartsWith out' c.args.out.now.items
+    → Applies c.args.self.now (Clock c.args.instant) c.args.out.now.items result (record (view_of c.self.inside) { cache = c.tell.new.cache }) out'
+given_up_told g c result failed out' front =
+    applies_cached c.args.self.now (Clock c.args.instant) c.args.out.now.items result (view_of c.self.inside) out' c.tell.new.cache
+    (gives_up c.args.self.now (Clock c.args.instant) c.args.out.now.items result (view_of c.self.inside) out' failed c.self.view_is front)
+
+pub returns-in_err-spans-clause-applies : goal.returns-in_err-spans-clause-applies
+returns-in_err-spans-clause-applies g c =
+    let told = (goal.at.returns-in_err-spans-clause-applies g c).After-tell in
+    given_up_told g told c.from_residual-in_err-spans.result (search rules) c.tell.new.out.items (front g told)
+
+pub returns-in_err-expired-clause-applies : goal.returns-in_err-expired-clause-applies
+returns-in_err-expired-clause-applies g c =
+    let told = (goal.at.returns-in_err-expired-clause-applies g c).After-tell in
+    given_up_told g told c.from_residual-in_err-expired.result (search rules) c.tell.new.out.items (front g told)
+
+pub returns-in_err-write_expired-clause-applies : goal.returns-in_err-write_expired-clause-applies
+returns-in_err-write_expired-clause-applies g c =
+    let at = goal.at.returns-in_err-write_expired-clause-applies g c in
+    given_up_told g at.After-tell c.from_residual-in_err-write_expired.result (search rules) c.write_expired.new.out.items (front_expired g at.After-write_expired (front g at.After-tell))
+
+pub returns-in_err-move_to-clause-applies : goal.returns-in_err-move_to-clause-applies
+returns-in_err-move_to-clause-applies g c =
+    let at = goal.at.returns-in_err-move_to-clause-applies g c in
+    let was = view_of c.self.inside in
+    let written = c.write_expired.new.out.items in
+    let result = c.from_residual-in_err-move_to.result in
+    applies_cached c.args.self.now (Clock c.args.instant) c.args.out.now.items result (with_parts was c.self.inside.store c.move_to.new.self) written c.tell.new.cache
+    (given_up c.self.view_is (Clock c.args.instant) c.args.out.now.items result (search rules) c.self.inside.store (record { changes = refl; sources = refl })
+    c.move_to.new.self (record { subscriptions = c.move_to.ensures.subscriptions; table = c.move_to.ensures.table; instant = c.in_err-move_to.ensures.err }) written (front_expired g at.After-write_expired (front g at.After-tell)))

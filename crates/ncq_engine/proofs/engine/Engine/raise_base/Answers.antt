@@ -23,7 +23,7 @@ is_least : (c : After-raise_base) → c.in_ok-least.least ≡ least_of (view_of 
 is_least c = c.in_ok-least.ensures ∙ ap (λ (b : BookState). least_mark c.self.inside.store b.subscriptions c.args.number) c.book.ensures
 
 there : (c : After-raise_base) → IsThere c.self.inside.live_table.table.files c.args.number
-there c = subst (λ (e : EngineState). IsThere e.table.files c.args.number) (sym c.self.view_is) c.requires
+there c = subst (λ (e : EngineState). IsThere e.table.files c.args.number) (sym c.self.view_is) c.requires.there
 
 low : (c : After-raise_base) → AtFile c.self.inside.live_table.table.files c.args.number (λ kept. kept.content.base ≤ c.in_ok-least.least)
 low c kept at =
@@ -42,7 +42,7 @@ has_moved c =
 
 pub invariant_of-self : goal.invariant_of-self
 invariant_of-self c =
-    moved_holds (view_of c.self.inside) c.raise_base.new.self (moved c) c.raise_base.ensures.number c.raise_base.ensures.next_file c.raise_base.ensures.subscriptions c.facts.ensures.facts.up_to c.self.invariant
+    moved_holds (view_of c.self.inside) c.raise_base.new.self (moved c) c.raise_base.ensures.number c.raise_base.ensures.next_file c.raise_base.ensures.subscriptions c.facts.ensures.facts.up_to (ap (λ (e : EngineState). e.cache) c.self.view_is ∙ c.requires.nothing) c.self.invariant
 
 pub returns-then-base-least-clause-follows : goal.returns-then-base-least-clause-follows
 returns-then-base-least-clause-follows c = (has_moved c).follows
