@@ -1,0 +1,7 @@
+use Rattle.std.proofs.Common.{◌≡◌}
+use Rattle.ncq_callback.specs.Labels.{labels}
+use Rattle.ncq.proofs.tests.told.counted_turns.Given as goal
+
+-- the engine has the names and kinds of the handlers
+abbrev pub invariant-loop-turn : goal.invariant-loop-turn
+invariant-loop-turn g l = l.engine.labels ≡ labels l.handlers.items.items (λ h. h.name) (λ h. h.kind)
