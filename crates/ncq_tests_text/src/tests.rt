@@ -8,7 +8,10 @@ use std::process::Abort;
 
 mod atoms;
 mod blocks;
+mod declared;
+mod entries;
 mod instants;
+mod keys;
 mod lists;
 mod outside;
 mod reports;
@@ -20,6 +23,9 @@ mod tokens;
 mod trees;
 mod words;
 
+/// Two texts of a row.
+type Pair = (&'static str, &'static str);
+
 /// The texts, one behind the other.
 fn joined(alloc: Global, parts: &[&str]) -> Result<Vec<u8>, AllocError> {
     let mut all = Vec::new(alloc);
@@ -27,6 +33,15 @@ fn joined(alloc: Global, parts: &[&str]) -> Result<Vec<u8>, AllocError> {
         all.extend_from_slice(part.as_bytes())?;
     }
     Ok(all)
+}
+
+/// Tells of which row it is that this does not hold.
+fn expect(rt: &impl Abort, holds: bool, row: &str) {
+    assert!(rt; holds, "at {row}");
+}
+
+fn expect_text(rt: &impl Abort, got: &str, want: &str, row: &str) {
+    assert_eq!(rt; got, want, "at {row}");
 }
 
 fn expect_bytes(rt: &impl Abort, got: &[u8], want: &[u8], why: &str) {
@@ -56,7 +71,7 @@ fn items_of(alloc: Global, text: &str) -> Result<Items, AllocError> {
 }
 
 /// The sections of a batch: each the name of a source, and lines that are parted by slashes.
-fn sections_of(alloc: Global, sections: &[(&str, &str)]) -> Result<Sections, AllocError> {
+fn sections_of(alloc: Global, sections: &[Pair]) -> Result<Sections, AllocError> {
     let mut all = Sections::new(alloc);
     for (name, text) in sections {
         all.push(Section {

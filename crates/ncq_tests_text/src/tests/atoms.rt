@@ -1,11 +1,11 @@
 //! Atoms, their order and their texts; intervals.
 
-use super::expect_bytes;
+use super::{Pair, expect, expect_bytes};
 use ncq_base::{
     Atom, Copied, End, Interval, Op, atom_of, bytes_of, compare, holds, in_interval, into_atom,
     is_atom_of, same, total_order, write_atom,
 };
-use std::alloc::Global;
+use std::alloc::{AllocError, Global};
 use std::cmp::Ordering;
 use std::process::Abort;
 use std::test::Fail;
@@ -57,31 +57,56 @@ const TEXTS: &[&str] = &[
     "-.5",
 ];
 
-fn expect_atom(rt: &impl Abort, alloc: Global, text: &str, want: &Atom) -> Result<(), Fail> {
-    assert!(rt; atom_of(alloc, text.as_bytes())? == *want, "{text}");
-    assert!(rt;
-        into_atom(bytes_of(alloc, text.as_bytes())?) == *want,
-        "{text}"
-    );
-    assert!(rt; is_atom_of(want, text.as_bytes()), "{text}");
+/// Whether this atom is read of the text.
+fn is_read(alloc: Global, text: &str, want: &Atom) -> Result<bool, AllocError> {
+    let read = atom_of(alloc, text.as_bytes())?;
+    Ok(read == *want)
+}
+
+/// Whether this atom is made of the bytes of the text.
+fn is_made(alloc: Global, text: &str, want: &Atom) -> Result<bool, AllocError> {
+    let made = into_atom(bytes_of(alloc, text.as_bytes())?);
+    Ok(made == *want)
+}
+
+fn expect_atom(rt: &impl Abort, alloc: Global, text: &str, want: &Atom) -> Result<(), AllocError> {
+    expect(rt, is_read(alloc, text, want)?, text);
+    expect(rt, is_made(alloc, text, want)?, text);
+    expect(rt, is_atom_of(want, text.as_bytes()), text);
     Ok(())
+}
+
+fn expect_number(
+    rt: &impl Abort,
+    alloc: Global,
+    text: &str,
+    millionths: i128,
+) -> Result<(), AllocError> {
+    let want = Atom::Num(millionths);
+    expect_atom(rt, alloc, text, &want)
+}
+
+/// The text is its own atom.
+fn expect_plain(rt: &impl Abort, alloc: Global, text: &str) -> Result<(), AllocError> {
+    let want = Atom::Text(bytes_of(alloc, text.as_bytes())?);
+    expect_atom(rt, alloc, text, &want)
 }
 
 #[test]
 fn a_text_is_a_number_or_a_text(rt: HostRuntime) -> Result<(), Fail> {
-    let alloc = rt.alloc();
     for (text, millionths) in NUMBERS {
-        expect_atom(&rt, alloc, text, &Atom::Num(*millionths))?;
+        expect_number(&rt, rt.alloc(), text, *millionths)?;
     }
     for text in TEXTS {
-        let want = Atom::Text(bytes_of(alloc, text.as_bytes())?);
-        expect_atom(&rt, alloc, text, &want)?;
+        expect_plain(&rt, rt.alloc(), text)?;
     }
     Ok(())
 }
 
 /// Two texts, whether both are numbers, and their order.
-const ORDERS: &[(&str, &str, bool, Ordering)] = &[
+type Ordered = (&'static str, &'static str, bool, Ordering);
+
+const ORDERS: &[Ordered] = &[
     ("1", "1.0", true, Ordering::Equal),
     ("-0", "0", true, Ordering::Equal),
     ("2", "10", true, Ordering::Less),
@@ -105,29 +130,31 @@ fn expect_holds(rt: &impl Abort, a: &Atom, b: &Atom, numbers: bool, order: Order
     assert!(rt; holds(Op::Ge, a, b) == (numbers && !less));
 }
 
-fn expect_order(
-    rt: &impl Abort,
-    alloc: Global,
-    a: &Atom,
-    b: &Atom,
-    numbers: bool,
-    order: Ordering,
-) -> Result<(), Fail> {
+fn is_same_as_its_copy(alloc: Global, a: &Atom) -> Result<bool, AllocError> {
+    let copy = a.copy(alloc)?;
+    Ok(same(a, &copy))
+}
+
+fn expect_order(rt: &impl Abort, a: &Atom, b: &Atom, numbers: bool, order: Ordering) {
     assert!(rt; total_order(a, b) == order);
     assert!(rt; compare(a, b) == numbers.then_some(order));
     assert!(rt; same(a, b) == (order == Ordering::Equal));
-    assert!(rt; same(a, &a.copy(alloc)?));
+}
+
+fn expect_compared(rt: &impl Abort, alloc: Global, row: &Ordered) -> Result<(), AllocError> {
+    let (left, right, numbers, order) = *row;
+    let a = atom_of(alloc, left.as_bytes())?;
+    let b = atom_of(alloc, right.as_bytes())?;
+    expect_order(rt, &a, &b, numbers, order);
+    expect_holds(rt, &a, &b, numbers, order);
+    expect(rt, is_same_as_its_copy(alloc, &a)?, left);
     Ok(())
 }
 
 #[test]
 fn atoms_are_compared_by_value(rt: HostRuntime) -> Result<(), Fail> {
-    let alloc = rt.alloc();
-    for (left, right, numbers, order) in ORDERS {
-        let a = atom_of(alloc, left.as_bytes())?;
-        let b = atom_of(alloc, right.as_bytes())?;
-        expect_order(&rt, alloc, &a, &b, *numbers, *order)?;
-        expect_holds(&rt, &a, &b, *numbers, *order);
+    for row in ORDERS {
+        expect_compared(&rt, rt.alloc(), row)?;
     }
     Ok(())
 }
@@ -144,29 +171,38 @@ const NUMBER_TEXTS: &[(i128, &str)] = &[
 ];
 
 /// Texts, and how they are written.
-const QUOTED: &[(&str, &str)] = &[
+const QUOTED: &[Pair] = &[
     ("", "\"\""),
     ("INTC", "\"INTC\""),
     ("a\"", "\"a\\\"\""),
     ("\n\t\r\\", "\"\\n\\t\\r\\\\\""),
 ];
 
-fn expect_text(rt: &impl Abort, alloc: Global, atom: &Atom, want: &str) -> Result<(), Fail> {
+fn written(alloc: Global, atom: &Atom) -> Result<Vec<u8>, AllocError> {
     let mut out = Vec::new(alloc);
     write_atom(atom, &mut out)?;
-    expect_bytes(rt, &out, want.as_bytes(), "");
-    Ok(())
+    Ok(out)
+}
+
+fn written_number(alloc: Global, millionths: i128) -> Result<Vec<u8>, AllocError> {
+    let atom = Atom::Num(millionths);
+    written(alloc, &atom)
+}
+
+fn written_text(alloc: Global, text: &str) -> Result<Vec<u8>, AllocError> {
+    let atom = Atom::Text(bytes_of(alloc, text.as_bytes())?);
+    written(alloc, &atom)
 }
 
 #[test]
 fn atoms_are_written(rt: HostRuntime) -> Result<(), Fail> {
-    let alloc = rt.alloc();
     for (millionths, want) in NUMBER_TEXTS {
-        expect_text(&rt, alloc, &Atom::Num(*millionths), want)?;
+        let out = written_number(rt.alloc(), *millionths)?;
+        expect_bytes(&rt, &out, want.as_bytes(), "");
     }
     for (text, want) in QUOTED {
-        let atom = Atom::Text(bytes_of(alloc, text.as_bytes())?);
-        expect_text(&rt, alloc, &atom, want)?;
+        let out = written_text(rt.alloc(), text)?;
+        expect_bytes(&rt, &out, want.as_bytes(), "");
     }
     Ok(())
 }
@@ -184,18 +220,29 @@ const INTERVALS: &[(End, End, [bool; 3])] = &[
     (End::Included(11), End::Included(9), [false, false, false]),
 ];
 
+fn holds_number(interval: &Interval, millionths: i128) -> bool {
+    let number = Atom::Num(millionths);
+    in_interval(interval, &number)
+}
+
+/// Compares whether the interval holds 9, 10 and 11; it holds no text.
+fn expect_held(rt: &impl Abort, interval: &Interval, want: &[bool; 3], text: &Atom) {
+    let [nine, ten, eleven] = *want;
+    assert!(rt; holds_number(interval, 9) == nine);
+    assert!(rt; holds_number(interval, 10) == ten);
+    assert!(rt; holds_number(interval, 11) == eleven);
+    assert!(rt; !in_interval(interval, text));
+}
+
 #[test]
 fn an_interval_holds_the_numbers_between_its_ends(rt: HostRuntime) -> Result<(), Fail> {
     let text = Atom::Text(bytes_of(rt.alloc(), b"10")?);
-    for (low, high, [nine, ten, eleven]) in INTERVALS {
+    for (low, high, held) in INTERVALS {
         let interval = Interval {
             low: *low,
             high: *high,
         };
-        assert!(rt; in_interval(&interval, &Atom::Num(9)) == *nine);
-        assert!(rt; in_interval(&interval, &Atom::Num(10)) == *ten);
-        assert!(rt; in_interval(&interval, &Atom::Num(11)) == *eleven);
-        assert!(rt; !in_interval(&interval, &text));
+        expect_held(&rt, &interval, held, &text);
     }
     Ok(())
 }

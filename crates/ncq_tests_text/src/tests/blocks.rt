@@ -1,6 +1,6 @@
 //! Blocks of PYX lines, read and written.
 
-use super::{lines_of, push_line};
+use super::{Pair, expect_bytes, expect_text, lines_of, push_line};
 use ncq_base::{Lines, bytes_of};
 use ncq_pyx::{Item, Items, MAX_NESTING, PyxError, read_block, write_element, write_forest};
 use ncq_tree::{Attribute, Attributes, Element, Forest, Node};
@@ -23,42 +23,57 @@ fn write_items(items: Items, out: &mut Vec<u8>) -> Result<(), AllocError> {
     Ok(())
 }
 
-/// What the lines spell, as lines that each end by a slash, each byte as a character; or the error
-/// and its line.
+/// The lines that the items are written as, each ended by a slash, each byte as a character.
+fn show(alloc: Global, items: Items) -> Result<String, AllocError> {
+    let mut out = Vec::new(alloc);
+    write_items(items, &mut out)?;
+    let mut shown = String::new(alloc);
+    for byte in &out {
+        let shown_byte = if *byte == b'\n' { b'/' } else { *byte };
+        shown.push(char::from(shown_byte))?;
+    }
+    Ok(shown)
+}
+
+/// What the lines spell, as lines that each end by a slash; or the error and its line.
 fn answer(alloc: Global, lines: &Lines) -> Result<String, AllocError> {
     match read_block(alloc, lines) {
-        Ok(items) => {
-            let mut out = Vec::new(alloc);
-            write_items(items, &mut out)?;
-            let mut shown = String::new(alloc);
-            for byte in &out {
-                let shown_byte = if *byte == b'\n' { b'/' } else { *byte };
-                shown.push(char::from(shown_byte))?;
-            }
-            Ok(shown)
-        }
+        Ok(items) => show(alloc, items),
         Err(PyxError::BadLine { line }) => format!(in alloc; "bad {line}"),
         Err(PyxError::TooDeep { line }) => format!(in alloc; "deep {line}"),
         Err(PyxError::OutOfMemory) => Err(AllocError),
     }
 }
 
-/// Compares what the lines of each case spell, or the fault and its line.
-fn expect_answers(
+/// What the lines, parted by slashes, spell.
+fn answer_to(alloc: Global, text: &[u8]) -> Result<String, AllocError> {
+    let lines = lines_of(alloc, text)?;
+    answer(alloc, &lines)
+}
+
+/// Compares what the lines spell, or the fault and its line.
+fn expect_answer(
     rt: &impl Abort,
     alloc: Global,
-    cases: &[(&str, &str)],
+    text: &[u8],
+    want: &str,
+    row: &str,
 ) -> Result<(), AllocError> {
+    let got = answer_to(alloc, text)?;
+    expect_text(rt, got.as_str(), want, row);
+    Ok(())
+}
+
+/// Compares what the lines of each case spell, or the fault and its line.
+fn expect_answers(rt: &impl Abort, alloc: Global, cases: &[Pair]) -> Result<(), AllocError> {
     for (text, want) in cases {
-        let lines = lines_of(alloc, text.as_bytes())?;
-        let got = answer(alloc, &lines)?;
-        assert_eq!(rt; got.as_str(), *want, "at {text}");
+        expect_answer(rt, alloc, text.as_bytes(), want, text)?;
     }
     Ok(())
 }
 
 /// Lines outside elements.
-const OUTSIDE: [(&str, &str); 40] = [
+const OUTSIDE: &[Pair] = &[
     // Empty lines and lines of other tools are skipped, whatever follows their first byte.
     ("", ""),
     ("//", ""),
@@ -106,7 +121,7 @@ const OUTSIDE: [(&str, &str); 40] = [
 ];
 
 /// Lines that open and close elements.
-const BRACKETS: [(&str, &str); 45] = [
+const BRACKETS: &[Pair] = &[
     ("(a/)a", "(a/)a/"),
     ("(a/)a/(b/)b", "(a/)a/(b/)b/"),
     ("(a/)a/!k/(b/)b", "(a/)a/!k/(b/)b/"),
@@ -160,7 +175,7 @@ const BRACKETS: [(&str, &str); 45] = [
 ];
 
 /// Attribute lines.
-const ATTRIBUTES: [(&str, &str); 46] = [
+const ATTRIBUTES: &[Pair] = &[
     // The name ends at the first space, and the value is all behind it, white space too.
     ("(a/Ab/)a", "(a/Ab /)a/"),
     ("(a/Ab /)a", "(a/Ab /)a/"),
@@ -218,7 +233,7 @@ const ATTRIBUTES: [(&str, &str); 46] = [
 ];
 
 /// Texts and other lines inside elements.
-const TEXTS: [(&str, &str); 46] = [
+const TEXTS: &[Pair] = &[
     ("(a/-x/)a", "(a/-x/)a/"),
     ("(a/-x y/)a", "(a/-x y/)a/"),
     ("(a/--/)a", "(a/--/)a/"),
@@ -276,35 +291,36 @@ const TEXTS: [(&str, &str); 46] = [
 #[test]
 fn each_line_where_it_may_stand_and_where_not(rt: HostRuntime) -> Result<(), Fail> {
     let alloc = rt.alloc();
-    expect_answers(&rt, alloc, &OUTSIDE)?;
-    expect_answers(&rt, alloc, &BRACKETS)?;
-    expect_answers(&rt, alloc, &ATTRIBUTES)?;
-    expect_answers(&rt, alloc, &TEXTS)?;
+    expect_answers(&rt, alloc, OUTSIDE)?;
+    expect_answers(&rt, alloc, BRACKETS)?;
+    expect_answers(&rt, alloc, ATTRIBUTES)?;
+    expect_answers(&rt, alloc, TEXTS)?;
     Ok(())
 }
 
+/// Lines with bytes that are no text.
+const NO_TEXTS: &[(&[u8], &str)] = &[
+    (b"\xff", "bad 1"),
+    (b"-\xff", "bad 1"),
+    (b"!\0\xff", "!\0\u{ff}/"),
+    (b"(\xff/)\xfe", "bad 2"),
+    (
+        b"(\xff/A\xff \xff/-\xff/)\xff",
+        "(\u{ff}/A\u{ff} \u{ff}/-\u{ff}/)\u{ff}/",
+    ),
+    (b"(\0/A\0 \0/-\0/)\0", "(\0/A\0 \0/-\0/)\0/"),
+    (
+        b"(a/A\xff 1/A\x80 2/Az 3/)a",
+        "(a/Az 3/A\u{80} 2/A\u{ff} 1/)a/",
+    ),
+    (b"(a/-\\\xff/)a", "(a/-\\\\\u{ff}/)a/"),
+    (b"(a/-\x85\xa0/)a", "(a/-\u{85}\u{a0}/)a/"),
+];
+
 #[test]
 fn bytes_that_are_no_text_are_kept(rt: HostRuntime) -> Result<(), Fail> {
-    let alloc = rt.alloc();
-    for (text, want) in [
-        (b"\xff".as_slice(), "bad 1"),
-        (b"-\xff", "bad 1"),
-        (b"!\0\xff", "!\0\u{ff}/"),
-        (b"(\xff/)\xfe", "bad 2"),
-        (
-            b"(\xff/A\xff \xff/-\xff/)\xff",
-            "(\u{ff}/A\u{ff} \u{ff}/-\u{ff}/)\u{ff}/",
-        ),
-        (b"(\0/A\0 \0/-\0/)\0", "(\0/A\0 \0/-\0/)\0/"),
-        (
-            b"(a/A\xff 1/A\x80 2/Az 3/)a",
-            "(a/Az 3/A\u{80} 2/A\u{ff} 1/)a/",
-        ),
-        (b"(a/-\\\xff/)a", "(a/-\\\\\u{ff}/)a/"),
-        (b"(a/-\x85\xa0/)a", "(a/-\u{85}\u{a0}/)a/"),
-    ] {
-        let got = answer(alloc, &lines_of(alloc, text)?)?;
-        assert_eq!(rt; got.as_str(), want);
+    for (text, want) in NO_TEXTS {
+        expect_answer(&rt, rt.alloc(), text, want, want)?;
     }
     Ok(())
 }
@@ -322,46 +338,97 @@ fn nested(alloc: Global, opened: usize, line: &str, closed: usize) -> Result<Lin
     Ok(lines)
 }
 
+/// What the lines of `nested` spell.
+fn answer_to_nested(
+    alloc: Global,
+    opened: usize,
+    line: &str,
+    closed: usize,
+) -> Result<String, AllocError> {
+    let lines = nested(alloc, opened, line, closed)?;
+    answer(alloc, &lines)
+}
+
+/// How many elements are opened, a line, how many are closed, and the answer.
+type Nested = (usize, &'static str, usize, &'static str);
+
+const NESTED: &[Nested] = &[
+    (64, "(e", 65, "deep 65"),
+    (65, "", 65, "deep 65"),
+    (64, "(", 65, "bad 65"),
+    (64, "", 63, "bad 129"),
+    (64, "", 65, "bad 130"),
+];
+
+fn expect_nested(rt: &impl Abort, alloc: Global, row: &Nested) -> Result<(), AllocError> {
+    let (opened, line, closed, want) = *row;
+    let got = answer_to_nested(alloc, opened, line, closed)?;
+    expect_text(rt, got.as_str(), want, line);
+    Ok(())
+}
+
+/// Whether a line is read inside as many elements as there may be.
+fn is_read_at_the_limit(alloc: Global) -> Result<bool, AllocError> {
+    let lines = nested(alloc, MAX_NESTING, "-x", MAX_NESTING)?;
+    Ok(read_block(alloc, &lines).is_ok())
+}
+
 #[test]
 fn nesting_has_a_limit(rt: HostRuntime) -> Result<(), Fail> {
-    let alloc = rt.alloc();
-    assert!(rt; read_block(alloc, &nested(alloc, MAX_NESTING, "-x", MAX_NESTING)?).is_ok());
-    let cases = [
-        (64, "(e", 65, "deep 65"),
-        (65, "", 65, "deep 65"),
-        (64, "(", 65, "bad 65"),
-        (64, "", 63, "bad 129"),
-        (64, "", 65, "bad 130"),
-    ];
-    for (opened, line, closed, want) in cases {
-        let got = answer(alloc, &nested(alloc, opened, line, closed)?)?;
-        assert_eq!(rt; got.as_str(), want);
+    assert!(rt; is_read_at_the_limit(rt.alloc())?);
+    for row in NESTED {
+        expect_nested(&rt, rt.alloc(), row)?;
     }
     Ok(())
 }
 
-#[test]
-fn a_forest_is_written(rt: HostRuntime) -> Result<(), Fail> {
-    let alloc = rt.alloc();
+/// The attribute `id`, whose value ends by LF.
+fn one_attribute(alloc: Global) -> Result<Attributes, AllocError> {
+    let name = bytes_of(alloc, b"id")?;
+    let value = bytes_of(alloc, b"7\n")?;
     let mut attributes = Attributes::new(alloc);
-    attributes.push(Attribute {
-        name: bytes_of(alloc, b"id")?,
-        value: bytes_of(alloc, b"7\n")?,
-    })?;
+    attributes.push(Attribute { name, value })?;
+    Ok(attributes)
+}
+
+fn push_text(alloc: Global, forest: &mut Forest, text: &[u8]) -> Result<(), AllocError> {
+    let text = bytes_of(alloc, text)?;
+    forest.push(Node::Text(text))
+}
+
+/// An element with an attribute and a text.
+fn one_element(alloc: Global) -> Result<Element, AllocError> {
+    let name = bytes_of(alloc, b"C")?;
+    let attributes = one_attribute(alloc)?;
     let mut children = Forest::new(alloc);
-    children.push(Node::Text(bytes_of(alloc, b"a\tb\\")?))?;
-    let mut forest = Forest::new(alloc);
-    forest.push(Node::Text(bytes_of(alloc, b"x")?))?;
-    forest.push(Node::Element(Element {
-        name: bytes_of(alloc, b"C")?,
+    push_text(alloc, &mut children, b"a\tb\\")?;
+    Ok(Element {
+        name,
         attributes,
         children,
-    }))?;
-    let mut out = Vec::from_slice(alloc, b"gain 1\n")?;
+    })
+}
+
+/// A text and an element.
+fn one_forest(alloc: Global) -> Result<Forest, AllocError> {
+    let mut forest = Forest::new(alloc);
+    push_text(alloc, &mut forest, b"x")?;
+    forest.push(Node::Element(one_element(alloc)?))?;
+    Ok(forest)
+}
+
+/// The lines of that forest behind a line.
+fn written_behind(alloc: Global, line: &[u8]) -> Result<Vec<u8>, AllocError> {
+    let forest = one_forest(alloc)?;
+    let mut out = Vec::from_slice(alloc, line)?;
     write_forest(&forest, &mut out)?;
-    assert_eq!(rt;
-        out.as_slice(),
-        b"gain 1\n-x\n(C\nAid 7\\n\n-a\\tb\\\\\n)C\n".as_slice()
-    );
+    Ok(out)
+}
+
+#[test]
+fn a_forest_is_written(rt: HostRuntime) -> Result<(), Fail> {
+    let out = written_behind(rt.alloc(), b"gain 1\n")?;
+    let want = b"gain 1\n-x\n(C\nAid 7\\n\n-a\\tb\\\\\n)C\n";
+    expect_bytes(&rt, &out, want, "");
     Ok(())
 }

@@ -16,15 +16,27 @@ fn lines_of(alloc: Global, texts: &[&str]) -> Result<Sequence<Bytes>, AllocError
 
 const LINES: &[&str] = &["a", "", "b\0"];
 
+/// The list has this line at this place.
+fn expect_line(rt: &impl Abort, kept: &Sequence<Bytes>, at: usize, line: &str) -> Result<(), Fail> {
+    let there = kept.get(at).ok_or("a line is missing")?;
+    expect_bytes(rt, there.as_slice(), line.as_bytes(), "");
+    Ok(())
+}
+
 /// The list has just these lines.
 fn expect_lines(rt: &impl Abort, kept: &Sequence<Bytes>, want: &[&str]) -> Result<(), Fail> {
     assert!(rt; kept.len() == want.len() && kept.as_slice().len() == want.len());
     assert!(rt; kept.get(want.len()).is_none());
     for (at, line) in want.iter().enumerate() {
-        let there = kept.get(at).ok_or("a line is missing")?;
-        expect_bytes(rt, there.as_slice(), line.as_bytes(), "");
+        expect_line(rt, kept, at, line)?;
     }
     Ok(())
+}
+
+/// Whether the list that is made of the lines anew is equal to the copy.
+fn is_made_anew(lines: Sequence<Bytes>, copy: &Sequence<Bytes>) -> bool {
+    let taken = Sequence::from_vec(lines.into_vec());
+    taken == *copy
 }
 
 #[test]
@@ -33,15 +45,20 @@ fn a_list_and_its_copy_have_the_same_lines(rt: HostRuntime) -> Result<(), Fail> 
     let copy = lines.copy(rt.alloc())?;
     expect_lines(&rt, &lines, LINES)?;
     expect_lines(&rt, &copy, LINES)?;
-    let taken = Sequence::from_vec(lines.into_vec());
-    assert!(rt; taken == copy);
+    assert!(rt; is_made_anew(lines, &copy));
     Ok(())
+}
+
+/// A list with another behind it.
+fn appended(alloc: Global) -> Result<Sequence<Bytes>, AllocError> {
+    let mut lines = lines_of(alloc, &["a"])?;
+    lines.append(lines_of(alloc, &["", "b\0"])?)?;
+    Ok(lines)
 }
 
 #[test]
 fn a_list_behind_another_comes_last(rt: HostRuntime) -> Result<(), Fail> {
-    let mut lines = lines_of(rt.alloc(), &["a"])?;
-    lines.append(lines_of(rt.alloc(), &["", "b\0"])?)?;
+    let lines = appended(rt.alloc())?;
     expect_lines(&rt, &lines, LINES)?;
     Ok(())
 }

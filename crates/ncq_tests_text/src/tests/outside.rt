@@ -18,21 +18,31 @@ fn calls(alloc: Global, numbers: &[u64]) -> Result<Calls, AllocError> {
     Ok(all)
 }
 
-/// Reads once for each entry into a buffer of 3 bytes. `None` is a failed call.
+/// Reads once into a buffer of 3 bytes. `None` is a failed call.
+fn expect_read<S: Source>(rt: &impl Abort, source: &mut S, want: Option<&str>) {
+    let mut buf = [0u8; 3];
+    let got = source.read(&mut buf);
+    let bytes = got.ok().map(|count| &buf[..count.min(3)]);
+    assert_eq!(rt; bytes, want.map(|text| text.as_bytes()));
+}
+
+/// Reads once for each entry.
 fn expect_reads<S: Source>(rt: &impl Abort, source: &mut S, wanted: &[Option<&str>]) {
     for want in wanted {
-        let mut buf = [0u8; 3];
-        let got = source.read(&mut buf);
-        let bytes = got.ok().map(|count| &buf[..count.min(3)]);
-        assert_eq!(rt; bytes, want.map(|text| text.as_bytes()));
+        expect_read(rt, source, *want);
     }
 }
 
-/// Writes each text once, and compares the count. `None` is a failed call.
+/// Writes the text once, and compares the count. `None` is a failed call.
+fn expect_write<S: Sink>(rt: &impl Abort, sink: &mut S, text: &str, want: Option<usize>) {
+    assert!(rt; !text.is_empty());
+    assert_eq!(rt; sink.write(text.as_bytes()).ok(), want, "{text}");
+}
+
+/// Writes each text once.
 fn expect_writes<S: Sink>(rt: &impl Abort, sink: &mut S, wanted: &[(&str, Option<usize>)]) {
     for (text, want) in wanted {
-        assert!(rt; !text.is_empty());
-        assert_eq!(rt; sink.write(text.as_bytes()).ok(), *want, "{text}");
+        expect_write(rt, sink, text, *want);
     }
 }
 

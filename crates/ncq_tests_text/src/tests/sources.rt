@@ -1,99 +1,18 @@
-//! Deltas and batches in turn, what their elements and entries are, and the keys of elements.
+//! Deltas and batches in turn, and what their sources then show.
 
 ghost use Rattle.std.specs.Prelude.{◌<◌, ◌^◌, ◌-◌};
-ghost use Rattle.ncq_source.specs.StoreStates.{AreDeclared};
+ghost use Rattle.ncq_source.specs.StoreStates.{AreDeclared, IsDeclared};
 
-use super::{items_of, sections_of};
-use ncq_base::{Bytes, Copied, Shared, bytes_of};
-use ncq_pyx::{Item, Written, write_element};
-use ncq_source::{
-    Change, ChangeError, DeclareError, Entry, Key, Portion, SourceId, Store, child_value, key_of,
-};
-use ncq_tree::{Attribute, Attributes, Element, Forest, Node, string_value};
+use super::declared::{declare_by_attribute, sources};
+use super::{Pair, expect, expect_bytes, sections_of};
+use ncq_base::Bytes;
+use ncq_pyx::write_element;
+use ncq_source::{Change, ChangeError, SourceId, Store};
+use ncq_tree::string_value;
 use std::alloc::{AllocError, Global};
 use std::hash::RandomState;
 use std::process::Abort;
 use std::test::Fail;
-
-/// The element that the item puts.
-fn put_by(alloc: Global, item: Option<Item>) -> Result<Element, AllocError> {
-    match &item {
-        Some(Item::Put(element)) => element.get().element().copy(alloc),
-        _ => Err(AllocError),
-    }
-}
-
-/// The element that the lines put last.
-fn element_of(alloc: Global, text: &str) -> Result<Element, AllocError> {
-    let mut items = items_of(alloc, text)?.into_vec();
-    put_by(alloc, items.pop())
-}
-
-fn child(alloc: Global, name: &str) -> Result<Key, AllocError> {
-    let name = bytes_of(alloc, name.as_bytes())?;
-    Ok(Key::Child(name))
-}
-
-fn attribute(alloc: Global, name: &str) -> Result<Key, AllocError> {
-    let name = bytes_of(alloc, name.as_bytes())?;
-    Ok(Key::Attribute(name))
-}
-
-/// Whether a source was declared.
-fn is_new(answer: Result<SourceId, DeclareError>) -> Result<bool, AllocError> {
-    match answer {
-        Ok(_) => Ok(true),
-        Err(DeclareError::Exists) => Ok(false),
-        Err(DeclareError::OutOfMemory) => Err(AllocError),
-    }
-}
-
-/// Declares a source, and tells whether there was none of its name.
-fn declare(
-    alloc: Global,
-    store: &mut Store,
-    name: &str,
-    root: &str,
-    key: Key,
-) -> Result<bool, AllocError> {
-    let name = bytes_of(alloc, name.as_bytes())?;
-    let root = bytes_of(alloc, root.as_bytes())?;
-    is_new(store.declare(alloc, name, root, key))
-}
-
-/// Declares a source whose key is a child.
-fn declare_by_child(
-    alloc: Global,
-    store: &mut Store,
-    name: &str,
-    root: &str,
-    key: &str,
-) -> Result<bool, AllocError> {
-    let key = child(alloc, key)?;
-    declare(alloc, store, name, root, key)
-}
-
-/// Declares a source whose key is an attribute.
-fn declare_by_attribute(
-    alloc: Global,
-    store: &mut Store,
-    name: &str,
-    root: &str,
-    key: &str,
-) -> Result<bool, AllocError> {
-    let key = attribute(alloc, key)?;
-    declare(alloc, store, name, root, key)
-}
-
-/// A store with the sources `quotes` and `companies`, whose key is the child `Symbol`, and `c`,
-/// whose key is the attribute `id`.
-fn sources(alloc: Global, seed: RandomState) -> Result<Store, AllocError> {
-    let mut store = Store::new(alloc, seed);
-    declare_by_child(alloc, &mut store, "quotes", "Quotes", "Symbol")?;
-    declare_by_child(alloc, &mut store, "companies", "Companies", "Symbol")?;
-    declare_by_attribute(alloc, &mut store, "c", "Cs", "id")?;
-    Ok(store)
-}
 
 /// Gives the change room and commits it: its number.
 fn commit(alloc: Global, store: &mut Store, change: Change) -> Result<String, AllocError>
@@ -117,11 +36,7 @@ fn reason(alloc: Global, error: ChangeError) -> Result<String, AllocError> {
 
 /// The change that the sections ask for, each with a source and lines: prepared, given room and
 /// committed. Its number, or why there is none.
-fn deliver(
-    alloc: Global,
-    store: &mut Store,
-    sections: &[(&str, &str)],
-) -> Result<String, AllocError> {
+fn deliver(alloc: Global, store: &mut Store, sections: &[Pair]) -> Result<String, AllocError> {
     if store.changes() == u64::MAX {
         return Err(AllocError);
     }
@@ -136,7 +51,7 @@ fn deliver(
 fn is_answered(
     alloc: Global,
     store: &mut Store,
-    sections: &[(&str, &str)],
+    sections: &[Pair],
     want: &str,
 ) -> Result<bool, AllocError> {
     let answer = deliver(alloc, store, sections)?;
@@ -177,8 +92,11 @@ fn shows(alloc: Global, store: &Store, name: &str, want: &str) -> Result<bool, A
     Ok(text.as_slice() == want.as_bytes())
 }
 
-/// Deltas in turn: the source, the lines, the answer, and what the source then shows.
-const IN_TURN: &[&[(&str, &str, &str, &str)]] = &[
+/// A source, lines, the answer, and what the source then shows.
+type Delta = (&'static str, &'static str, &'static str, &'static str);
+
+/// Deltas in turn.
+const IN_TURN: &[&[Delta]] = &[
     // an element stands under its attribute
     &[
         ("c", "(C/Aid 7/-a/- b/?x/-\\n/)C", "ok 1", "a b|"),
@@ -276,14 +194,15 @@ fn expect_delta(
     rt: &impl Abort,
     alloc: Global,
     store: &mut Store,
-    delta: &(&str, &str, &str, &str),
+    delta: &Delta,
 ) -> Result<(), AllocError> {
-    let (name, text, answer, elements) = delta;
-    assert!(rt;
-        is_answered(alloc, store, &[(*name, *text)], answer)?,
-        "at {text}"
+    let (name, text, answer, elements) = *delta;
+    expect(
+        rt,
+        is_answered(alloc, store, &[(name, text)], answer)?,
+        text,
     );
-    assert!(rt; shows(alloc, store, name, elements)?, "at {text}");
+    expect(rt, shows(alloc, store, name, elements)?, text);
     Ok(())
 }
 
@@ -292,7 +211,7 @@ fn expect_deltas(
     rt: &impl Abort,
     alloc: Global,
     seed: RandomState,
-    deltas: &[(&str, &str, &str, &str)],
+    deltas: &[Delta],
 ) -> Result<(), AllocError> {
     let mut store = sources(alloc, seed)?;
     for delta in deltas {
@@ -310,9 +229,12 @@ fn deltas_are_answered_in_turn(rt: HostRuntime) -> Result<(), Fail> {
     Ok(())
 }
 
-/// Batches in turn: the sections, each with a source and lines; the answer; and what `quotes` and
-/// `companies` then show.
-const BATCHES: &[&[(&[(&str, &str)], &str, &str, &str)]] = &[
+/// The sections, each with a source and lines; the answer; and what `quotes` and `companies` then
+/// show.
+type Batch = (&'static [Pair], &'static str, &'static str, &'static str);
+
+/// Batches in turn.
+const BATCHES: &[&[Batch]] = &[
     // a section of a source sees the sections before it
     &[
         (
@@ -406,18 +328,34 @@ const BATCHES: &[&[(&[(&str, &str)], &str, &str, &str)]] = &[
     ],
 ];
 
+fn expect_answer(rt: &impl Abort, got: &str, want: &str) {
+    assert!(rt; got == want, "{got} in place of {want}");
+}
+
+/// Delivers the sections, and compares the answer.
+fn expect_delivered(
+    rt: &impl Abort,
+    alloc: Global,
+    store: &mut Store,
+    sections: &[Pair],
+    want: &str,
+) -> Result<(), AllocError> {
+    let got = deliver(alloc, store, sections)?;
+    expect_answer(rt, got.as_str(), want);
+    Ok(())
+}
+
 /// Delivers a batch, and compares.
 fn expect_batch(
     rt: &impl Abort,
     alloc: Global,
     store: &mut Store,
-    batch: &(&[(&str, &str)], &str, &str, &str),
+    batch: &Batch,
 ) -> Result<(), AllocError> {
-    let (sections, answer, quotes, companies) = batch;
-    let got = deliver(alloc, store, sections)?;
-    assert!(rt; got.as_str() == *answer, "{got} in place of {answer}");
-    assert!(rt; shows(alloc, store, "quotes", quotes)?, "at {answer}");
-    assert!(rt; shows(alloc, store, "companies", companies)?, "at {answer}");
+    let (sections, answer, quotes, companies) = *batch;
+    expect_delivered(rt, alloc, store, sections, answer)?;
+    expect(rt, shows(alloc, store, "quotes", quotes)?, answer);
+    expect(rt, shows(alloc, store, "companies", companies)?, answer);
     Ok(())
 }
 
@@ -426,7 +364,7 @@ fn expect_batches(
     rt: &impl Abort,
     alloc: Global,
     seed: RandomState,
-    batches: &[(&[(&str, &str)], &str, &str, &str)],
+    batches: &[Batch],
 ) -> Result<(), AllocError> {
     let mut store = sources(alloc, seed)?;
     for batch in batches {
@@ -451,38 +389,65 @@ const TOLD: &[(&str, &str, u64)] = &[
     ("c", "Cs", 4),
 ];
 
+/// Compares what the store says of a source.
+fn expect_said(rt: &impl Abort, store: &Store, id: SourceId, name: &str, root: &str, last: u64)
+    requires { IsDeclared store.now id }
+{
+    expect_bytes(rt, store.name_of(id).as_slice(), name.as_bytes(), name);
+    expect_bytes(rt, store.root_of(id).as_slice(), root.as_bytes(), name);
+    expect(rt, store.last_change(id) == last, name);
+}
+
 /// Compares what the store says of the source of this name.
 fn expect_source(rt: &impl Abort, store: &Store, name: &str, root: &str, last: u64) {
-    assert!(rt; store.find(name.as_bytes()).is_some());
-    if let Some(id) = store.find(name.as_bytes()) {
-        assert!(rt; store.name_of(id).as_slice() == name.as_bytes(), "{name}");
-        assert!(rt; store.root_of(id).as_slice() == root.as_bytes(), "{name}");
-        assert!(rt; store.last_change(id) == last, "{name}");
+    let found = store.find(name.as_bytes());
+    expect(rt, found.is_some(), name);
+    if let Some(id) = found {
+        expect_said(rt, store, id, name, root, last);
+    }
+}
+
+/// Compares what the store says of each source.
+fn expect_sources(rt: &impl Abort, store: &Store) {
+    for (name, root, last) in TOLD {
+        expect_source(rt, store, name, root, *last);
     }
 }
 
 /// Delivers deltas without items.
-fn deliver_nothing(alloc: Global, store: &mut Store, names: &[&str]) -> Result<(), AllocError> {
+fn deliver_nothing(
+    alloc: Global,
+    store: &mut Store,
+    names: &[&'static str],
+) -> Result<(), AllocError> {
     for name in names {
         deliver(alloc, store, &[(*name, "")])?;
     }
     Ok(())
 }
 
-fn expect_told(rt: &impl Abort, alloc: Global, store: &mut Store) -> Result<(), AllocError> {
+/// A name that is declared is not declared again.
+fn expect_declared_once(
+    rt: &impl Abort,
+    alloc: Global,
+    store: &mut Store,
+) -> Result<(), AllocError> {
     assert!(rt; !declare_by_attribute(alloc, store, "quotes", "Q", "id")?);
     assert!(rt; store.count() == 3);
+    Ok(())
+}
+
+fn expect_told(rt: &impl Abort, alloc: Global, store: &mut Store) -> Result<(), AllocError> {
     deliver_nothing(alloc, store, &["quotes", "companies", "companies"])?;
     deliver(alloc, store, &[("c", ""), ("quotes", "")])?;
-    for (name, root, last) in TOLD {
-        expect_source(rt, store, name, root, *last);
-    }
+    expect_sources(rt, store);
     Ok(())
 }
 
 #[test]
 fn sources_have_a_name_a_root_and_a_last_change(rt: HostRuntime) -> Result<(), Fail> {
     let mut store = sources(rt.alloc(), RandomState::new(&rt)?)?;
+    expect_declared_once(&rt, rt.alloc(), &mut store)?;
     expect_told(&rt, rt.alloc(), &mut store)?;
     Ok(())
 }
@@ -527,307 +492,5 @@ fn expect_put(rt: &impl Abort, alloc: Global, store: &mut Store) -> Result<(), A
 fn an_element_is_shown_as_it_was_put(rt: HostRuntime) -> Result<(), Fail> {
     let mut store = sources(rt.alloc(), RandomState::new(&rt)?)?;
     expect_put(&rt, rt.alloc(), &mut store)?;
-    Ok(())
-}
-
-/// Three items of one key, and the string values that it has before and after each; a bar where it
-/// holds nothing.
-const SEEN: (&str, &[(&str, &str)]) = (
-    "(Q/(Symbol/-A/)Symbol/)Q/(Q/(Symbol/-A/)Symbol/-2/)Q/!A",
-    &[("|", "A"), ("A", "A 2"), ("A 2", "|")],
-);
-
-/// The string value of an element, or a bar where there is none.
-fn value_of(alloc: Global, element: Option<&Shared<Written>>) -> Result<Bytes, AllocError> {
-    match element {
-        Some(element) => string_value(alloc, &element.get().element().children),
-        None => bytes_of(alloc, b"|"),
-    }
-}
-
-/// Whether this is the string value of an element, or a bar where there is none.
-fn has_value(
-    alloc: Global,
-    element: Option<&Shared<Written>>,
-    want: &str,
-) -> Result<bool, AllocError> {
-    let value = value_of(alloc, element)?;
-    Ok(value.as_slice() == want.as_bytes())
-}
-
-/// Compares the elements that each entry has of its key, before and after its item.
-fn expect_entries(
-    rt: &impl Abort,
-    alloc: Global,
-    entries: &[Entry],
-    wanted: &[(&str, &str)],
-) -> Result<(), AllocError> {
-    assert!(rt; entries.len() == wanted.len());
-    for (entry, (before, after)) in entries.iter().zip(wanted) {
-        assert!(rt;
-            has_value(alloc, entry.before.as_ref(), before)?,
-            "before {after}"
-        );
-        assert!(rt;
-            has_value(alloc, entry.after.as_ref(), after)?,
-            "after {before}"
-        );
-    }
-    Ok(())
-}
-
-/// The change of the sections.
-fn change_of(
-    alloc: Global,
-    seed: RandomState,
-    sections: &[(&str, &str)],
-) -> Result<Change, AllocError> {
-    let store = sources(alloc, seed)?;
-    let sections = sections_of(alloc, sections)?;
-    match store.prepare(alloc, &sections) {
-        Ok(change) => Ok(change),
-        Err(_) => Err(AllocError),
-    }
-}
-
-/// Compares the source of the portion, and the elements that each of its entries has of its key.
-fn expect_portion(
-    rt: &impl Abort,
-    alloc: Global,
-    portion: &Portion,
-    source: usize,
-    wanted: &[(&str, &str)],
-) -> Result<(), AllocError> {
-    assert!(rt; portion.source == SourceId(source));
-    expect_entries(rt, alloc, portion.entries.as_slice(), wanted)
-}
-
-/// Compares the portions of a change.
-fn expect_portions(
-    rt: &impl Abort,
-    alloc: Global,
-    portions: &[Portion],
-    wanted: &[(usize, &[(&str, &str)])],
-) -> Result<(), AllocError> {
-    assert!(rt; portions.len() == wanted.len());
-    for (portion, (source, entries)) in portions.iter().zip(wanted) {
-        expect_portion(rt, alloc, portion, *source, entries)?;
-    }
-    Ok(())
-}
-
-#[test]
-fn an_entry_sees_the_items_before_it(rt: HostRuntime) -> Result<(), Fail> {
-    let (text, wanted) = SEEN;
-    let seed = RandomState::new(&rt)?;
-    let change = change_of(rt.alloc(), seed, &[("quotes", text)])?;
-    expect_portions(&rt, rt.alloc(), change.portions(), &[(0, wanted)])?;
-    Ok(())
-}
-
-/// Sections, and the portions of their change: the place of a source, and the string values that
-/// each key has before and after each item.
-const PORTIONS: &[(&[(&str, &str)], &[(usize, &[(&str, &str)])])] = &[
-    (&[], &[]),
-    (&[("companies", "")], &[(1, &[])]),
-    (
-        &[
-            ("c", "(C/Aid 7/-a/)C"),
-            ("quotes", "(Q/(Symbol/-A/)Symbol/)Q"),
-            ("c", "!7/(C/Aid 7/-b/)C"),
-        ],
-        &[
-            (0, &[("|", "A")]),
-            (2, &[("|", "a"), ("a", "|"), ("|", "b")]),
-        ],
-    ),
-];
-
-#[test]
-fn the_portions_of_a_change_rise_by_source(rt: HostRuntime) -> Result<(), Fail> {
-    let seed = RandomState::new(&rt)?;
-    for (sections, wanted) in PORTIONS {
-        let change = change_of(rt.alloc(), seed, sections)?;
-        expect_portions(&rt, rt.alloc(), change.portions(), wanted)?;
-    }
-    Ok(())
-}
-
-/// Sections are counted, and shown by their places.
-fn expect_sections(
-    rt: &impl Abort,
-    alloc: Global,
-    wanted: &[(&str, &str)],
-) -> Result<(), AllocError> {
-    let sections = sections_of(alloc, wanted)?;
-    assert_eq!(rt; sections.len(), wanted.len());
-    for (at, (name, _)) in wanted.iter().enumerate() {
-        let source = sections.get(at).map(|section| section.source.as_slice());
-        assert!(rt; source == Some(name.as_bytes()));
-    }
-    assert!(rt; sections.get(wanted.len()).is_none());
-    Ok(())
-}
-
-#[test]
-fn sections_are_a_list(rt: HostRuntime) -> Result<(), Fail> {
-    for (sections, _) in PORTIONS {
-        expect_sections(&rt, rt.alloc(), sections)?;
-    }
-    Ok(())
-}
-
-/// Elements, and their keys by the child `Symbol`: empty where there is none.
-const BY_CHILD: &[(&str, &str)] = &[
-    ("(Q/(Symbol/-INTC/)Symbol/)Q", "INTC"),
-    ("(Q/-x/(Symbol/-INTC/)Symbol/-y/)Q", "INTC"),
-    ("(Q/(Symbol/-a/(b/-c/)b/-d/)Symbol/)Q", "a c d"),
-    ("(Q/(Symbol/(b/)b/-a/)Symbol/)Q", "a"),
-    ("(C/Aid 7/(Symbol/-INTC/)Symbol/)C", "INTC"),
-    ("(Q/)Q", ""),
-    ("(Q/(symbol/-INTC/)symbol/)Q", ""),
-    ("(Q/(Symbol/)Symbol/)Q", ""),
-    ("(Q/(Symbol/- /)Symbol/)Q", ""),
-    ("(Q/(Symbol/(b/)b/)Symbol/)Q", ""),
-    ("(Q/(Symbol/-A/)Symbol/(Symbol/-A/)Symbol/)Q", ""),
-    ("(Q/(Symbol/-A/)Symbol/(Symbol/)Symbol/)Q", ""),
-    ("(Q/(x/(Symbol/-A/)Symbol/)x/)Q", ""),
-    ("(Q/ASymbol A/)Q", ""),
-    ("(Symbol/-A/)Symbol", ""),
-];
-
-/// Elements, and their keys by the attribute `id`.
-const BY_ATTRIBUTE: &[(&str, &str)] = &[
-    ("(C/Aid 7/-a b/)C", "7"),
-    ("(C/Aid  7 /Aie 8/)C", " 7 "),
-    ("(C/Aid 7/(Symbol/-INTC/)Symbol/)C", "7"),
-    ("(C/)C", ""),
-    ("(C/Aid/)C", ""),
-    ("(C/AId 7/)C", ""),
-    ("(C/(id/-7/)id/)C", ""),
-];
-
-/// The bytes of a key, or none.
-fn bytes_in(key: Option<&Bytes>) -> &[u8] {
-    match key {
-        Some(key) => key.as_slice(),
-        None => b"".as_slice(),
-    }
-}
-
-/// Whether the element has this key by the rule of the source.
-fn has_key(
-    alloc: Global,
-    store: &Store,
-    name: &str,
-    element: &Element,
-    want: &str,
-) -> Result<bool, AllocError> {
-    let Some(id) = store.find(name.as_bytes()) else {
-        return Ok(false);
-    };
-    let key = store.key_of(alloc, id, element)?;
-    Ok(bytes_in(key.as_ref()) == want.as_bytes())
-}
-
-/// Whether the element that the lines put has this key by the rule of the source.
-fn puts_key(
-    alloc: Global,
-    store: &Store,
-    name: &str,
-    text: &str,
-    want: &str,
-) -> Result<bool, AllocError> {
-    let element = element_of(alloc, text)?;
-    has_key(alloc, store, name, &element, want)
-}
-
-/// Compares the key of each element by the rule of the source.
-fn expect_keys(
-    rt: &impl Abort,
-    alloc: Global,
-    seed: RandomState,
-    name: &str,
-    cases: &[(&str, &str)],
-) -> Result<(), AllocError> {
-    let store = sources(alloc, seed)?;
-    for (text, want) in cases {
-        assert!(rt; puts_key(alloc, &store, name, text, want)?, "at {text}");
-    }
-    Ok(())
-}
-
-#[test]
-fn a_key_is_one_value_that_is_not_empty(rt: HostRuntime) -> Result<(), Fail> {
-    let seed = RandomState::new(&rt)?;
-    expect_keys(&rt, rt.alloc(), seed, "quotes", BY_CHILD)?;
-    expect_keys(&rt, rt.alloc(), seed, "c", BY_ATTRIBUTE)?;
-    Ok(())
-}
-
-fn attribute_of(alloc: Global, name: &[u8], value: &[u8]) -> Result<Attribute, AllocError> {
-    let name = bytes_of(alloc, name)?;
-    let value = bytes_of(alloc, value)?;
-    Ok(Attribute { name, value })
-}
-
-/// Two attributes of one name.
-fn same_attributes(alloc: Global) -> Result<Attributes, AllocError> {
-    let mut attributes = Attributes::new(alloc);
-    for _ in 0..2 {
-        attributes.push(attribute_of(alloc, b"id", b"7")?)?;
-    }
-    Ok(attributes)
-}
-
-/// `<id id=7 id=7/>`, which no lines spell.
-fn twice_keyed(alloc: Global) -> Result<Element, AllocError> {
-    let attributes = same_attributes(alloc)?;
-    let name = bytes_of(alloc, b"id")?;
-    Ok(Element {
-        name,
-        attributes,
-        children: Forest::new(alloc),
-    })
-}
-
-/// Whether the element has no key by the attribute `id`.
-fn has_no_id(alloc: Global, element: &Element) -> Result<bool, AllocError> {
-    let rule = attribute(alloc, "id")?;
-    let key = key_of(alloc, &rule, element)?;
-    Ok(key.is_none())
-}
-
-/// The value of the node, where it is an element `id`.
-fn id_value(alloc: Global, node: &Node) -> Result<Option<Bytes>, AllocError> {
-    let name = bytes_of(alloc, b"id")?;
-    child_value(alloc, &name, node)
-}
-
-/// Whether the node is an element `id` without a text.
-fn is_empty_id(alloc: Global, node: &Node) -> Result<bool, AllocError> {
-    let value = id_value(alloc, node)?;
-    Ok(value.is_some_and(|v| v.as_slice().is_empty()))
-}
-
-/// Whether the node is no element `id`.
-fn is_no_id(alloc: Global, node: &Node) -> Result<bool, AllocError> {
-    let value = id_value(alloc, node)?;
-    Ok(value.is_none())
-}
-
-#[test]
-fn keys_of_elements_made_by_hand(rt: HostRuntime) -> Result<(), Fail> {
-    let element = twice_keyed(rt.alloc())?;
-    assert!(rt; has_no_id(rt.alloc(), &element)?);
-    let node = Node::Element(element);
-    assert!(rt; is_empty_id(rt.alloc(), &node)?);
-    Ok(())
-}
-
-#[test]
-fn a_text_is_no_child(rt: HostRuntime) -> Result<(), Fail> {
-    let text = Node::Text(bytes_of(rt.alloc(), b"id")?);
-    assert!(rt; is_no_id(rt.alloc(), &text)?);
     Ok(())
 }

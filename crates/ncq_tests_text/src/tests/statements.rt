@@ -1,5 +1,6 @@
 //! Statements, each shown as a text that has all its parts.
 
+use super::{Pair, expect_bytes, joined};
 use ncq_base::{Bytes, Limit, Op};
 use ncq_xmlql::{
     Content, Operand, Pattern, Query, QueryItem, Statement, StatementError, Suffix, Template,
@@ -164,16 +165,47 @@ fn word_of(which: Limit) -> &'static str {
     }
 }
 
+/// The statement as a text.
+fn shown(alloc: Global, statement: &Statement) -> Result<Vec<u8>, AllocError> {
+    let mut out = Vec::new(alloc);
+    show_statement(&mut out, statement)?;
+    Ok(out)
+}
+
 /// The statement as a text, or `none`, or the limit.
 fn answer(alloc: Global, text: &[u8]) -> Result<Vec<u8>, AllocError> {
-    let mut out = Vec::new(alloc);
     match parse_statement(alloc, text) {
-        Ok(statement) => show_statement(&mut out, &statement)?,
-        Err(StatementError::NotAStatement) => out.extend_from_slice(b"none")?,
-        Err(StatementError::Limit { which }) => out.extend_from_slice(word_of(which).as_bytes())?,
-        Err(StatementError::OutOfMemory) => return Err(AllocError),
+        Ok(statement) => shown(alloc, &statement),
+        Err(StatementError::NotAStatement) => Vec::from_slice(alloc, b"none"),
+        Err(StatementError::Limit { which }) => Vec::from_slice(alloc, word_of(which).as_bytes()),
+        Err(StatementError::OutOfMemory) => Err(AllocError),
     }
-    Ok(out)
+}
+
+/// The answer to the text behind the head.
+fn answer_behind(alloc: Global, head: &str, text: &str) -> Result<Vec<u8>, AllocError> {
+    let whole = joined(alloc, &[head, text])?;
+    answer(alloc, &whole)
+}
+
+/// The answer behind the shown head; `none` stands alone.
+fn wanted(alloc: Global, shown_head: &str, want: &str) -> Result<Vec<u8>, AllocError> {
+    let before = if want == "none" { "" } else { shown_head };
+    joined(alloc, &[before, want])
+}
+
+/// Compares the answer to the text behind the head.
+fn expect_case(
+    rt: &impl Abort,
+    alloc: Global,
+    heads: (&str, &str),
+    text: &str,
+    want: &str,
+) -> Result<(), AllocError> {
+    let got = answer_behind(alloc, heads.0, text)?;
+    let expected = wanted(alloc, heads.1, want)?;
+    expect_bytes(rt, &got, &expected, text);
+    Ok(())
 }
 
 /// Each text and its answer. The head stands before each of the texts, and the shown head before
@@ -183,23 +215,15 @@ fn expect_behind(
     alloc: Global,
     head: &str,
     shown_head: &str,
-    cases: &[(&str, &str)],
+    cases: &[Pair],
 ) -> Result<(), AllocError> {
     for (text, want) in cases {
-        let mut whole = Vec::from_slice(alloc, head.as_bytes())?;
-        whole.extend_from_slice(text.as_bytes())?;
-        let mut expected = Vec::new(alloc);
-        if *want != "none" {
-            expected.extend_from_slice(shown_head.as_bytes())?;
-        }
-        expected.extend_from_slice(want.as_bytes())?;
-        let got = answer(alloc, &whole)?;
-        assert!(rt; got.as_slice() == expected.as_slice(), "at {text}");
+        expect_case(rt, alloc, (head, shown_head), text, want)?;
     }
     Ok(())
 }
 
-const WHOLE_STATEMENTS: &[(&str, &str)] = &[
+const WHOLE_STATEMENTS: &[Pair] = &[
     (
         "r WHERE <Quotes><Quote><Tag>$s</></></> IN \"quotes\" CONSTRUCT <r>$s</> DO print",
         "r: Quotes(<Quote(<Tag=$s>)>) in quotes; -> <r($s)> do print every 0",
@@ -255,7 +279,7 @@ fn whole_statements(rt: HostRuntime) -> Result<(), Fail> {
     Ok(())
 }
 
-const ACTIONS_ARGUMENTS_AND_TIMES: &[(&str, &str)] = &[
+const ACTIONS_ARGUMENTS_AND_TIMES: &[Pair] = &[
     ("print", "print every 0"),
     ("print START 5 EXPIRE 5", "print start 5 every 0 expire 5"),
     ("print EXPIRE 4 START 5", "print start 5 every 0 expire 4"),
@@ -304,7 +328,7 @@ fn actions_arguments_and_times(rt: HostRuntime) -> Result<(), Fail> {
     Ok(())
 }
 
-const KEYWORDS_AND_NAMES: &[(&str, &str)] = &[
+const KEYWORDS_AND_NAMES: &[Pair] = &[
     (
         "CREATE w where <R><a></a></R> in q construct $x do x",
         "w: R(<a()>) in q; -> $x do x every 0",
@@ -349,7 +373,7 @@ fn keywords_and_names(rt: HostRuntime) -> Result<(), Fail> {
     Ok(())
 }
 
-const PATTERNS: &[(&str, &str)] = &[
+const PATTERNS: &[Pair] = &[
     (
         "<R><a>x  y</></> in \"q r\" construct $x do x",
         "R(<a='x y'>) in q r; -> $x do x every 0",
@@ -405,7 +429,7 @@ fn patterns(rt: HostRuntime) -> Result<(), Fail> {
     Ok(())
 }
 
-const CONDITIONS_AND_TEMPLATES: &[(&str, &str)] = &[
+const CONDITIONS_AND_TEMPLATES: &[Pair] = &[
     (
         ", $x = $y, $x != 1, 1 < $x, \"a b\" <= $x, $x > -1.5, $x >= \"\" construct $x do x",
         "$x = $y; $x != '1'; '1' < $x; 'a b' <= $x; $x > '-1.5'; $x >= ''; -> $x do x every 0",
@@ -546,18 +570,27 @@ const LIMITS: &[(Repeated, &str)] = &[
     ),
 ];
 
+fn push_times(text: &mut Vec<u8>, piece: &str, times: usize) -> Result<(), AllocError> {
+    for _ in 0..times {
+        text.extend_from_slice(piece.as_bytes())?;
+    }
+    Ok(())
+}
+
+/// The whole text.
+fn whole(alloc: Global, repeated: &Repeated) -> Result<Vec<u8>, AllocError> {
+    let (head, pieces, times, tails) = *repeated;
+    let mut text = Vec::from_slice(alloc, head.as_bytes())?;
+    push_times(&mut text, pieces.0, times)?;
+    push_times(&mut text, tails.0, 1)?;
+    push_times(&mut text, pieces.1, times)?;
+    push_times(&mut text, tails.1, 1)?;
+    Ok(text)
+}
+
 /// What kind of answer the text has.
 fn kind_of(alloc: Global, repeated: &Repeated) -> Result<Vec<u8>, AllocError> {
-    let (head, pieces, times, tails) = repeated;
-    let mut text = Vec::from_slice(alloc, head.as_bytes())?;
-    for _ in 0..*times {
-        text.extend_from_slice(pieces.0.as_bytes())?;
-    }
-    text.extend_from_slice(tails.0.as_bytes())?;
-    for _ in 0..*times {
-        text.extend_from_slice(pieces.1.as_bytes())?;
-    }
-    text.extend_from_slice(tails.1.as_bytes())?;
+    let text = whole(alloc, repeated)?;
     let shown = answer(alloc, &text)?;
     if shown.as_slice().starts_with(b"w: ") {
         return Vec::from_slice(alloc, b"statement");
@@ -565,16 +598,15 @@ fn kind_of(alloc: Global, repeated: &Repeated) -> Result<Vec<u8>, AllocError> {
     Ok(shown)
 }
 
+fn expect_kind(rt: &impl Abort, got: &[u8], want: &str, head: &str, times: usize) {
+    assert!(rt; got == want.as_bytes(), "at {head} and {times} pieces");
+}
+
 #[test]
 fn limits(rt: HostRuntime) -> Result<(), Fail> {
     for (repeated, want) in LIMITS {
         let got = kind_of(rt.alloc(), repeated)?;
-        assert!(rt;
-            got.as_slice() == want.as_bytes(),
-            "at {} and {} pieces",
-            repeated.0,
-            repeated.2
-        );
+        expect_kind(&rt, &got, want, repeated.0, repeated.2);
     }
     Ok(())
 }

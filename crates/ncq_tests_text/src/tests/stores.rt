@@ -1,12 +1,12 @@
 //! Sources that are declared and changed.
 
 ghost use Rattle.std.specs.Prelude.{IfOk};
-ghost use Rattle.ncq_source.specs.StoreStates.{IsDeclared};
+ghost use Rattle.ncq_source.specs.StoreStates.{AreDeclared, IsDeclared};
 
 use super::{expect_bytes, items_of, sections_of};
 use ncq_base::bytes_of;
-use ncq_pyx::Item;
-use ncq_source::{Entry, Key, SourceId, Store};
+use ncq_pyx::{Item, Items};
+use ncq_source::{Change, Entry, Key, SourceId, Store};
 use ncq_tree::Element;
 use std::alloc::Global;
 use std::hash::RandomState;
@@ -53,14 +53,37 @@ fn expect_key(
     Ok(())
 }
 
+/// The element that the first item puts.
+fn first_put(items: &Items) -> Option<&Element> {
+    match items.get(0) {
+        Some(Item::Put(element)) => Some(element.get().element()),
+        _ => None,
+    }
+}
+
+/// The first item puts an element of the key INTC.
+fn expect_first_key(
+    rt: &impl Abort,
+    alloc: Global,
+    store: &Store,
+    id: SourceId,
+    items: &Items,
+) -> Result<(), Fail>
+    requires { IsDeclared store.now id }
+{
+    let put = first_put(items);
+    assert!(rt; put.is_some());
+    if let Some(element) = put {
+        expect_key(rt, alloc, store, id, element)?;
+    }
+    Ok(())
+}
+
 #[test]
 fn an_element_tells_its_key(rt: HostRuntime) -> Result<(), Fail> {
     let (store, id) = quotes(rt.alloc(), RandomState::new(&rt)?)?;
     let items = items_of(rt.alloc(), INTC)?;
-    assert!(rt; matches!(items.get(0), Some(Item::Put(_))));
-    if let Some(Item::Put(element)) = items.get(0) {
-        expect_key(&rt, rt.alloc(), &store, id, element.get().element())?;
-    }
+    expect_first_key(&rt, rt.alloc(), &store, id, &items)?;
     Ok(())
 }
 
@@ -73,17 +96,29 @@ fn expect_put(rt: &impl Abort, entries: &[Entry]) {
     }
 }
 
-#[test]
-fn a_store_takes_what_was_put(rt: HostRuntime) -> Result<(), Fail> {
-    let (mut store, _) = quotes(rt.alloc(), RandomState::new(&rt)?)?;
-    let sections = sections_of(rt.alloc(), &[("quotes", INTC)])?;
-    let change = store.prepare(rt.alloc(), &sections)?;
+/// In each portion one element of the key INTC comes in.
+fn expect_puts(rt: &impl Abort, change: &Change) {
     for portion in change.portions() {
-        expect_put(&rt, portion.entries.as_slice());
+        expect_put(rt, portion.entries.as_slice());
     }
+}
+
+/// The change is the first that the store takes.
+fn expect_taken(rt: &impl Abort, store: &mut Store, change: Change) -> Result<(), Fail>
+    requires { AreDeclared store.old change }
+{
     store.reserve(&change)?;
     assert!(rt; store.changes() == 0);
     store.commit(change);
     assert!(rt; store.changes() == 1);
     Ok(())
+}
+
+#[test]
+fn a_store_takes_what_was_put(rt: HostRuntime) -> Result<(), Fail> {
+    let (mut store, _) = quotes(rt.alloc(), RandomState::new(&rt)?)?;
+    let sections = sections_of(rt.alloc(), &[("quotes", INTC)])?;
+    let change = store.prepare(rt.alloc(), &sections)?;
+    expect_puts(&rt, &change);
+    expect_taken(&rt, &mut store, change)
 }

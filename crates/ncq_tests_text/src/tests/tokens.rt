@@ -1,7 +1,7 @@
 //! The tokens of statements.
 
 use ncq_base::Op;
-use ncq_token::{Token, TokenError, tokens};
+use ncq_token::{Token, TokenError, TokenItems, tokens};
 use std::alloc::{AllocError, Global};
 use std::process::Abort;
 use std::test::Fail;
@@ -33,118 +33,128 @@ fn mark_of(op: Op) -> &'static str {
     }
 }
 
-/// The tokens of a text, a space behind each, or `bad` and the offset.
-fn answer(alloc: Global, text: &[u8]) -> Result<Vec<u8>, AllocError> {
+fn show_token(out: &mut Vec<u8>, token: &Token) -> Result<(), AllocError> {
+    let (mark, bytes) = parts_of(token);
+    out.extend_from_slice(mark.as_bytes())?;
+    out.extend_from_slice(bytes)?;
+    out.push(b' ')?;
+    Ok(())
+}
+
+/// The tokens, a space behind each.
+fn show_tokens(alloc: Global, tokens: &TokenItems) -> Result<Vec<u8>, AllocError> {
     let mut out = Vec::new(alloc);
-    match tokens(alloc, text) {
-        Ok(tokens) => {
-            for token in tokens.as_slice() {
-                let (mark, bytes) = parts_of(token);
-                out.extend_from_slice(mark.as_bytes())?;
-                out.extend_from_slice(bytes)?;
-                out.push(b' ')?;
-            }
-        }
-        Err(TokenError::BadByte { at }) => {
-            out.extend_from_slice(b"bad ")?;
-            ncq_base::write_decimal(at, &mut out)?;
-        }
-        Err(TokenError::OutOfMemory) => return Err(AllocError),
+    for token in tokens.as_slice() {
+        show_token(&mut out, token)?;
     }
     Ok(out)
 }
 
-fn expect_tokens(
-    rt: &impl Abort,
-    alloc: Global,
-    cases: &[(&[u8], &[u8])],
-) -> Result<(), AllocError> {
+/// `bad` and the offset.
+fn show_bad(alloc: Global, at: u64) -> Result<Vec<u8>, AllocError> {
+    let mut out = Vec::from_slice(alloc, b"bad ")?;
+    ncq_base::write_decimal(at, &mut out)?;
+    Ok(out)
+}
+
+/// The tokens of a text, a space behind each, or `bad` and the offset.
+fn answer(alloc: Global, text: &[u8]) -> Result<Vec<u8>, AllocError> {
+    match tokens(alloc, text) {
+        Ok(tokens) => show_tokens(alloc, &tokens),
+        Err(TokenError::BadByte { at }) => show_bad(alloc, at),
+        Err(TokenError::OutOfMemory) => Err(AllocError),
+    }
+}
+
+/// A text and its tokens.
+type Case = (&'static [u8], &'static [u8]);
+
+fn expect_case(rt: &impl Abort, alloc: Global, text: &[u8], want: &[u8]) -> Result<(), AllocError> {
+    let got = answer(alloc, text)?;
+    assert!(rt; got.as_slice() == want, "at {text:?}");
+    Ok(())
+}
+
+fn expect_tokens(rt: &impl Abort, alloc: Global, cases: &[Case]) -> Result<(), AllocError> {
     for (text, want) in cases {
-        let got = answer(alloc, text)?;
-        assert!(rt; got.as_slice() == *want, "at {text:?}");
+        expect_case(rt, alloc, text, want)?;
     }
     Ok(())
 }
 
+const TAGS: &[Case] = &[
+    (b"", b""),
+    (b" \t\r\n", b""),
+    (b"<a>", b"tag name:a close "),
+    (
+        b"<a b=\"1\" c = $x/>",
+        b"tag name:a name:b eq quoted:1 name:c eq $x empty ",
+    ),
+    (b"</>", b"end close "),
+    (b"</ a >", b"end name:a close "),
+    (b"<_:b-9>", b"tag name:_:b-9 close "),
+    (b"<\x80\xff>", b"tag name:\x80\xff close "),
+    (b"<a>=", b"tag name:a close eq "),
+    (b"<a>>=", b"tag name:a close ge "),
+    (b"<a/>/>", b"tag name:a empty word:/ gt "),
+    (b"<a.b>", b"bad 2"),
+    (b"<a 1>", b"bad 3"),
+    (b"<a,b>", b"bad 2"),
+    (b"<a <", b"bad 3"),
+    (b"<a / >", b"bad 3"),
+    (b"<a b!=", b"bad 4"),
+    (b"</9>", b"bad 2"),
+];
+
 #[test]
 fn tags(rt: HostRuntime) -> Result<(), Fail> {
-    expect_tokens(
-        &rt,
-        rt.alloc(),
-        &[
-            (b"", b""),
-            (b" \t\r\n", b""),
-            (b"<a>", b"tag name:a close "),
-            (
-                b"<a b=\"1\" c = $x/>",
-                b"tag name:a name:b eq quoted:1 name:c eq $x empty ",
-            ),
-            (b"</>", b"end close "),
-            (b"</ a >", b"end name:a close "),
-            (b"<_:b-9>", b"tag name:_:b-9 close "),
-            (b"<\x80\xff>", b"tag name:\x80\xff close "),
-            (b"<a>=", b"tag name:a close eq "),
-            (b"<a>>=", b"tag name:a close ge "),
-            (b"<a/>/>", b"tag name:a empty word:/ gt "),
-            (b"<a.b>", b"bad 2"),
-            (b"<a 1>", b"bad 3"),
-            (b"<a,b>", b"bad 2"),
-            (b"<a <", b"bad 3"),
-            (b"<a / >", b"bad 3"),
-            (b"<a b!=", b"bad 4"),
-            (b"</9>", b"bad 2"),
-        ],
-    )?;
+    expect_tokens(&rt, rt.alloc(), TAGS)?;
     Ok(())
 }
+
+const COMPARISONS_AND_WORDS: &[Case] = &[
+    (b"<9", b"lt word:9 "),
+    (b"< a", b"lt word:a "),
+    (b"<-", b"lt word:- "),
+    (
+        b"<= <== >= > >> != = ==",
+        b"le le eq ge gt gt gt ne eq eq eq ",
+    ),
+    (b"a!=b", b"word:a ne word:b "),
+    (b"a!b", b"word:a!b "),
+    (b"a!!=b", b"word:a! ne word:b "),
+    (b"! =", b"word:! eq "),
+    (b"a,b", b"word:a comma word:b "),
+    (b"a/b.c:d\x80'", b"word:a/b.c:d\x80' "),
+    (b"a\"b\"c$d e", b"word:a quoted:b word:c $d word:e "),
+    (b"a<b", b"word:a tag name:b "),
+];
 
 #[test]
 fn comparisons_and_words(rt: HostRuntime) -> Result<(), Fail> {
-    expect_tokens(
-        &rt,
-        rt.alloc(),
-        &[
-            (b"<9", b"lt word:9 "),
-            (b"< a", b"lt word:a "),
-            (b"<-", b"lt word:- "),
-            (
-                b"<= <== >= > >> != = ==",
-                b"le le eq ge gt gt gt ne eq eq eq ",
-            ),
-            (b"a!=b", b"word:a ne word:b "),
-            (b"a!b", b"word:a!b "),
-            (b"a!!=b", b"word:a! ne word:b "),
-            (b"! =", b"word:! eq "),
-            (b"a,b", b"word:a comma word:b "),
-            (b"a/b.c:d\x80'", b"word:a/b.c:d\x80' "),
-            (b"a\"b\"c$d e", b"word:a quoted:b word:c $d word:e "),
-            (b"a<b", b"word:a tag name:b "),
-        ],
-    )?;
+    expect_tokens(&rt, rt.alloc(), COMPARISONS_AND_WORDS)?;
     Ok(())
 }
 
+const QUOTES_AND_VARIABLES: &[Case] = &[
+    (b"\"\"", b"quoted: "),
+    (b"\"a <b>$c\"", b"quoted:a <b>$c "),
+    (b"\"a\\\"b\"", b"quoted:a\"b "),
+    (b"\"a\\\\\"", b"quoted:a\\ "),
+    (b"\"a\\nb\"", b"quoted:a\\nb "),
+    (b"\"a", b"bad 0"),
+    (b" \"a\\\"", b"bad 1"),
+    (b"<a \"x>", b"bad 3"),
+    (b"$x $_9y", b"$x $_9y "),
+    (b"$x-y", b"$x word:-y "),
+    (b"$", b"bad 0"),
+    (b"a $1", b"bad 2"),
+    (b"$\x80", b"bad 0"),
+    (b"<a b=$>", b"bad 5"),
+];
+
 #[test]
 fn quotes_and_variables(rt: HostRuntime) -> Result<(), Fail> {
-    expect_tokens(
-        &rt,
-        rt.alloc(),
-        &[
-            (b"\"\"", b"quoted: "),
-            (b"\"a <b>$c\"", b"quoted:a <b>$c "),
-            (b"\"a\\\"b\"", b"quoted:a\"b "),
-            (b"\"a\\\\\"", b"quoted:a\\ "),
-            (b"\"a\\nb\"", b"quoted:a\\nb "),
-            (b"\"a", b"bad 0"),
-            (b" \"a\\\"", b"bad 1"),
-            (b"<a \"x>", b"bad 3"),
-            (b"$x $_9y", b"$x $_9y "),
-            (b"$x-y", b"$x word:-y "),
-            (b"$", b"bad 0"),
-            (b"a $1", b"bad 2"),
-            (b"$\x80", b"bad 0"),
-            (b"<a b=$>", b"bad 5"),
-        ],
-    )?;
+    expect_tokens(&rt, rt.alloc(), QUOTES_AND_VARIABLES)?;
     Ok(())
 }
