@@ -20,7 +20,7 @@ pub fn same_tests(a: &[Test], b: &[Test]) -> bool
     true
 }
 
-fn same_test(a: &Test, b: &Test) -> bool
+pub(crate) fn same_test(a: &Test, b: &Test) -> bool
     ensures { IsTrue result ↔ (a.now ≡ b.now) }
 {
     same_op(a.op, b.op) && a.left == b.left && same_side(&a.right, &b.right)
@@ -32,7 +32,7 @@ fn same_op(a: Op, b: Op) -> bool
     a == b
 }
 
-fn same_side(a: &Side, b: &Side) -> bool
+pub(crate) fn same_side(a: &Side, b: &Side) -> bool
     ensures { IsTrue result ↔ (a.now ≡ b.now) }
 {
     match (a, b) {
@@ -101,13 +101,13 @@ fn same_attributes(a: &[SlotAttribute], b: &[SlotAttribute]) -> bool
     true
 }
 
-fn same_attribute(a: &SlotAttribute, b: &SlotAttribute) -> bool
+pub(crate) fn same_attribute(a: &SlotAttribute, b: &SlotAttribute) -> bool
     ensures { IsTrue result ↔ (a.now ≡ b.now) }
 {
     same_bytes(&a.name, &b.name) && same_text(&a.value, &b.value)
 }
 
-fn same_text(a: &SlotText, b: &SlotText) -> bool
+pub(crate) fn same_text(a: &SlotText, b: &SlotText) -> bool
     ensures { IsTrue result ↔ (a.now ≡ b.now) }
 {
     match (a, b) {
