@@ -9,7 +9,7 @@ use Rattle.ncq_pyx.specs.Spells.{Place, Rest, outside, nothing, turn, fits, move
 
 -- at most so many elements are open in one another
 abbrev pub max_nesting : ℕ
-max_nesting = 64
+max_nesting = 512
 
 -- what is to come from a line on, unless there is a fault behind it
 abbrev pub with_told : Turn → Place → Result Rest PyxError → Result Rest PyxError

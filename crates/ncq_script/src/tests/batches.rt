@@ -51,10 +51,10 @@ const BLOCKS: &[(&[u8], &[u8])] = &[
 
 // How many elements are opened and closed in the section behind the fourth line, and what all says.
 const NESTED: &[(usize, usize, &[u8])] = &[
-    (64, 64, b"q -k;r +;"),
-    (64, 63, b"bad 132"),
-    (65, 0, b"deep 69"),
-    (65, 65, b"deep 69"),
+    (512, 512, b"q -k;r +;"),
+    (512, 511, b"bad 1028"),
+    (513, 0, b"deep 517"),
+    (513, 513, b"deep 517"),
 ];
 
 fn lines_of(alloc: Global, text: &[u8]) -> Result<Lines, AllocError> {
