@@ -1,3 +1,6 @@
+pub mod AddLaws
 pub mod CallerLemmas
-pub mod Within
 pub mod Tallies
+pub mod CountLaws
+pub mod TurnLaws
+pub mod OnceLaws

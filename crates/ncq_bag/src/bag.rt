@@ -1,11 +1,15 @@
 ghost use Rattle.std.specs.Prelude.{◌≡◌, ◌+◌, ◌<◌, ◌^◌, IfOk, OnOk, OnErr, ◌++◌, ◌≤◌, nat_abs};
-ghost use Rattle.std.specs.Prelude.{◌+ℤ◌};
+ghost use Rattle.std.specs.Prelude.{◌+ℤ◌, List, ◌∷◌};
+ghost use Rattle.std.specs.FinMap.{empty};
+ghost use Rattle.std.specs.List.{flat_map, sum_by};
+ghost use Rattle.ncq_bag.specs.Added.{IsRising, runs, with_adds};
 ghost use Rattle.ncq_bag.specs.Bags.{added, differences, difference_of, no_counts, signed};
 
-use ncq_base::{Bytes, Sequence};
+use crate::rising::sort_by_bytes;
+use ncq_base::{Bytes, Copied, Sequence};
 use std::alloc::{AllocError, Global};
-use std::collections::BTreeMap;
 use std::marker::Model;
+use std::mem::replace;
 
 /// A byte string that stands more often in one of two bags.
 #[derive(Debug, Drop)]
@@ -15,26 +19,40 @@ pub struct Difference {
     pub bytes: Bytes,
 }
 
+impl Copied for Difference {
+    fn copy(&self, alloc: Global) -> Result<Difference, AllocError> {
+        Ok(Difference {
+            gain: self.gain,
+            count: self.count,
+            bytes: self.bytes.copy(alloc)?,
+        })
+    }
+}
+
 pub type Differences = Sequence<Difference>;
 
-/// Counts of byte strings. They are kept in order, so that nobody who picks the byte strings can
-/// make them collide.
+/// Counts of byte strings. What is added is kept as a list, which is sorted once, when the counts
+/// are asked for. The sort goes by comparisons, so that nobody who picks the byte strings can make
+/// it slow.
 #[derive(Drop)]
 pub struct SignedBag {
-    counts: BTreeMap<Bytes, i128>,
+    /// What each add changed.
+    list: Vec<Difference>,
     adds: u64,
 }
 
 impl Model for SignedBag {
-    ghost use Rattle.ncq_bag.specs.Counted.{Counted, counted_code, IsWithin, map_of};
+    ghost use Rattle.std.specs.FinMap.{empty};
+    ghost use Rattle.ncq_bag.specs.Added.{IsWithin, with_adds};
+    ghost use Rattle.ncq_bag.specs.Counted.{Counted, counted_code};
 
     ghost Value = { Counted };
 
     ghost coded = { counted_code };
 
-    ghost view = { λ b. record { counts = map_of b.counts.entries; adds = b.adds } };
+    ghost view = { λ b. record { counts = with_adds empty b.list.items; adds = b.adds } };
 
-    ghost invariant = { λ b. IsWithin b.counts.entries b.adds };
+    ghost invariant = { λ b. IsWithin b.list.items b.adds };
 }
 
 impl SignedBag {
@@ -45,7 +63,7 @@ impl SignedBag {
         ensures { result ≡ no_counts }
     {
         SignedBag {
-            counts: BTreeMap::new(alloc),
+            list: Vec::new(alloc),
             adds: 0,
         }
     }
@@ -63,8 +81,11 @@ impl SignedBag {
         ensures adds { OnOk result (self.new.adds ≡ self.old.adds + times) }
         ensures err { OnErr result (self.new ≡ self.old) }
     {
-        let count = self.counts.get(&key).copied().unwrap_or(0);
-        self.counts.insert(key, stepped(count, times, gain))?;
+        self.list.push(Difference {
+            gain,
+            count: times,
+            bytes: key,
+        })?;
         self.adds += times;
         Ok(())
     }
@@ -74,11 +95,54 @@ impl SignedBag {
     pub fn difference(self, alloc: Global) -> Result<Differences, AllocError>
         ensures { IfOk result (λ d. d ≡ differences self.counts) }
     {
-        let mut out = Differences::new(alloc);
-        for (bytes, count) in self.counts {
-            push_difference(&mut out, bytes, count)?;
+        let SignedBag { mut list, adds: _ } = self;
+        sort_by_bytes(&mut list)?;
+        summed(alloc, list)
+    }
+}
+
+/// The differences that adds leave, of which the byte strings rise: those of one stand together.
+fn summed(alloc: Global, list: Vec<Difference>) -> Result<Differences, AllocError>
+    requires rising { IsRising list.items }
+    requires within { sum_by (λ d. d.count) list.items ≤ 2 ^ 63 }
+    ensures { IfOk result (λ d. d ≡ differences (with_adds empty list.items)) }
+{
+    let mut out = Differences::new(alloc);
+    let mut run = Run {
+        key: Bytes::new(alloc),
+        count: 0,
+    };
+    for add in list {
+        run.take(add, &mut out)?;
+    }
+    push_difference(&mut out, run.key, run.count)?;
+    Ok(out)
+}
+
+/// Adds of one byte string that stand together.
+#[derive(Drop)]
+struct Run {
+    key: Bytes,
+    count: i128,
+}
+
+impl Run {
+    /// Takes one more add. One of another byte string ends the run, of which the difference goes
+    /// out, and begins the next.
+    fn take(&mut self, add: Difference, out: &mut Differences) -> Result<(), AllocError>
+        requires { nat_abs self.old.count + add.count ≤ 2 ^ 63 }
+        ensures runs { OnOk result ((more : List Difference)
+            → out.new ++ flat_map difference_of (runs self.new.key self.new.count more)
+            ≡ out.old ++ flat_map difference_of (runs self.old.key self.old.count (add ∷ more))) }
+        ensures within { OnOk result (nat_abs self.new.count ≤ nat_abs self.old.count + add.count) }
+    {
+        if add.bytes == self.key {
+            self.count = stepped(self.count, add.count, add.gain);
+            return Ok(());
         }
-        Ok(out)
+        push_difference(out, replace(&mut self.key, add.bytes), self.count)?;
+        self.count = stepped(0, add.count, add.gain);
+        Ok(())
     }
 }
 
