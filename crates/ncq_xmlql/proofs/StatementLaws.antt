@@ -6,6 +6,8 @@ use Rattle.ncq_token.specs.declared.token.Token.{Token}
 use Rattle.ncq_token.specs.declared.token.Token.TheVariants.{Quoted, Word, Comma}
 use Rattle.ncq_token.specs.Tokens.{tokens_of}
 use Rattle.ncq_xmlql.specs.declared.mismatch.Mismatch.{Mismatch}
+use Rattle.ncq_xmlql.specs.declared.model.QueryItem.{QueryItem}
+use Rattle.ncq_xmlql.specs.declared.model.Template.{Template}
 use Rattle.ncq_xmlql.specs.declared.model.Query.{Query}
 use Rattle.ncq_xmlql.specs.declared.model.Statement.{Statement}
 use Rattle.ncq_xmlql.specs.declared.time.Times.{Times}
@@ -13,8 +15,9 @@ use Rattle.ncq_xmlql.specs.Reading.{◌>>=◌, Gives, is_keyword}
 use Rattle.ncq_xmlql.specs.ItemReading.{items_at, continues}
 use Rattle.ncq_xmlql.specs.TemplateReading.{top_at}
 use Rattle.ncq_xmlql.specs.Times.{times, AreTimes, times_from, is_time_word}
-use Rattle.ncq_xmlql.specs.StatementReading.{keyword_at, title_at, head_at, construct_at, query_at, lowered, action_word_at, action_at, argument_at, or_zero, statement_at}
-use Rattle.ncq_xmlql.specs.StatementGrammar.{IsComma, IsQuery, IsArgument, IsSpelled}
+use Rattle.ncq_xmlql.specs.TemplateGrammar.{IsElement, IsTop}
+use Rattle.ncq_xmlql.specs.StatementReading.{keyword_at, title_at, head_at, construct_at, distinct_at, query_at, lowered, action_word_at, action_at, argument_at, or_zero, statement_at}
+use Rattle.ncq_xmlql.specs.StatementGrammar.{IsComma, IsDistinct, IsQuery, IsArgument, IsSpelled}
 use Rattle.ncq_xmlql.specs.Statements.{IsStatement}
 use Rattle.ncq_xmlql.proofs.Sound.{bind_some, some_is, checked_is, at_value}
 use Rattle.ncq_xmlql.proofs.ItemLaws.{items_sound, items_complete, items_within}
@@ -66,6 +69,9 @@ head_sound tokens x e =
       is_where = where_.same;
     })
 
+abbrev asked : List QueryItem → Bool → Template → Query
+asked items distinct template = record { items = items; distinct = distinct; template = template }
+
 record Constructed (tokens rest : List Token) : Type 0 where
   pub word : List ℕ
   pub comma : IsComma tokens (Word word ∷ rest)
@@ -79,15 +85,29 @@ construct_sound tokens rest e =
     let k = keyword_sound (codes "construct") tokens rest e in
     record { word = k.word; comma = subst (λ (ts : List Token). IsComma tokens ts) k.starts IsComma.none; same = k.same }
 
+-- what is found at a word, by whether it is `distinct`
+abbrev found_distinct : List ℕ → List Token → Bool → Bool × List Token
+found_distinct w rest b = cond {A = Bool × List Token} b (true, rest) (false, Word w ∷ rest)
+
+word_distinct : (w : List ℕ) (rest : List Token) (b : Bool) → is_keyword (codes "distinct") w ≡ b
+    → IsDistinct (Word w ∷ rest) (found_distinct w rest b).0 (found_distinct w rest b).1
+word_distinct w rest true h = IsDistinct.word h
+word_distinct w rest false h = IsDistinct.none
+
+distinct_sound : (tokens : List Token) → IsDistinct tokens (distinct_at tokens).0 (distinct_at tokens).1
+distinct_sound ((Word w) ∷ rest) = word_distinct w rest (is_keyword (codes "distinct") w) refl
+distinct_sound tokens = IsDistinct.none
+
 query_sound : (depth : ℕ) (tokens : List Token) (x : Query × List Token) → query_at depth tokens ≡ Some x → IsQuery tokens x.0 x.1
 unfolding query_at
 query_sound depth tokens x e =
-    let a = bind_some (items_at depth tokens) (λ items. construct_at items.1 >>= λ behind. top_at depth behind >>= λ template. Some (record { items = items.0; template = template.0 }, template.1)) x e in
-    let b = bind_some (construct_at a.0.1) (λ behind. top_at depth behind >>= λ template. Some (record { items = a.0.0; template = template.0 }, template.1)) x a.2 in
-    let c = bind_some (top_at depth b.0) (λ template. Some (record { items = a.0.0; template = template.0 }, template.1)) x b.2 in
+    let a = bind_some (items_at depth tokens) (λ items. construct_at items.1 >>= λ behind. top_at depth (distinct_at behind).1 >>= λ template. Some (asked items.0 (distinct_at behind).0 template.0, template.1)) x e in
+    let b = bind_some (construct_at a.0.1) (λ behind. top_at depth (distinct_at behind).1 >>= λ template. Some (asked a.0.0 (distinct_at behind).0 template.0, template.1)) x a.2 in
+    let d = distinct_at b.0 in
+    let c = bind_some (top_at depth d.1) (λ template. Some (asked a.0.0 d.0 template.0, template.1)) x b.2 in
     let k = construct_sound a.0.1 b.0 b.1 in
-    at_value (λ (y : Query × List Token). IsQuery tokens y.0 y.1) (record { items = a.0.0; template = c.0.0 }, c.0.1) x c.2
-    (IsQuery.query (items_sound depth tokens a.0 a.1) k.comma k.same (top_sound depth b.0 c.0 c.1))
+    at_value (λ (y : Query × List Token). IsQuery tokens y.0 y.1) (asked a.0.0 d.0 c.0.0, c.0.1) x c.2
+    (IsQuery.query (items_sound depth tokens a.0 a.1) k.comma k.same (distinct_sound b.0) (top_sound depth d.1 c.0 c.1))
 
 record Acts (tokens : List Token) (action : List ℕ) (rest : List Token) : Type 0 where
   pub do_ : List ℕ
@@ -156,10 +176,25 @@ comma_within : {b c : List Token} → IsComma b c → length c ≤ length b
 comma_within IsComma.none = omega arith
 comma_within IsComma.comma = omega arith
 
+-- a template begins with no word
+no_distinct : {a b : List Token} {t : Template} → IsTop a t b → distinct_at a ≡ (false, a)
+no_distinct IsTop.variable = refl
+no_distinct (IsTop.element (IsElement.whole attrs differ content end)) = refl
+no_distinct (IsTop.element (IsElement.empty attrs differ)) = refl
+
+distinct_complete : {a b c : List Token} {d : Bool} {t : Template} → IsDistinct a d b → IsTop b t c → distinct_at a ≡ (d, b)
+distinct_complete IsDistinct.none top = no_distinct top
+distinct_complete (IsDistinct.word h) top = rw h refl
+
+distinct_within : {a b : List Token} {d : Bool} → IsDistinct a d b → length b ≤ length a
+distinct_within IsDistinct.none = omega arith
+distinct_within (IsDistinct.word h) = omega arith
+
 query_complete : {a b : List Token} {q : Query} → IsQuery a q b → (depth : ℕ) → length a ≤ depth → query_at depth a ≡ Some (q, b)
 unfolding query_at
-query_complete (IsQuery.query spelled before h top) depth room =
-    rw (items_complete spelled (comma_stops before h) depth room, construct_complete before h, top_complete top depth (omega (arith, items_within spelled, comma_within before))) refl
+query_complete (IsQuery.query spelled before h asked_once top) depth room =
+    rw (items_complete spelled (comma_stops before h) depth room, construct_complete before h, distinct_complete asked_once top)
+    (rw (top_complete top depth (omega (arith, items_within spelled, comma_within before, distinct_within asked_once))) refl)
 
 every_is_time : (s v x : Bool) → v ≡ true → cond s true (cond v true x) ≡ true
 every_is_time true v x h = refl

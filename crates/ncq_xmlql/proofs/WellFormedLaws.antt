@@ -25,7 +25,7 @@ use Rattle.ncq_xmlql.specs.TemplateReading.{template_attribute}
 use Rattle.ncq_xmlql.specs.Grammar.{IsAttributes, IsWords, IsEnd, IsSuffix, IsPattern, IsContent, IsPatterns}
 use Rattle.ncq_xmlql.specs.ItemGrammar.{IsLiteral, IsOperand, IsMatch, IsCondition, IsMore, IsItems}
 use Rattle.ncq_xmlql.specs.TemplateGrammar.{IsElement, IsPart, IsParts, IsTop}
-use Rattle.ncq_xmlql.specs.StatementGrammar.{IsComma, IsQuery, IsSpelled}
+use Rattle.ncq_xmlql.specs.StatementGrammar.{IsComma, IsDistinct, IsQuery, IsSpelled}
 use Rattle.ncq_xmlql.specs.Statements.{IsStatement, AreWithin}
 use Rattle.ncq_xmlql.specs.Answered.{statement_of, GivesStatement}
 use Rattle.ncq_xmlql.specs.WellFormed.{begins_with_match, item_is_whole, names_are_good, template_is_good, IsWellFormed}
@@ -137,6 +137,10 @@ comma_named : {a b : List Token} → IsComma a b → AreNamed a → AreNamed b
 comma_named IsComma.none named = named
 comma_named IsComma.comma named = named
 
+distinct_named : {a b : List Token} {d : Bool} → IsDistinct a d b → AreNamed a → AreNamed b
+distinct_named IsDistinct.none named = named
+distinct_named (IsDistinct.word h) named = named
+
 -- ---- items
 
 match_whole : {a b : List Token} {item : QueryItem} → IsMatch a item b → item_is_whole item ≡ true
@@ -220,8 +224,8 @@ top_good (IsTop.element h) named = (element_good h named).is_good
 -- ---- statements
 
 query_formed : {a b : List Token} {q : Query} → IsQuery a q b → AreNamed a → (begins_with_match q.items ≡ true) × (list_all item_is_whole q.items ≡ true) × (template_is_good q.template ≡ true)
-query_formed (IsQuery.query spelled before keyword top) named =
-    (items_begin spelled, items_whole spelled, top_good top (comma_named before (items_named spelled named)))
+query_formed (IsQuery.query spelled before keyword asked_once top) named =
+    (items_begin spelled, items_whole spelled, top_good top (distinct_named asked_once (comma_named before (items_named spelled named))))
 
 statement_formed : {tokens : List Token} {st : Statement} → IsSpelled tokens st → AreNamed tokens → AreWithin st.query.items → IsWellFormed st
 statement_formed (IsSpelled.statement create name where_ asked do_ argument written) named within =

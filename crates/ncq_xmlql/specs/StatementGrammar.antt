@@ -1,5 +1,6 @@
 -- The grammar of statements: which tokens spell which statement.
-use Rattle.std.specs.Prelude.{◌≡◌, ℕ, false, IsTrue, List, ◌∷◌, Option, Some, None, codes}
+use Rattle.std.specs.Prelude.{◌≡◌, ℕ, Bool, true, false, IsTrue, List, ◌∷◌, Option, Some}
+use Rattle.std.specs.Prelude.{None, codes}
 use Rattle.ncq_base.specs.Names.{is_name}
 use Rattle.ncq_token.specs.declared.token.Token.{Token}
 use Rattle.ncq_token.specs.declared.token.Token.TheVariants.{Quoted, Word, Comma}
@@ -19,12 +20,19 @@ pub data IsComma : List Token → List Token → Type 0 where
   none : {a : List Token} → IsComma a a
   comma : {a : List Token} → IsComma (Comma ∷ a) a
 
--- items [Comma] "construct" top
+-- [ "distinct" ]: whether the word stands there
+pub data IsDistinct : List Token → Bool → List Token → Type 0 where
+  none : {a : List Token} → IsDistinct a false a
+  word : {w : List ℕ} {a : List Token} → IsTrue (is_keyword (codes "distinct") w)
+      → IsDistinct (Word w ∷ a) true a
+
+-- items [Comma] "construct" [ "distinct" ] top
 pub data IsQuery : List Token → Query → List Token → Type 0 where
-  query : {items : List QueryItem} {template : Template} {w : List ℕ} {a b c d : List Token}
+  query : {items : List QueryItem} {distinct : Bool} {template : Template} {w : List ℕ}
+      {a b c d e : List Token}
       → IsItems a items b → IsComma b (Word w ∷ c) → IsTrue (is_keyword (codes "construct") w)
-      → IsTop c template d
-      → IsQuery a (record { items = items; template = template }) d
+      → IsDistinct c distinct d → IsTop d template e
+      → IsQuery a (record { items = items; distinct = distinct; template = template }) e
 
 -- [ Quoted | a Word other than "start", "every", "expire" ]
 pub data IsArgument : List Token → Option (List ℕ) → List Token → Type 0 where
@@ -32,7 +40,7 @@ pub data IsArgument : List Token → Option (List ℕ) → List Token → Type 0
   quoted : {text : List ℕ} {a : List Token} → IsArgument (Quoted text ∷ a) (Some text) a
   word : {w : List ℕ} {a : List Token} → is_time_word w ≡ false → IsArgument (Word w ∷ a) (Some w) a
 
--- "create" Word "where" items [Comma] "construct" top "do" Word [argument] times
+-- "create" Word "where" query "do" Word [argument] times
 pub data IsSpelled : List Token → Statement → Type 0 where
   statement : {create name where_ do_ action : List ℕ} {query : Query} {argument : Option (List ℕ)}
       {written : Times} {a b c : List Token}

@@ -1,5 +1,6 @@
 -- Reading a statement from all of its tokens.
-use Rattle.std.specs.Prelude.{ℕ, if◌then◌else◌, List, ◌∷◌, length, map, Option, Some, None, codes}
+use Rattle.std.specs.Prelude.{ℕ, Bool, true, false, if◌then◌else◌, List, ◌∷◌, length, map, Option}
+use Rattle.std.specs.Prelude.{Some, None, codes}
 use Rattle.std.specs.Char.{to_ascii_lowercase}
 use Rattle.ncq_base.specs.Names.{is_name}
 use Rattle.ncq_token.specs.declared.token.Token.{Token}
@@ -30,12 +31,21 @@ abbrev pub construct_at : List Token → Option (List Token)
 construct_at (Comma ∷ rest) = keyword_at (codes "construct") rest
 construct_at tokens = keyword_at (codes "construct") tokens
 
+-- whether "distinct" stands in front, and the tokens behind it
+abbrev pub distinct_at : List Token → Bool × List Token
+distinct_at ((Word word) ∷ rest) = if is_keyword (codes "distinct") word then (true, rest)
+    else (false, Word word ∷ rest)
+distinct_at tokens = (false, tokens)
+
 unfoldable pub query_at : ℕ → List Token → Read Query
 query_at depth tokens = do
   items ← items_at depth tokens
   behind ← construct_at items.1
-  template ← top_at depth behind
-  Some (record { items = items.0; template = template.0 }, template.1)
+  template ← top_at depth (distinct_at behind).1
+  Some (
+    record { items = items.0; distinct = (distinct_at behind).0; template = template.0 },
+    template.1,
+  )
 
 abbrev pub lowered : List ℕ → List ℕ
 lowered word = map to_ascii_lowercase word

@@ -3,9 +3,10 @@ ghost use Rattle.std.specs.Prelude.{◌≡◌, codes, map, IfOk};
 ghost use Rattle.std.specs.Char.{to_ascii_lowercase};
 ghost use Rattle.ncq_xmlql.specs.Reading.{Gives};
 ghost use Rattle.ncq_xmlql.specs.StatementReading.{keyword_at, title_at, head_at, construct_at};
+ghost use Rattle.ncq_xmlql.specs.StatementReading.{distinct_at};
 ghost use Rattle.ncq_xmlql.specs.StatementReading.{lowered, action_word_at, action_at, argument_at};
 
-use crate::keyword::is_word;
+use crate::keyword::{is_distinct, is_word};
 use crate::mismatch::Mismatch;
 use crate::time::is_time_word;
 use ncq_base::{Bytes, Copied, bytes_of, is_name};
@@ -52,6 +53,16 @@ pub(crate) fn construct_at(tokens: &[Token]) -> Result<&[Token], Mismatch>
     match tokens.split_first() {
         Some((Token::Comma, rest)) => keyword_at(b"construct", rest),
         _ => keyword_at(b"construct", tokens),
+    }
+}
+
+/// Whether the word `distinct` stands in front, and the tokens behind it.
+pub(crate) fn distinct_at(tokens: &[Token]) -> (bool, &[Token])
+    ensures { (result.0, result.1.now) ≡ distinct_at tokens.now }
+{
+    match tokens.split_first() {
+        Some((Token::Word(word), rest)) if is_distinct(word) => (true, rest),
+        _ => (false, tokens),
     }
 }
 

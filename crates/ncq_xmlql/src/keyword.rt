@@ -32,6 +32,13 @@ pub(crate) fn is_construct(word: &Bytes) -> bool
     is_word(word.as_slice(), b"construct")
 }
 
+/// Whether the word is `distinct`, in any case of letters.
+pub(crate) fn is_distinct(word: &Bytes) -> bool
+    ensures { result ≡ is_keyword (codes "distinct") word.now }
+{
+    is_word(word.as_slice(), b"distinct")
+}
+
 /// Whether the word is `start`, in any case of letters.
 pub(crate) fn is_start(word: &Bytes) -> bool
     ensures { result ≡ is_keyword (codes "start") word.now }

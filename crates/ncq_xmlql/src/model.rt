@@ -119,12 +119,18 @@ pub type Templates = Sequence<Template>;
 /// What is asked, and what is made of each answer.
 pub struct Query {
     pub items: QueryItems,
+    /// Whether each forest of the answer is asked once.
+    pub distinct: bool,
     pub template: Template,
 }
 
 impl Drop for Query {
     fn drop(self) {
-        let Query { items, template } = self;
+        let Query {
+            items,
+            distinct: _,
+            template,
+        } = self;
         drop(items);
         drop(template);
     }

@@ -9,7 +9,7 @@ ghost use Rattle.ncq_xmlql.specs.Statements.{Answers};
 ghost use Rattle.ncq_xmlql.specs.Answered.{exceeded, answered_tokens, statement_of, GivesStatement};
 ghost use Rattle.ncq_xmlql.specs.WellFormed.{IsWellFormed};
 
-use crate::action::{action_at, argument_at, construct_at, head_at};
+use crate::action::{action_at, argument_at, construct_at, distinct_at, head_at};
 use crate::count::{arms_of, conditions_of, slots_of};
 use crate::items::items_at;
 use crate::mismatch::Mismatch;
@@ -48,15 +48,23 @@ pub enum StatementError {
     OutOfMemory,
 }
 
-/// The items and the template in front, nested no deeper than `depth`, and the tokens behind them.
+/// The query in front, nested no deeper than `depth`, and the tokens behind it.
 #[tactic(auto, unfolding(crate::specs::StatementReading::query_at))]
 fn query_at(alloc: Global, depth: usize, tokens: &[Token]) -> Result<(Query, &[Token]), Mismatch>
     ensures { Gives (λ x. (x.0, x.1.now)) result (query_at depth tokens.now) }
 {
     let (items, rest) = items_at(alloc, depth, tokens)?;
     let rest = construct_at(rest)?;
+    let (distinct, rest) = distinct_at(rest);
     let (template, rest) = top_at(alloc, depth, rest)?;
-    Ok((Query { items, template }, rest))
+    Ok((
+        Query {
+            items,
+            distinct,
+            template,
+        },
+        rest,
+    ))
 }
 
 /// What stands behind the query of a statement.
