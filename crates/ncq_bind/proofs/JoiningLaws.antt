@@ -1,4 +1,4 @@
--- The forests of a normal query's rows are the answer of the query.
+-- The forests of a normal query's rows are all that the query answers.
 use Rattle.std.proofs.Common.{◌≡◌, ℕ, ◌+◌, true, List, [], ◌∷◌, length, map, refl, sym, ap, ◌∙◌, subst, zero-add}
 use Rattle.std.specs.Prelude.{◌&&◌}
 use Rattle.std.specs.List.{list_all, filter, flat_map}
@@ -21,7 +21,7 @@ use Rattle.ncq_xmlql.specs.WellFormed.{item_is_whole}
 use Rattle.ncq_bind.specs.declared.constraint.Constraint.{Constraint}
 use Rattle.ncq_bind.specs.Places.{places, shape_of}
 use Rattle.ncq_bind.specs.Embeddings.{embeddings, has_literals}
-use Rattle.ncq_bind.specs.Answers.{QueryArm, arms_of, places_of, arm_embeddings, choices, first_value, all_agree as values_agree, item_holds, is_binding, made_forest, answer}
+use Rattle.ncq_bind.specs.Answers.{QueryArm, arms_of, places_of, arm_embeddings, choices, first_value, all_agree as values_agree, item_holds, is_binding, made_forest, all}
 use Rattle.ncq_bind.specs.Constraints.{first_slot, constraints_from, item_constraints, constraints_of}
 use Rattle.ncq_bind.specs.NormalArms.{open_arms, normal_arm}
 use Rattle.ncq_bind.specs.NormalQueries.{normal_query}
@@ -86,7 +86,7 @@ module _ (query : Query) (whole : list_all item_is_whole query.items ≡ true) (
 
   -- ---- all rows
 
-  pub forests_are : ArmLaw → (world : World) → map (constructed (normal_query query).template) (prod (normal_query query) world) ≡ answer query world
+  pub forests_are : ArmLaw → (world : World) → map (constructed (normal_query query).template) (prod (normal_query query) world) ≡ all query world
   forests_are arm_law world =
       let arms = arms_of query.items in
       let ps = places_of arms in

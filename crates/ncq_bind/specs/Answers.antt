@@ -9,6 +9,7 @@ use Rattle.ncq_tree.specs.declared.model.Node.{Node}
 use Rattle.ncq_tree.specs.declared.model.Node.TheVariants.{Text as text_node}
 use Rattle.ncq_tree.specs.declared.model.Node.TheVariants.{Element as element_node}
 use Rattle.ncq_tree.specs.Normal.{normal}
+use Rattle.ncq_pyx.specs.Canonical.{pyx}
 use Rattle.ncq_row.specs.declared.value.Value.{Value}
 use Rattle.ncq_row.specs.declared.value.Value.TheVariants.{Text}
 use Rattle.ncq_row.specs.Values.{value_atom, value_text}
@@ -28,6 +29,7 @@ use Rattle.ncq_xmlql.specs.declared.model.Template.TheOpen.Template-F.{Variable 
 use Rattle.ncq_xmlql.specs.declared.model.Template.TheOpen.Template-F.{Literal as OneLiteral}
 use Rattle.ncq_xmlql.specs.declared.model.Template.TheOpen.Template-F.{Element}
 use Rattle.ncq_xmlql.specs.declared.model.Template.TheFolds.{para-Template}
+use Rattle.ncq_bag.specs.Counts.{each_once_by}
 use Rattle.ncq_bind.specs.Places.{places}
 use Rattle.ncq_bind.specs.Embeddings.{embeddings}
 
@@ -129,9 +131,18 @@ made_nodes first = para-Template (List Node) (template_layer first)
 abbrev pub made_forest : Template → List Operand → Row → List Node
 made_forest template places row = normal (made_nodes (first_value places row) template)
 
--- The answer: the constructed forest of each choice that is a binding.
-abbrev pub answer : Query → World → List (List Node)
-answer query world =
+-- All that a query answers: the constructed forest of each choice that is a binding.
+abbrev pub all : Query → World → List (List Node)
+all query world =
     let arms = arms_of query.items in
     map (made_forest query.template (places_of arms))
     (filter (is_binding query.items (places_of arms)) (choices world arms))
+
+-- two forests are one where their canonical lines are
+abbrev pub same_forest : List Node → List Node → Bool
+same_forest a b = bytes_eq (pyx a) (pyx b)
+
+-- The answer: all that the query answers, and with DISTINCT each forest of that once.
+abbrev pub answer : Query → World → List (List Node)
+answer query world =
+    if query.distinct then each_once_by same_forest (all query world) else all query world

@@ -20,7 +20,7 @@ use Rattle.ncq_bind.specs.declared.binding.BindError.{BindError}
 use Rattle.ncq_bind.specs.declared.binding.BindError.TheVariants.{OutOfMemory}
 use Rattle.ncq_bind.specs.Places.{places, shape_of}
 use Rattle.ncq_bind.specs.Embeddings.{embeddings, has_literals}
-use Rattle.ncq_bind.specs.Answers.{arms_of, places_of, answer}
+use Rattle.ncq_bind.specs.Answers.{arms_of, places_of, all, answer}
 use Rattle.ncq_bind.specs.Bound.{item_is_bound}
 use Rattle.ncq_bind.specs.NormalQueries.{normal_query}
 use Rattle.ncq_bind.specs.Bindings.{Binds, Roots}
@@ -39,31 +39,32 @@ OpenLaw =
     → embeddings p e ≡ rows_of (shape_of p) e
 
 -- Where each condition has a variable and all of them have places, the forests of the normal
--- query's rows are the answer.
+-- query's rows are all that the query answers.
 abbrev pub JoiningLaw : Type 0
 JoiningLaw =
     (query : Query) (world : World) → list_all item_is_whole query.items ≡ true
     → list_all (item_is_bound (places_of (arms_of query.items))) query.items ≡ true
     → map (constructed (normal_query query).template) (prod (normal_query query) world)
-    ≡ answer query world
+    ≡ all query world
 
 -- For every statement that binds and every world, the forests made of the rows of the plan that
--- pass the residual are the answer.
+-- pass the residual are all that its query answers.
 abbrev pub PlanLaw : Type 0
 PlanLaw =
     (statement : Statement) (roots : Roots) (normal : NormalQuery) → IsWellFormed statement
     → Binds statement.query roots (Ok normal) → (world : World)
     → map (constructed normal.template)
     (filter (passes normal.residual) (rows_in (plan_of normal) world))
-    ≡ answer statement.query world
+    ≡ all statement.query world
 
--- For every statement that binds and every world of proper elements, each forest of the answer is
--- proper.
+-- For every statement that binds and every world of proper elements, each forest of all that its
+-- query answers is proper, and so is each of the answer.
 abbrev pub ProperLaw : Type 0
 ProperLaw =
     (statement : Statement) (roots : Roots) (normal : NormalQuery) → IsWellFormed statement
     → Binds statement.query roots (Ok normal) → (world : World) → WorldIsProper world
-    → list_all is_proper (answer statement.query world) ≡ true
+    → (list_all is_proper (all statement.query world) ≡ true)
+    × (list_all is_proper (answer statement.query world) ≡ true)
 
 -- No two answers of `bind` are right for one query, but for want of memory.
 abbrev pub OneAnswer : Type 0

@@ -13,19 +13,20 @@ pub fn rows_are_open_embeddings()
     ensures { OpenLaw }
 {}
 
-/// The forests that the normal query makes of its rows are the answer of the query, in the same
+/// The forests that the normal query makes of its rows are all that the query answers, in the same
 /// order.
 pub fn forests_are_the_answer()
     ensures { JoiningLaw }
 {}
 
 /// For every statement that binds and every world, the forests that are made of those rows of the
-/// plan that pass the residual are the answer of the query, in the same order.
+/// plan that pass the residual are all that the query answers, in the same order.
 pub fn plans_give_the_answer()
     ensures { PlanLaw }
 {}
 
-/// Where each element of each source is proper, so is each forest of the answer.
+/// Where each element of each source is proper, so is each forest of all that the query answers,
+/// and each of the answer.
 pub fn answers_are_proper()
     ensures { ProperLaw }
 {}

@@ -1,8 +1,9 @@
 //! What a query means, and its normal form.
 //! A statement comes in. Its normal query goes out, in which variables are slots, or the reason why
 //! it has none. The meaning follows the query as it is written, over whole sources: each choice of
-//! elements and embeddings, all occurrences of a variable alike, every condition. Laws say that the
-//! rows of the normal query, and those of its plan, have the same meaning.
+//! elements and embeddings, all occurrences of a variable alike, every condition; with `DISTINCT`
+//! each forest that comes of it once. Laws say that the rows of the normal query, and those of its
+//! plan, make all that the query answers.
 #![tactic(auto)]
 
 mod arm;

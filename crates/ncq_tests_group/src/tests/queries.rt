@@ -102,6 +102,11 @@ const STATEMENTS: &[(&str, &str)] = &[
         "<Quotes><Quote><Tag>$s</></></> IN \"quotes\" CONSTRUCT <r>$s</>",
         "quotes:Quote(Tag=); <r(#0)>",
     ),
+    // The normal query is the same: who is told the answer counts it.
+    (
+        "<Quotes><Quote><Tag>$s</></></> IN \"quotes\" CONSTRUCT DISTINCT <r>$s</>",
+        "quotes:Quote(Tag=); <r(#0)>",
+    ),
     (
         "<Quotes><Quote><Price>$p</></></> IN \"quotes\", $p = 100 CONSTRUCT <p>$p</>",
         "quotes:Quote(Price=) 0=100; <p(#0)>",
