@@ -11,6 +11,8 @@ pub struct Subscription {
     pub sources: Sequence<Bytes>,
     /// Its query in normal form.
     pub query: NormalQuery,
+    /// Whether its answer has each forest once.
+    pub distinct: bool,
     /// The file of its plan: a change that feeds it concerns the subscription.
     pub file: FileId,
     /// When it fires and when it ends.
@@ -32,6 +34,7 @@ impl Drop for Subscription {
             name,
             sources,
             query,
+            distinct: _,
             file: _,
             timing: _,
             action: _,

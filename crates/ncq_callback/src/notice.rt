@@ -1,11 +1,12 @@
 //! What a subscriber is told, and what is done with it.
-ghost use Rattle.std.specs.Prelude.{◌≡◌, ◌++◌, IfSome, OnOk, length, take};
+ghost use Rattle.std.specs.Prelude.{◌≡◌, ◌≤◌, ◌++◌, IfOk, IfSome, OnOk, length};
 ghost use Rattle.std.specs.Io.{StartsWith};
+ghost use Rattle.ncq_bag.specs.Counts.{IsChange, turns};
 ghost use Rattle.ncq_callback.specs.KeptTexts.{printed_text, rest_text};
 
 use crate::kept_text::KeptText;
 use crate::texts::{write_instant, write_rest};
-use ncq_bag::{Difference, Differences};
+use ncq_bag::{Counts, Difference, Differences, Pending};
 use ncq_base::Bytes;
 use std::alloc::{AllocError, Global};
 use std::marker::Model;
@@ -22,7 +23,8 @@ pub enum Kind {
 }
 
 /// What differs in an answer. Contracts see the list of the differences. Only rows make entries:
-/// `Gather::finish` alone gives them. Their text may stand beside them, so that it is copied.
+/// `Gather::finish` gives them, and `distinct` what of them leaves 0 or reaches it. Their text may
+/// stand beside them, so that it is copied.
 #[derive(Debug)]
 pub struct Entries {
     items: Differences,
@@ -65,6 +67,24 @@ impl Entries {
         ensures { result.now ≡ self.now }
     {
         self.items.as_slice()
+    }
+
+    /// What leaves 0, or reaches it, where these entries change the counts, with the changes to be
+    /// made. The counts stay as they are, and get room for the changes.
+    pub fn distinct(
+        &self,
+        alloc: Global,
+        counts: &mut Counts,
+    ) -> Result<(Entries, Pending), AllocError>
+        requires { IsChange counts.old.counts self.now }
+        ensures counts { counts.new.counts ≡ counts.old.counts }
+        ensures room { OnOk result (length self.now ≤ counts.new.spare) }
+        ensures spare { counts.old.spare ≤ counts.new.spare }
+        ensures entries { IfOk result (λ r. r.0 ≡ turns counts.old.counts self.now) }
+        ensures pending { IfOk result (λ r. r.1 ≡ self.now) }
+    {
+        let (told, pending) = counts.prepare(alloc, &self.items)?;
+        Ok((Entries::from_differences(told), pending))
     }
 
     /// Writes the text of the entries down once, as it is printed at an instant: handlers then

@@ -2,6 +2,8 @@
 
 mod books;
 mod caches;
+mod counts;
+mod distinct;
 mod files;
 mod firings;
 mod forests;

@@ -129,6 +129,7 @@ fn subscription(
         argument: Bytes::new(alloc),
         install,
         noted: None,
+        distinct: false,
     })
 }
 

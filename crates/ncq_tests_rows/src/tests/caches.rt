@@ -1,11 +1,11 @@
 //! What a cache keeps of what was told, worked out by hand. The entries are of one row that comes,
 //! and a template that is a text answers that text.
 
-use super::making::{rows_of, text_element, value_shape};
-use ncq_base::{FileId, Op, atom_of, bytes_of};
+use super::making::{some_row, text_template};
+use ncq_base::{FileId, Op, atom_of};
 use ncq_cache::{NoticeCache, NoticeKey};
 use ncq_callback::{Entries, Gather};
-use ncq_plan::{Side, SlotTemplate, Test, Tests};
+use ncq_plan::{Side, Test, Tests};
 use ncq_row::Row;
 use std::alloc::{AllocError, Global};
 use std::ops::Range;
@@ -77,10 +77,6 @@ fn tests(alloc: Global, texts: &[&str]) -> Result<Tests, AllocError> {
         })?;
     }
     Ok(tests)
-}
-
-fn text_template(alloc: Global, text: &str) -> Result<SlotTemplate, AllocError> {
-    Ok(SlotTemplate::Text(bytes_of(alloc, text.as_bytes())?))
 }
 
 /// The key of these parts, made anew.
@@ -205,14 +201,6 @@ fn changes_missed(alloc: Global, cache: &mut NoticeCache) -> Result<Vec<u64>, Al
         }
     }
     Ok(missed)
-}
-
-/// A row.
-fn some_row(rt: &HostRuntime) -> Result<Row, AllocError> {
-    let shape = value_shape(rt.alloc(), b"E")?;
-    let element = text_element(rt.alloc(), b"E", b"1")?;
-    let (rows, _) = rows_of(rt, &shape, &element)?;
-    rows.into_vec().pop().ok_or(AllocError)
 }
 
 #[test]

@@ -4,8 +4,11 @@ ghost use Rattle.std.specs.List.{sum_by};
 ghost use Rattle.ncq_row.specs.Widths.{width, suffix_width};
 
 use ncq_base::{Copied, Shared, Steps, bytes_of};
+use ncq_plan::SlotTemplate;
 use ncq_pyx::Written;
-use ncq_row::{Names, Rows, Shape, ShapeContent, ShapeSuffix, Shapes, match_shape, match_written};
+use ncq_row::{
+    Names, Row, Rows, Shape, ShapeContent, ShapeSuffix, Shapes, match_shape, match_written,
+};
 use ncq_tree::{Attributes, Element, Forest, Node};
 use std::alloc::{AllocError, Global};
 use std::marker::Brand;
@@ -172,4 +175,17 @@ pub fn rows_of(
     element: &Element,
 ) -> Result<(Rows, Rows), AllocError> {
     rows_in::<Brand>(rt, shape, element, Blank::new(1))
+}
+
+/// A row.
+pub fn some_row(rt: &HostRuntime) -> Result<Row, AllocError> {
+    let shape = value_shape(rt.alloc(), b"E")?;
+    let element = text_element(rt.alloc(), b"E", b"1")?;
+    let (rows, _) = rows_of(rt, &shape, &element)?;
+    rows.into_vec().pop().ok_or(AllocError)
+}
+
+/// The template that is a text.
+pub fn text_template(alloc: Global, text: &str) -> Result<SlotTemplate, AllocError> {
+    Ok(SlotTemplate::Text(bytes_of(alloc, text.as_bytes())?))
 }

@@ -1,0 +1,2 @@
+pub mod DistinctTables
+pub mod Kept
