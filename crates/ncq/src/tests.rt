@@ -25,6 +25,7 @@ mod batches;
 mod blocks;
 mod cuts;
 mod declarations;
+mod distinct;
 mod faults;
 mod forms;
 mod held;

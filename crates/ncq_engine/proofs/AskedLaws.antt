@@ -1,4 +1,4 @@
--- An answer depends on the sources that its query asks, and a source stays as it is between its changes.
+-- What a query answers depends on the sources that it asks, and a source stays as it is between its changes.
 use Rattle.std.proofs.Common.{◌≡◌, ℕ, ◌≤◌, Bool, true, false, ◌||◌, List, [], ◌∷◌, ◌++◌, map, refl, sym, ◌∙◌, ap, arith, true≢false}
 use Rattle.std.specs.Prelude.{ℤ, pos, ◌-ℤ◌, Option, Some, nat_le, if◌then◌else◌}
 use Rattle.std.specs.FinMap.{empty, entries, get-empty, len-empty, len-entries}
@@ -13,9 +13,10 @@ use Rattle.std.specs.Str.{bytes_eq}
 use Rattle.ncq_base.specs.Keys.{ByBytes}
 use Rattle.ncq_bag.specs.Bags.{count_in, difference, difference_of}
 use Rattle.ncq_bag.proofs.CallerLemmas.{tally_decides}
-use Rattle.ncq_bind.specs.Answers.{answer, arm_embeddings, arm_of, arms_of, is_binding, made_forest, places_of}
+use Rattle.ncq_bind.specs.Answers.{arm_embeddings, arm_of, arms_of, is_binding, made_forest, places_of}
 use Rattle.ncq_bind.specs.Embeddings.{embeddings}
 use Rattle.ncq_plan.specs.Exprs.{World}
+use Rattle.ncq_pyx.specs.Canonical.{pyx}
 use Rattle.ncq_pyx.specs.declared.item.Item.{Item}
 use Rattle.ncq_row.specs.Embeddings.{one_of_each}
 use Rattle.ncq_script.specs.declared.command.Command.{Command}
@@ -27,6 +28,7 @@ use Rattle.ncq_xmlql.specs.declared.model.Pattern.{Pattern}
 use Rattle.ncq_xmlql.specs.declared.model.QueryItem.{QueryItem}
 use Rattle.ncq_xmlql.specs.declared.model.QueryItem.TheVariants.{Match, Condition}
 use Rattle.ncq_xmlql.specs.declared.model.Statement.{Statement}
+use Rattle.ncq_engine.specs.DistinctCounts.{all_over}
 use Rattle.ncq_engine.specs.Firing.{source_of, sources_of}
 use Rattle.ncq_engine.specs.History.{History, Source, changes, elements_of, is_delta_of, last_change, source_in, sources, up_to, with_items, with_sections, world}
 use Rattle.ncq_engine.proofs.HistoryLaws.{key_is, key_itself}
@@ -62,11 +64,11 @@ each_alike w v ((Match root patterns source) ∷ items) agree =
     ∙ sym (map-append (arm_embeddings v) (map (arm_of source) patterns) (arms_of items))
 each_alike w v ((Condition left op right) ∷ items) agree = each_alike w v items agree
 
--- the answer over two worlds that agree on the sources of the statement
-pub same_answer : (statement : Statement) (w v : World) → AgreeOn (sources_of statement) w v → answer statement.query w ≡ answer statement.query v
-same_answer statement w v agree =
+-- all that it answers over two lists of sources that agree on those of the statement
+pub same_all : (statement : Statement) (here there : List Source) → AgreeOn (sources_of statement) (world here) (world there) → all_over statement.query here ≡ all_over statement.query there
+same_all statement here there agree =
     let items = statement.query.items in
-    λ i. map (made_forest statement.query.template (places_of (arms_of items))) (filter (is_binding items (places_of (arms_of items))) (one_of_each (each_alike w v items agree i)))
+    λ i. map pyx (map (made_forest statement.query.template (places_of (arms_of items))) (filter (is_binding items (places_of (arms_of items))) (one_of_each (each_alike (world here) (world there) items agree i))))
 
 -- what differs from a text differs from one that is the same
 pub apart_too : (a b c : List ℕ) → bytes_eq a b ≡ true → bytes_eq a c ≡ false → bytes_eq c b ≡ false

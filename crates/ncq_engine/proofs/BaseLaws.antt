@@ -13,6 +13,7 @@ use Rattle.ncq_shelf.specs.KeptFiles.{KeptFile}
 use Rattle.ncq_engine.specs.Applies.{Applies, IfAnswered}
 use Rattle.ncq_engine.specs.Cached.{AreToldRight}
 use Rattle.ncq_engine.specs.Compactions.{AreCompacted, KeepBases}
+use Rattle.ncq_engine.specs.Engines.{KeepsCounts}
 use Rattle.ncq_engine.specs.History.{History}
 use Rattle.ncq_engine.specs.Stands.{EngineState, Follows, IsBounded, Stands}
 use Rattle.ncq_engine.specs.Works.{IsWithinWork}
@@ -61,11 +62,11 @@ work_from old table cache stands command before after within h s bound work = wi
 
 -- an engine that follows what another followed, and keeps what that kept of what was told, or nothing
 pub stands_still : (old mid : EngineState) → ((h : History) → Follows old h → Follows mid h) → ((h : History) → Follows mid h → IsBounded mid h) → Shares mid.subscriptions mid.table
-    → (mid ≡ old) ⊎ (mid.cache ≡ []) → (h : History) → Stands old h → Stands mid h
-stands_still old mid follows bounded shares (inl same) h s = subst (λ (e : EngineState). Stands e h) (sym same) s
-stands_still old mid follows bounded shares (inr nothing) h s =
+    → KeepsCounts mid.subscriptions mid.distinct → (mid ≡ old) ⊎ (mid.cache ≡ []) → (h : History) → Stands old h → Stands mid h
+stands_still old mid follows bounded shares counts (inl same) h s = subst (λ (e : EngineState). Stands e h) (sym same) s
+stands_still old mid follows bounded shares counts (inr nothing) h s =
     let f = follows h s.follows in
-    record { follows = f; bounded = bounded h f; shares = shares; cached = subst (AreToldRight h mid.table) (sym nothing) tt }
+    record { follows = f; bounded = bounded h f; shares = shares; cached = subst (AreToldRight h mid.table) (sym nothing) tt; counts = counts }
 
 -- a change keeps the bases
 pub bases_fed : (store : StoreState) (change : List Portion) (old new : EngineState) → AreFed store change old.table.files new.table.files → KeepBases old new

@@ -5,6 +5,7 @@ use Rattle.std.specs.List.{filter, flat_map, list_any, AllByRecursion}
 use Rattle.ncq_book.specs.declared.subscription.Subscription.{Subscription as Kept}
 use Rattle.ncq_book.specs.Books.{InstallsRise, subscription_of, timing_of}
 use Rattle.ncq_callback.specs.Labels.{Label}
+use Rattle.ncq_distinct.specs.DistinctTables.{DistinctTable}
 use Rattle.ncq_event.specs.declared.firing.Firing.{Firing}
 use Rattle.ncq_event.specs.Calendars.{due_firings}
 use Rattle.ncq_event.specs.Orders.{ordered, ordered_by, placed_by, is_before}
@@ -68,21 +69,25 @@ module _ (store : StoreState) (now to : ℕ) (subscriptions : List Kept) (rise :
   move_there = subst (AllByRecursion (λ f. IsSome (subscription_of f.install subscriptions))) (sym move_is)
       (each_ordered (λ f. IsSome (subscription_of f.install subscriptions)) (firings_of (moved_instant store now to) subscriptions) (fires_found (moved_instant store now to) subscriptions subscriptions (found_each subscriptions rise)))
 
-  pub move_text : (labels : List Label) (files : Files) → flat_map (firing_text labels store files subscriptions) slice
-      ≡ flat_map (λ (t : NoticeText). t.text) (ordered_by (λ (t : NoticeText). t.firing) (told_of labels store files (moved_instant store now to) subscriptions))
-  move_text labels files = move_texts labels store files subscriptions now to rise slice move_is
+  pub move_text : (labels : List Label) (files : Files) (distinct : DistinctTable) → flat_map (firing_text labels store files distinct subscriptions) slice
+      ≡ flat_map (λ (t : NoticeText). t.text) (ordered_by (λ (t : NoticeText). t.firing) (told_of labels store files distinct (moved_instant store now to) subscriptions))
+  move_text labels files distinct = move_texts labels store files distinct subscriptions now to rise slice move_is
 
-  pub move_place : (labels : List Label) (files : Files) (from : ℕ) → firing_spans labels store files subscriptions from slice
-      ≡ told_spans from (ordered_by (λ (t : NoticeText). t.firing) (told_of labels store files (moved_instant store now to) subscriptions))
-  move_place labels files from = move_places labels store files subscriptions now to rise slice move_is from
+  pub move_place : (labels : List Label) (files : Files) (distinct : DistinctTable) (from : ℕ) → firing_spans labels store files distinct subscriptions from slice
+      ≡ told_spans from (ordered_by (λ (t : NoticeText). t.firing) (told_of labels store files distinct (moved_instant store now to) subscriptions))
+  move_place labels files distinct from = move_places labels store files distinct subscriptions now to rise slice move_is from
+
+  -- those fire that have an instant
+  pub move_fires : AllByRecursion (λ m. list_any (λ f. f.install == m.install) slice ≡ is_some (moved_instant store now to m)) subscriptions
+  move_fires =
+      subst (λ (fs : List Firing). AllByRecursion (λ m. list_any (λ f. f.install == m.install) fs ≡ is_some (moved_instant store now to m)) subscriptions) (sym move_is)
+      (each_more (λ m. list_any (λ f. f.install == m.install) (firings_of (moved_instant store now to) subscriptions) ≡ is_some (moved_instant store now to m))
+      (λ m. list_any (λ f. f.install == m.install) (ordered (firings_of (moved_instant store now to) subscriptions)) ≡ is_some (moved_instant store now to m))
+      (λ m e. any_ordered (λ f. f.install == m.install) (firings_of (moved_instant store now to) subscriptions) ∙ e) subscriptions (fires_each (moved_instant store now to) subscriptions rise))
 
   -- those that are told are noted
   pub move_fired : noted_by store.changes slice subscriptions ≡ map (λ m. fired_if (is_some (moved_instant store now to m)) store m) subscriptions
-  move_fired = fired_subscriptions store (λ m. is_some (moved_instant store now to m)) slice subscriptions
-      (subst (λ (fs : List Firing). AllByRecursion (λ m. list_any (λ f. f.install == m.install) fs ≡ is_some (moved_instant store now to m)) subscriptions) (sym move_is)
-      (each_more (λ m. list_any (λ f. f.install == m.install) (firings_of (moved_instant store now to) subscriptions) ≡ is_some (moved_instant store now to m))
-      (λ m. list_any (λ f. f.install == m.install) (ordered (firings_of (moved_instant store now to) subscriptions)) ≡ is_some (moved_instant store now to m))
-      (λ m e. any_ordered (λ f. f.install == m.install) (firings_of (moved_instant store now to) subscriptions) ∙ e) subscriptions (fires_each (moved_instant store now to) subscriptions rise)))
+  move_fired = fired_subscriptions store (λ m. is_some (moved_instant store now to m)) slice subscriptions move_fires
 
 -- a create of the last subscription
 module _ (store : StoreState) (now : ℕ) (olds : List Kept) (made : Kept) (rise : InstallsRise (olds ++ made ∷ [])) (below : AllByRecursion (λ n. n.install < made.install) olds)
@@ -99,15 +104,18 @@ module _ (store : StoreState) (now : ℕ) (olds : List Kept) (made : Kept) (rise
   pub create_there : AllByRecursion (λ f. IsSome (subscription_of f.install (olds ++ made ∷ []))) slice
   create_there = subst (AllByRecursion (λ f. IsSome (subscription_of f.install all))) (sym create_is) (fires_found instant all all (found_each all rise))
 
-  pub create_text : (labels : List Label) (files : Files) → flat_map (firing_text labels store files (olds ++ made ∷ [])) slice
-      ≡ flat_map (λ (t : NoticeText). t.text) (told_of labels store files (created_instant now made.install) (olds ++ made ∷ []))
-  create_text labels files = told_texts labels store files all instant rise slice create_is
+  pub create_text : (labels : List Label) (files : Files) (distinct : DistinctTable) → flat_map (firing_text labels store files distinct (olds ++ made ∷ [])) slice
+      ≡ flat_map (λ (t : NoticeText). t.text) (told_of labels store files distinct (created_instant now made.install) (olds ++ made ∷ []))
+  create_text labels files distinct = told_texts labels store files distinct all instant rise slice create_is
 
-  pub create_place : (labels : List Label) (files : Files) (from : ℕ) → firing_spans labels store files (olds ++ made ∷ []) from slice
-      ≡ told_spans from (told_of labels store files (created_instant now made.install) (olds ++ made ∷ []))
-  create_place labels files from = told_places labels store files all instant rise slice create_is from
+  pub create_place : (labels : List Label) (files : Files) (distinct : DistinctTable) (from : ℕ) → firing_spans labels store files distinct (olds ++ made ∷ []) from slice
+      ≡ told_spans from (told_of labels store files distinct (created_instant now made.install) (olds ++ made ∷ []))
+  create_place labels files distinct from = told_places labels store files distinct all instant rise slice create_is from
+
+  -- it fires where it has an instant
+  pub create_fires : AllByRecursion (λ m. list_any (λ f. f.install == m.install) slice ≡ is_some (created_instant now made.install m)) (olds ++ made ∷ [])
+  create_fires = subst (λ (fs : List Firing). AllByRecursion (λ m. list_any (λ f. f.install == m.install) fs ≡ is_some (instant m)) all) (sym create_is) (fires_each instant all rise)
 
   -- it is noted where it is told
   pub create_fired : noted_by store.changes slice (olds ++ made ∷ []) ≡ map (λ m. fired_if (is_some (created_instant now made.install m)) store m) (olds ++ made ∷ [])
-  create_fired = fired_subscriptions store (λ m. is_some (instant m)) slice all
-      (subst (λ (fs : List Firing). AllByRecursion (λ m. list_any (λ f. f.install == m.install) fs ≡ is_some (instant m)) all) (sym create_is) (fires_each instant all rise))
+  create_fired = fired_subscriptions store (λ m. is_some (instant m)) slice all create_fires

@@ -12,7 +12,7 @@ use Rattle.ncq_source.specs.StoreStates.{StoreState}
 use Rattle.ncq_engine.specs.declared.span.Span.{Span}
 use Rattle.ncq_engine.specs.Applies.{KeepsCache}
 use Rattle.ncq_engine.specs.Cached.{AllServe, AreToldRight}
-use Rattle.ncq_engine.specs.Engines.{CanTell, Pairwise, last_in}
+use Rattle.ncq_engine.specs.Engines.{CanTell, KeepsCounts, Pairwise, last_in}
 use Rattle.ncq_engine.specs.Firing.{mark}
 use Rattle.ncq_engine.specs.History.{History, Subscription, changes, creates, last_change, live}
 use Rattle.ncq_engine.specs.Marks.{IsRising}
@@ -48,15 +48,15 @@ bounded e holds facts h s = record {
     same : e.table.number ≡ changes h
     same = holds.number ∙ s.changes
 
--- so an engine that follows a history, shares its files, and keeps of what was told what is right stands for it
-pub stands_of : (e : EngineState) (h : History) → Follows e h → IsBounded e h → Shares e.subscriptions e.table → AreToldRight h e.table e.cache → Stands e h
-stands_of e h follows bounded shares cached = record { follows = follows; bounded = bounded; shares = shares; cached = cached }
+-- so an engine that follows a history, shares its files, keeps of what was told what is right, and counts of those with DISTINCT alone stands for it
+pub stands_of : (e : EngineState) (h : History) → Follows e h → IsBounded e h → Shares e.subscriptions e.table → AreToldRight h e.table e.cache → KeepsCounts e.subscriptions e.distinct → Stands e h
+stands_of e h follows bounded shares cached counts = record { follows = follows; bounded = bounded; shares = shares; cached = cached; counts = counts }
 
 -- behind a command that keeps what is kept an engine stands for what it follows
-pub stands_behind : (old e : EngineState) {earlier later : History} → Goes earlier later → Stands old earlier → Follows e later → IsBounded e later → Shares e.subscriptions e.table → AllServe e.table e.cache → KeepsCache old e → Stands e later
-stands_behind old e {later = later} goes s follows bounded shares serve keeps =
+pub stands_behind : (old e : EngineState) {earlier later : History} → Goes earlier later → Stands old earlier → Follows e later → IsBounded e later → Shares e.subscriptions e.table → AllServe e.table e.cache → KeepsCounts e.subscriptions e.distinct → KeepsCache old e → Stands e later
+stands_behind old e {later = later} goes s follows bounded shares serve counts keeps =
     stands_of e later follows bounded shares
-    (cached_right goes old.table e.table old.cache e.cache follows.contents bounded.up_to bounded.number serve keeps s.cached)
+    (cached_right goes old.table e.table old.cache e.cache follows.contents bounded.up_to bounded.number serve keeps s.cached) counts
 
 -- where the notices of the last answer stand is no matter
 pub stands_with : (e e' : EngineState) (places : List Span) → e' ≡ record e { spans = places } → (h : History) → Stands e h → Stands e' h
@@ -65,6 +65,7 @@ stands_with e e' places is h s = subst (λ (x : EngineState). Stands x h) (sym i
   bounded = let b = s.bounded in record { number = b.number; up_to = b.up_to; marks = b.marks; few_changes = b.few_changes; few_creates = b.few_creates; few_files = b.few_files };
   shares = s.shares;
   cached = s.cached;
+  counts = s.counts;
 })
 
 -- nor does it matter that what is kept of what was told is given back
@@ -74,4 +75,5 @@ stands_shed e e' is h s = subst (λ (x : EngineState). Stands x h) (sym is) (rec
   bounded = let b = s.bounded in record { number = b.number; up_to = b.up_to; marks = b.marks; few_changes = b.few_changes; few_creates = b.few_creates; few_files = b.few_files };
   shares = s.shares;
   cached = tt;
+  counts = s.counts;
 })

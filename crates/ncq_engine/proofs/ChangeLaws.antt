@@ -6,6 +6,7 @@ use Rattle.std.proofs.Math.Seq.{take-length}
 use Rattle.std.proofs.lemmas.Bool.Decides.{nat_tests}
 use Rattle.std.specs.List.{flat_map, AllByRecursion}
 use Rattle.ncq_callback.specs.Labels.{Label}
+use Rattle.ncq_distinct.specs.DistinctTables.{DistinctTable}
 use Rattle.ncq_event.specs.declared.firing.Firing.{Firing}
 use Rattle.ncq_change.specs.Stores.{world_in}
 use Rattle.ncq_script.specs.declared.command.Command.TheVariants.{Delta}
@@ -25,6 +26,7 @@ use Rattle.ncq_book.specs.declared.subscription.Subscription.{Subscription as Ke
 use Rattle.ncq_feed.specs.Feeds.{AreFed}
 use Rattle.ncq_group.specs.Tables.{TableState}
 use Rattle.ncq_shelf.specs.Contents.{AreUpTo, Fits}
+use Rattle.ncq_engine.specs.DistinctCounts.{AreCounted}
 use Rattle.ncq_engine.specs.Engines.{CanTell, Pairwise, NoticeText, is_told_change, last_in}
 use Rattle.ncq_engine.specs.Firing.{are_named, fires, is_installed, is_told_of, sources_of}
 use Rattle.ncq_engine.specs.History.{History, Subscription, changes, creates, creates as creates_of, last_change, live, now, sources, with_sections, world}
@@ -154,9 +156,10 @@ module _ (engine : EngineState) (ready after_store : StoreState) (fed : TableSta
         (subst (λ n. Fits n (world (sources (Delta changed ∷ h))) fed.files) (ap (λ n. n + 1) s.changes) (subst (λ w. Fits (engine.store.changes + 1) w fed.files) (sym same_world) fits))
         s.contents
 
-    -- the engine with its files after the change
-    pub delta_follows : AreContents fed.files (Delta changed ∷ h) → Follows (record engine { store = after_store; count = engine.count + 1; table = fed }) (Delta changed ∷ h)
-    delta_follows contents = record {
+    -- the engine with its files and counts after the change
+    pub delta_follows : AreContents fed.files (Delta changed ∷ h) → (distinct' : DistinctTable) → AreCounted (Delta changed ∷ h) distinct'
+        → Follows (record engine { store = after_store; count = engine.count + 1; table = fed; distinct = distinct' }) (Delta changed ∷ h)
+    delta_follows contents distinct' counted = record {
       sources = sources_are;
       last = last_is;
       changes = changes_are;
@@ -164,46 +167,52 @@ module _ (engine : EngineState) (ready after_store : StoreState) (fed : TableSta
       creates = s.creates ∙ sym (zero-add (creates_of h));
       subscriptions = keep_noted engine.labels h changed (live h) engine.subscriptions s.subscriptions (all_fired h);
       contents = contents;
+      counted = counted;
       rising = rises_quietly h (Delta changed) refl s.rising;
     }
 
     list_is : AreContents fed.files (Delta changed ∷ h) → AreUpTo (changes (Delta changed ∷ h)) fed.files → AllByRecursion (CanTell engine.labels ready fed) engine.subscriptions
-        → told_of engine.labels ready fed.files (changed_instant changed engine.clock) engine.subscriptions ≡ map (noticed engine.labels h (Delta changed) ready fed.files) (firings h (Delta changed))
-    list_is contents upto can = told_list engine.labels h (Delta changed) ready fed.files (changed_instant changed engine.clock) (live h) engine.subscriptions
-        (tells_each engine.labels h (Delta changed) ready fed last_ready s.rising contents upto (changed_instant changed engine.clock) (live h) engine.subscriptions firing can)
+        → told_of engine.labels ready fed.files engine.distinct (changed_instant changed engine.clock) engine.subscriptions ≡ map (noticed engine.labels h (Delta changed)) (firings h (Delta changed))
+    list_is contents upto can = told_list engine.labels h (Delta changed) ready fed.files engine.distinct (changed_instant changed engine.clock) (live h) engine.subscriptions
+        (tells_each engine.labels h (Delta changed) ready fed engine.distinct last_ready s.rising contents upto (changed_instant changed engine.clock) (live h) engine.subscriptions firing can s.counted)
 
     -- what is told, and where it stands
     pub delta_texts : AreContents fed.files (Delta changed ∷ h) → AreUpTo (changes (Delta changed ∷ h)) fed.files → AllByRecursion (CanTell engine.labels ready fed) engine.subscriptions
-        → flat_map (λ (t : NoticeText). t.text) (told_of engine.labels ready fed.files (changed_instant changed engine.clock) engine.subscriptions) ≡ notices (language_of engine.labels) h (Delta changed)
+        → flat_map (λ (t : NoticeText). t.text) (told_of engine.labels ready fed.files engine.distinct (changed_instant changed engine.clock) engine.subscriptions) ≡ notices (language_of engine.labels) h (Delta changed)
     delta_texts contents upto can =
         ap (flat_map (λ (t : NoticeText). t.text)) (list_is contents upto can)
-        ∙ texts_of engine.labels h (Delta changed) ready fed.files (firings h (Delta changed))
+        ∙ texts_of engine.labels h (Delta changed) (firings h (Delta changed))
         ∙ ap (flat_map (notice_at (language_of engine.labels) h (Delta changed))) (sym (told_in_order h changed))
 
     pub delta_spans : AreContents fed.files (Delta changed ∷ h) → AreUpTo (changes (Delta changed ∷ h)) fed.files → AllByRecursion (CanTell engine.labels ready fed) engine.subscriptions
-        → (from : ℕ) → told_spans from (told_of engine.labels ready fed.files (changed_instant changed engine.clock) engine.subscriptions) ≡ spans (language_of engine.labels) h (Delta changed) from
+        → (from : ℕ) → told_spans from (told_of engine.labels ready fed.files engine.distinct (changed_instant changed engine.clock) engine.subscriptions) ≡ spans (language_of engine.labels) h (Delta changed) from
     delta_spans contents upto can from =
         ap (told_spans from) (list_is contents upto can)
-        ∙ spans_are engine.labels h (Delta changed) ready fed.files from (firings h (Delta changed))
-        ∙ ap (fired_spans engine.labels h (Delta changed) ready fed.files from) (sym (told_in_order h changed))
+        ∙ spans_are engine.labels h (Delta changed) from (firings h (Delta changed))
+        ∙ ap (fired_spans engine.labels h (Delta changed) from) (sym (told_in_order h changed))
 
   -- the texts, and where they stand, are those of the subscriptions that the change concerns
   abbrev pub AreOfConcerned : List ℕ → ℕ → List Span → Type 0
   AreOfConcerned texts from places = (h : History) → Follows engine h → AreContents fed.files (Delta changed ∷ h) → AreUpTo (changes (Delta changed ∷ h)) fed.files
-      → (texts ≡ flat_map (λ (t : NoticeText). t.text) (told_of engine.labels ready fed.files (changed_instant changed engine.clock) engine.subscriptions))
-      × (places ≡ told_spans from (told_of engine.labels ready fed.files (changed_instant changed engine.clock) engine.subscriptions))
+      → (texts ≡ flat_map (λ (t : NoticeText). t.text) (told_of engine.labels ready fed.files engine.distinct (changed_instant changed engine.clock) engine.subscriptions))
+      × (places ≡ told_spans from (told_of engine.labels ready fed.files engine.distinct (changed_instant changed engine.clock) engine.subscriptions))
+
+  -- the counts behind the change are right
+  abbrev pub AreCountedBehind : DistinctTable → Type 0
+  AreCountedBehind distinct' = (h : History) → Follows engine h → AreContents fed.files (Delta changed ∷ h) → AreUpTo (changes (Delta changed ∷ h)) fed.files → AreCounted (Delta changed ∷ h) distinct'
 
   -- an accepted change, from what the calls give
   pub change_accepted : AreFed ready change engine.table.files fed.files → Fits (engine.store.changes + 1) (world_in after_store) fed.files → AreUpTo (engine.store.changes + 1) fed.files → AllByRecursion (CanTell engine.labels ready fed) engine.subscriptions
+      → (distinct' : DistinctTable) → AreCountedBehind distinct'
       → (texts : List ℕ) (places : List Span) (out out1 out' : List ℕ) → AreOfConcerned texts (length out1) places → (applied first : Answered)
       → out1 ≡ out ++ ok_text (engine.count + 1) → out' ≡ out1 ++ texts
       → first ≡ record { from = length out1; to = length out1; spans = [] } → applied ≡ record { from = first.from; to = length out'; spans = places }
-      → Applies engine (Delta changed) out (Ok applied) (record engine { store = after_store; count = engine.count + 1; table = fed }) out'
-  change_accepted done fits upto can texts places out out1 out' concerned applied first line text first_is applied_is =
-      accepts engine (Delta changed) out applied (record engine { store = after_store; count = engine.count + 1; table = fed }) out' texts []
+      → Applies engine (Delta changed) out (Ok applied) (record engine { store = after_store; count = engine.count + 1; table = fed; distinct = distinct' }) out'
+  change_accepted done fits upto can distinct' counted texts places out out1 out' concerned applied first line text first_is applied_is =
+      accepts engine (Delta changed) out applied (record engine { store = after_store; count = engine.count + 1; table = fed; distinct = distinct' }) out' texts []
       (record {
         accepted = λ h s. delta_allowed h s;
-        follows = λ h s. delta_follows h s (contents_are h s done fits);
+        follows = λ h s. delta_follows h s (contents_are h s done fits) distinct' (counted h s (contents_are h s done fits) (upto_now h s));
         tells = λ h s. (concerned h s (contents_are h s done fits) (upto_now h s)).0 ∙ delta_texts h s (contents_are h s done fits) (upto_now h s) can;
         stand = λ h s. ap (λ (a : Answered). a.spans) applied_is ∙ (concerned h s (contents_are h s done fits) (upto_now h s)).1 ∙ delta_spans h s (contents_are h s done fits) (upto_now h s) can (length out1)
             ∙ ap (spans (language_of engine.labels) h (Delta changed)) (sym begins);

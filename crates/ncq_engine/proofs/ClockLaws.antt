@@ -4,6 +4,7 @@ use Rattle.std.specs.Prelude.{Option, Some, None, Ok, if◌then◌else◌, nat_l
 use Rattle.std.proofs.lemmas.Bool.Decides.{nat_tests}
 use Rattle.std.specs.List.{filter, flat_map, list_any, AllByRecursion}
 use Rattle.ncq_callback.specs.Labels.{Label}
+use Rattle.ncq_distinct.specs.DistinctTables.{DistinctTable}
 use Rattle.ncq_event.specs.Instants.{due, is_expired}
 use Rattle.ncq_event.specs.Orders.{ordered_by}
 use Rattle.ncq_script.specs.declared.command.Command.TheVariants.{Clock}
@@ -17,6 +18,7 @@ use Rattle.ncq_shelf.specs.Contents.{AreUpTo}
 use Rattle.ncq_engine.specs.Marks.{IsRising, first_mark}
 use Rattle.ncq_engine.specs.Tellings.{AreOf}
 use Rattle.ncq_engine.specs.Applies.{Applies, ok_text}
+use Rattle.ncq_engine.specs.DistinctCounts.{AreCounted}
 use Rattle.ncq_engine.specs.Engines.{CanTell, Pairwise, NoticeText, fired_if, has_news_in, last_in, moved_instant}
 use Rattle.ncq_engine.specs.Firing.{fires, has_news, is_installed, mark, sources_of}
 use Rattle.ncq_engine.specs.History.{History, Subscription, changes, creates as creates_of, last_change, live, now, timing_of}
@@ -83,7 +85,7 @@ expired_names instant ms = flat_map (λ m. expired_line m.name) (filter (λ m. i
 module _ (engine : EngineState) (instant : ℕ) where
   -- what the code tells the subscriptions
   abbrev pub moved_list : List NoticeText
-  moved_list = told_of engine.labels engine.store engine.table.files (moved_instant engine.store engine.clock instant) engine.subscriptions
+  moved_list = told_of engine.labels engine.store engine.table.files engine.distinct (moved_instant engine.store engine.clock instant) engine.subscriptions
 
   abbrev pub moved_text : List ℕ
   moved_text = flat_map (λ (t : NoticeText). t.text) (ordered_by (λ (t : NoticeText). t.firing) moved_list)
@@ -91,6 +93,10 @@ module _ (engine : EngineState) (instant : ℕ) where
   -- the subscriptions behind the move, before those that expire are taken off
   abbrev pub moved_subscriptions : List Kept
   moved_subscriptions = map (λ m. fired_if (is_some (moved_instant engine.store engine.clock instant m)) engine.store m) engine.subscriptions
+
+  -- the counts behind the move are right
+  abbrev pub AreCountedBehind : DistinctTable → Type 0
+  AreCountedBehind distinct' = (h : History) → Follows engine h → AreContents engine.table.files (Clock instant ∷ h) → AreUpTo (changes (Clock instant ∷ h)) engine.table.files → AreCounted (Clock instant ∷ h) distinct'
 
   module _ (upto : AreUpTo engine.store.changes engine.table.files) (can : AllByRecursion (CanTell engine.labels engine.store engine.table) engine.subscriptions) (h : History) (s : Follows engine h) where
     changes_are : engine.store.changes ≡ changes (Clock instant ∷ h)
@@ -104,33 +110,42 @@ module _ (engine : EngineState) (instant : ℕ) where
         keep_all engine.labels h (Clock instant) engine.store changes_are (λ m. is_some (moved_instant engine.store engine.clock instant m)) (live h) engine.subscriptions
         (moved_agree engine.labels h engine.store s.last s.rising engine.clock instant s.clock (live h) engine.subscriptions firing)
 
+    -- so do those that are left
+    pub left_kept : Pairwise (Keeps engine.labels (Clock instant ∷ h)) (live (Clock instant ∷ h)) (unexpired instant moved_subscriptions)
+    left_kept = pairwise_filter (Keeps engine.labels (Clock instant ∷ h)) (λ s. not (is_expired (timing_of s) instant)) (λ m. not (is_expired m.timing instant))
+        (λ s m k. ap (λ t. not (is_expired t instant)) (sym k.timing)) (live h) moved_subscriptions kept
+
+    upto_now : AreUpTo (changes (Clock instant ∷ h)) engine.table.files
+    upto_now = subst (λ n. AreUpTo n engine.table.files) changes_are upto
+
     contents_are : AreContents engine.table.files (Clock instant ∷ h)
     contents_are = contents_stay engine.table.files h (Clock instant) (zero-add (changes h)) s.contents
 
-    -- the engine with its subscriptions after the move
-    clock_follows : nat_lt instant engine.clock ≡ false → (left : TableState) → AreOf engine.table.files left.files → Follows (record engine { clock = instant; count = engine.count + 1; subscriptions = unexpired instant moved_subscriptions; table = left }) (Clock instant ∷ h)
-    clock_follows later left fewer = record {
+    -- the engine with its subscriptions and counts after the move
+    clock_follows : nat_lt instant engine.clock ≡ false → (left : TableState) → AreOf engine.table.files left.files → (distinct' : DistinctTable) → AreCountedBehind distinct'
+        → Follows (record engine { clock = instant; count = engine.count + 1; subscriptions = unexpired instant moved_subscriptions; table = left; distinct = distinct' }) (Clock instant ∷ h)
+    clock_follows later left fewer distinct' counted = record {
       sources = s.sources;
       last = s.last;
       changes = changes_are;
       clock = refl;
       creates = s.creates ∙ sym (zero-add (creates_of h));
-      subscriptions = pairwise_filter (Keeps engine.labels (Clock instant ∷ h)) (λ s. not (is_expired (timing_of s) instant)) (λ m. not (is_expired m.timing instant))
-          (λ s m k. ap (λ t. not (is_expired t instant)) (sym k.timing)) (live h) moved_subscriptions kept;
+      subscriptions = left_kept;
       contents = contents_left engine.table.files left.files (Clock instant ∷ h) fewer contents_are;
+      counted = counted h s contents_are upto_now;
       rising = ((let c = s.clock in let l : now h ≤ instant = grind (arith, nat_tests, later, c) in l), s.rising);
     }
 
-    list_is : moved_list ≡ map (noticed engine.labels h (Clock instant) engine.store engine.table.files) (firings h (Clock instant))
-    list_is = told_list engine.labels h (Clock instant) engine.store engine.table.files (moved_instant engine.store engine.clock instant) (live h) engine.subscriptions
-        (tells_each engine.labels h (Clock instant) engine.store engine.table s.last s.rising contents_are (subst (λ n. AreUpTo n engine.table.files) changes_are upto) (moved_instant engine.store engine.clock instant) (live h) engine.subscriptions firing can)
+    list_is : moved_list ≡ map (noticed engine.labels h (Clock instant)) (firings h (Clock instant))
+    list_is = told_list engine.labels h (Clock instant) engine.store engine.table.files engine.distinct (moved_instant engine.store engine.clock instant) (live h) engine.subscriptions
+        (tells_each engine.labels h (Clock instant) engine.store engine.table engine.distinct s.last s.rising contents_are upto_now (moved_instant engine.store engine.clock instant) (live h) engine.subscriptions firing can s.counted)
 
     -- what is told, and where it stands
     clock_texts : moved_text ≡ notices (language_of engine.labels) h (Clock instant)
-    clock_texts = told_text_is engine.labels h (Clock instant) engine.store engine.table.files moved_list list_is
+    clock_texts = told_text_is engine.labels h (Clock instant) moved_list list_is
 
     clock_spans : (from : ℕ) → told_spans from (ordered_by (λ (t : NoticeText). t.firing) moved_list) ≡ spans (language_of engine.labels) h (Clock instant) from
-    clock_spans from = told_spans_are engine.labels h (Clock instant) engine.store engine.table.files moved_list list_is from
+    clock_spans from = told_spans_are engine.labels h (Clock instant) moved_list list_is from
 
     -- the lines of those that expire
     clock_ends : expired_names instant moved_subscriptions ≡ expired_text (Clock instant) h
@@ -139,16 +154,17 @@ module _ (engine : EngineState) (instant : ℕ) where
         (λ s. expired_line s.statement.name) (λ m. expired_line m.name) (λ s m k. ap expired_line (sym k.name)) (live h) moved_subscriptions kept)
 
   pub clock_accepted : AreUpTo engine.store.changes engine.table.files → AllByRecursion (CanTell engine.labels engine.store engine.table) engine.subscriptions
+      → (distinct' : DistinctTable) → AreCountedBehind distinct'
       → (out first second third : List ℕ) (left : List Kept) (after : TableState) (applied : Answered) → nat_lt instant engine.clock ≡ false → left ≡ unexpired instant moved_subscriptions → AreOf engine.table.files after.files
       → first ≡ out ++ ok_text (engine.count + 1) → second ≡ first ++ moved_text → third ≡ second ++ expired_names instant moved_subscriptions
       → applied.from ≡ length first → applied.to ≡ length second → applied.spans ≡ told_spans (length first) (ordered_by (λ (t : NoticeText). t.firing) moved_list)
-      → Applies engine (Clock instant) out (Ok applied) (record engine { clock = instant; count = engine.count + 1; subscriptions = left; table = after }) third
-  clock_accepted upto can out first second third left after applied later off fewer one two three from to places =
-      subst (λ (ms : List Kept). Applies engine (Clock instant) out (Ok applied) (record engine { clock = instant; count = engine.count + 1; subscriptions = ms; table = after }) third) (sym off)
-      (accepts engine (Clock instant) out applied (record engine { clock = instant; count = engine.count + 1; subscriptions = unexpired instant moved_subscriptions; table = after }) third moved_text (expired_names instant moved_subscriptions)
+      → Applies engine (Clock instant) out (Ok applied) (record engine { clock = instant; count = engine.count + 1; subscriptions = left; table = after; distinct = distinct' }) third
+  clock_accepted upto can distinct' counted out first second third left after applied later off fewer one two three from to places =
+      subst (λ (ms : List Kept). Applies engine (Clock instant) out (Ok applied) (record engine { clock = instant; count = engine.count + 1; subscriptions = ms; table = after; distinct = distinct' }) third) (sym off)
+      (accepts engine (Clock instant) out applied (record engine { clock = instant; count = engine.count + 1; subscriptions = unexpired instant moved_subscriptions; table = after; distinct = distinct' }) third moved_text (expired_names instant moved_subscriptions)
       (record {
         accepted = λ h s. (λ i. refused_if (nat_lt instant (sym s.clock i)) refusal.Clock) ∙ ap (λ t. refused_if t refusal.Clock) later;
-        follows = λ h s. clock_follows upto can h s later after fewer;
+        follows = λ h s. clock_follows upto can h s later after fewer distinct' counted;
         tells = λ h s. clock_texts upto can h s;
         stand = λ h s. places ∙ clock_spans upto can h s (length first) ∙ ap (spans (language_of engine.labels) h (Clock instant)) (sym from);
         ends = λ h s. clock_ends upto can h s;

@@ -1,10 +1,11 @@
 -- What the engine stands for behind a declaration and behind a delete.
 use Rattle.std.proofs.Common.{◌≡◌, ℕ, ◌+◌, Bool, true, false, not, ◌||◌, cond, List, [], ◌∷◌, ◌++◌, length, slice_get, refl, sym, ◌∙◌, ap, subst, arith, inl, inr, zero-add}
-use Rattle.std.specs.Prelude.{Option, Some, None, Result, Ok, Err, IsSome, is_some, ◌⊎◌}
-use Rattle.std.specs.List.{filter, find, flat_map, list_any}
+use Rattle.std.specs.Prelude.{Option, Some, None, Result, Ok, Err, IsSome, is_some, nat_eq, ◌⊎◌}
+use Rattle.std.specs.List.{filter, find, flat_map, list_any, AllByRecursion}
 use Rattle.std.specs.FinMap.{empty}
 use Rattle.std.specs.Str.{bytes_eq}
 use Rattle.std.proofs.lemmas.Option.{slice_get_cases}
+use Rattle.ncq_distinct.specs.DistinctTables.{DistinctTable}
 use Rattle.ncq_script.specs.declared.command.Command.TheVariants.{Declare, Delete, Malformed}
 use Rattle.ncq_script.specs.declared.refusal.Refusal.{Refusal}
 use Rattle.ncq_script.specs.declared.refusal.Refusal.TheVariants as refusal
@@ -20,6 +21,7 @@ use Rattle.ncq_engine.specs.declared.engine.ApplyError.TheVariants.{Refused}
 use Rattle.ncq_book.specs.declared.subscription.Subscription.{Subscription as Kept}
 use Rattle.ncq_engine.specs.Applies.{Applies, ok_text}
 use Rattle.ncq_group.specs.Tables.{TableState}
+use Rattle.ncq_engine.specs.DistinctCounts.{IsCounted}
 use Rattle.ncq_engine.specs.Engines.{Pairwise}
 use Rattle.ncq_engine.specs.Tellings.{AreOf, IsLeftBy, without}
 use Rattle.ncq_book.specs.Books.{is_of, InstallsRise, NamesDiffer}
@@ -30,8 +32,11 @@ use Rattle.std.specs.Option.{option_map}
 use Rattle.ncq_engine.specs.History.{History, Source, Subscription, changes, creates as creates_of, is_named, live, source_in}
 use Rattle.ncq_engine.specs.Output.{is_taken, refused_if}
 use Rattle.ncq_engine.specs.Spans.{spans_of}
-use Rattle.ncq_engine.specs.Stands.{EngineState, Keeps}
+use Rattle.ncq_engine.specs.Stands.{EngineState, Follows, Keeps}
 use Rattle.ncq_engine.proofs.ContentLaws.{contents_left, contents_stay}
+use Rattle.ncq_engine.proofs.CountedLaws.{counted_left, counted_quietly, stay_out}
+use Rattle.ncq_engine.proofs.KeptCounts.{AreRemoved}
+use Rattle.ncq_engine.proofs.Lists.{each_filter}
 use Rattle.ncq_engine.proofs.EngineLaws.{accepts_quietly, keep_quiet, pairwise_any, pairwise_filter, refuses, rises_quietly, told_nobody}
 use Rattle.ncq_engine.proofs.Places.{found_within, is_found, not_found, one_declared}
 use Rattle.ncq_engine.proofs.StoreLaws.{last_declared}
@@ -71,6 +76,7 @@ module _ (engine : EngineState) (out : List ℕ) (applied : Answered) (out' : Li
           creates = s.creates ∙ sym (zero-add (creates_of h));
           subscriptions = keep_quiet engine.labels h (Declare name root key) (λ _. refl) (live h) engine.subscriptions s.subscriptions;
           contents = contents_stay engine.table.files h (Declare name root key) (zero-add (changes h)) s.contents;
+          counted = counted_quietly h (Declare name root key) (λ _. refl) engine.distinct (live h) s.counted;
           rising = rises_quietly h (Declare name root key) refl s.rising;
         };
         tells = λ h s. ap (flat_map _) (sym (told_nobody h (Declare name root key) (λ _. refl)));
@@ -86,11 +92,12 @@ module _ (engine : EngineState) (out : List ℕ) (applied : Answered) (out' : Li
   pub taken_is : (name : List ℕ) (h : History) → Pairwise (Keeps engine.labels h) (live h) engine.subscriptions → is_taken name h ≡ list_any (λ m. bytes_eq name m.name) engine.subscriptions
   taken_is name h p = pairwise_any (Keeps engine.labels h) (is_named name) (λ m. bytes_eq name m.name) (named_alike name h) (live h) engine.subscriptions p
 
-  -- the subscription of the name is gone, and its files with it
+  -- the subscription of the name is gone, and its files and counts with it
   pub delete_accepted : (name : List ℕ) (left : List Kept) (table' : TableState) → list_any (λ m. bytes_eq name m.name) engine.subscriptions ≡ true → left ≡ filter (λ m. not (bytes_eq name m.name)) engine.subscriptions → AreOf engine.table.files table'.files
-      → Applies engine (Delete name) out (Ok applied) (record engine { count = engine.count + 1; subscriptions = left; table = table' }) out'
-  delete_accepted name left table' has gone fewer =
-      accepts_quietly engine (Delete name) out applied (record engine { count = engine.count + 1; subscriptions = left; table = table' }) out'
+      → (distinct' : DistinctTable) (installs : List ℕ) → AllByRecursion (λ m. list_any (nat_eq m.install) installs ≡ false) left → AreRemoved installs engine.distinct distinct'
+      → Applies engine (Delete name) out (Ok applied) (record engine { count = engine.count + 1; subscriptions = left; table = table'; distinct = distinct' }) out'
+  delete_accepted name left table' has gone fewer distinct' installs stay removed =
+      accepts_quietly engine (Delete name) out applied (record engine { count = engine.count + 1; subscriptions = left; table = table'; distinct = distinct' }) out'
       (record {
         accepted = λ h s. ap (λ t. refused_if (not t) refusal.NoName) (taken_is name h s.subscriptions ∙ has);
         follows = λ h s. record {
@@ -99,10 +106,10 @@ module _ (engine : EngineState) (out : List ℕ) (applied : Answered) (out' : Li
           changes = s.changes ∙ sym (zero-add (changes h));
           clock = s.clock;
           creates = s.creates ∙ sym (zero-add (creates_of h));
-          subscriptions = subst (λ (ms : List Kept). Pairwise (Keeps engine.labels (Delete name ∷ h)) (live (Delete name ∷ h)) ms) (sym gone)
-              (pairwise_filter (Keeps engine.labels (Delete name ∷ h)) (λ s. not (is_named name s)) (λ m. not (bytes_eq name m.name)) (λ s m k. ap (λ t. not (bytes_eq name t)) (sym k.name)) (live h) engine.subscriptions
-              (keep_quiet engine.labels h (Delete name) (λ _. refl) (live h) engine.subscriptions s.subscriptions));
+          subscriptions = left_kept h s;
           contents = contents_left engine.table.files table'.files (Delete name ∷ h) fewer (contents_stay engine.table.files h (Delete name) (zero-add (changes h)) s.contents);
+          counted = counted_left engine.labels (Delete name ∷ h) installs engine.distinct distinct' removed (live (Delete name ∷ h)) left (left_kept h s) stay
+              (each_filter (IsCounted (Delete name ∷ h) engine.distinct) (λ s. not (is_named name s)) (live h) (counted_quietly h (Delete name) (λ _. refl) engine.distinct (live h) s.counted));
           rising = rises_quietly h (Delete name) refl s.rising;
         };
         tells = λ h s. ap (flat_map _) (sym (told_nobody h (Delete name) (λ _. refl)));
@@ -111,6 +118,11 @@ module _ (engine : EngineState) (out : List ℕ) (applied : Answered) (out' : Li
         counted = refl;
         named = refl;
       }) text places
+    where
+      left_kept : (h : History) → Follows engine h → Pairwise (Keeps engine.labels (Delete name ∷ h)) (live (Delete name ∷ h)) left
+      left_kept h s = subst (λ (ms : List Kept). Pairwise (Keeps engine.labels (Delete name ∷ h)) (live (Delete name ∷ h)) ms) (sym gone)
+          (pairwise_filter (Keeps engine.labels (Delete name ∷ h)) (λ s. not (is_named name s)) (λ m. not (bytes_eq name m.name)) (λ s m k. ap (λ t. not (bytes_eq name t)) (sym k.name)) (live h) engine.subscriptions
+          (keep_quiet engine.labels h (Delete name) (λ _. refl) (live h) engine.subscriptions s.subscriptions))
 
 module _ (engine : EngineState) (out : List ℕ) (result : Result Answered ApplyError) (new : EngineState) (out' : List ℕ)
     (same : new ≡ record engine { count = engine.count + 1 }) (untouched : out' ≡ out) where
@@ -164,9 +176,11 @@ none_named name (m ∷ ms) e =
 -- a delete that is accepted, from what the calls give
 pub delete_answers : (e : EngineState) (name : List ℕ) (install : ℕ) → install_of name e.subscriptions ≡ Some install → InstallsRise e.subscriptions → NamesDiffer e.subscriptions
     → (live_table : LiveState) → IsLeftBy (install ∷ []) (record { table = e.table; subscriptions = e.subscriptions; instant = e.clock }) live_table
+    → (distinct' : DistinctTable) → AreRemoved (install ∷ []) e.distinct distinct'
     → (out : List ℕ) (applied : Answered) (out' : List ℕ) → out' ≡ out ++ ok_text (e.count + 1) → applied ≡ record { from = length out'; to = length out'; spans = [] }
-    → Applies e (Delete name) out (Ok applied) (record e { clock = live_table.instant; count = e.count + 1; subscriptions = live_table.subscriptions; table = live_table.table }) out'
-delete_answers e name install found rise differ live_table left out applied out' text places =
-    subst (λ (n : ℕ). Applies e (Delete name) out (Ok applied) (record e { clock = n; count = e.count + 1; subscriptions = live_table.subscriptions; table = live_table.table }) out') (sym left.instant)
+    → Applies e (Delete name) out (Ok applied) (record e { clock = live_table.instant; count = e.count + 1; subscriptions = live_table.subscriptions; table = live_table.table; distinct = distinct' }) out'
+delete_answers e name install found rise differ live_table left distinct' removed out applied out' text places =
+    subst (λ (n : ℕ). Applies e (Delete name) out (Ok applied) (record e { clock = n; count = e.count + 1; subscriptions = live_table.subscriptions; table = live_table.table; distinct = distinct' }) out') (sym left.instant)
     (delete_accepted e out applied out' text places name live_table.subscriptions live_table.table (some_named name e.subscriptions install found)
-    (left.subscriptions ∙ without_one install e.subscriptions ∙ named_is name install e.subscriptions rise differ found) left.files)
+    (left.subscriptions ∙ without_one install e.subscriptions ∙ named_is name install e.subscriptions rise differ found) left.files distinct' (install ∷ [])
+    (subst (λ (ms : List Kept). AllByRecursion (λ m. list_any (nat_eq m.install) (install ∷ []) ≡ false) ms) (sym left.subscriptions) (stay_out (install ∷ []) e.subscriptions)) removed)

@@ -105,6 +105,7 @@ module _ (e : EngineState) (number : ℕ) (file next : KeptFile) (table : TableS
         sound = sounds i.sound;
         next = (let n = i.next in let l : table.next_file ≤ 256 * e.creates = omega (arith, n, next_file) in l);
         serve = none_serve table e.cache nothing;
+        counts = i.counts;
       }
 
   contents : (h : History) → AreContents e.table.files h → AreContents table.files h
@@ -128,5 +129,6 @@ module _ (e : EngineState) (number : ℕ) (file next : KeptFile) (table : TableS
     creates = s.creates;
     subscriptions = s.subscriptions;
     contents = contents h s.contents;
+    counted = s.counted;
     rising = s.rising;
   }

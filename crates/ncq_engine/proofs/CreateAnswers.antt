@@ -1,5 +1,5 @@
 -- A create that is accepted, from what the calls give.
-use Rattle.std.proofs.Common.{◌≡◌, ℕ, ◌+◌, ◌<◌, ◌≤◌, ◌-◌, ◌^◌, false, List, [], ◌∷◌, ◌++◌, map, length, refl, sym, ◌∙◌, ap, subst, arith}
+use Rattle.std.proofs.Common.{◌≡◌, ℕ, ◌+◌, ◌<◌, ◌≤◌, ◌-◌, ◌^◌, ◌==◌, false, List, [], ◌∷◌, ◌++◌, map, length, refl, sym, ◌∙◌, ap, subst, inl, arith}
 use Rattle.std.specs.Prelude.{Ok, Some, is_some, IfSome, IsSome, not}
 use Rattle.std.specs.FinMap.{get}
 use Rattle.std.specs.List.{filter, flat_map, list_any, AllByRecursion}
@@ -13,6 +13,7 @@ use Rattle.ncq_book.proofs.Lists.{each_leads}
 use Rattle.ncq_cache.specs.Cached.{Cached}
 use Rattle.ncq_callback.specs.Labels.{Label}
 use Rattle.ncq_change.specs.Stores.{world_in}
+use Rattle.ncq_distinct.specs.DistinctTables.{DistinctTable}
 use Rattle.ncq_event.specs.declared.firing.Firing.{Firing}
 use Rattle.ncq_event.specs.declared.timing.Timing.{Timing}
 use Rattle.ncq_event.specs.Instants.{is_expired}
@@ -40,16 +41,23 @@ use Rattle.ncq_engine.specs.Notices.{kind_in, name_at}
 use Rattle.ncq_engine.specs.Output.{is_at_odds}
 use Rattle.ncq_engine.specs.Joins.{IsSubscriptionOf, timed}
 use Rattle.ncq_engine.specs.Scans.{scanned_by}
-use Rattle.ncq_engine.specs.Stands.{EngineState}
+use Rattle.ncq_engine.specs.DistinctCounts.{AreCounted, IsCounted}
+use Rattle.ncq_engine.specs.History.{History, changes, created, live}
+use Rattle.ncq_engine.specs.Stands.{AreContents, EngineState, Follows}
 use Rattle.ncq_engine.specs.Tellings.{IsAnswered, firing_text, noted_by, started_at}
-use Rattle.ncq_engine.proofs.BookLaws.{create_fired, create_place, create_text, create_there}
-use Rattle.ncq_engine.proofs.ClockAnswers.{counted_engine}
+use Rattle.ncq_engine.proofs.BookLaws.{create_fired, create_fires, create_place, create_text, create_there}
+use Rattle.ncq_engine.proofs.ByInstall.{found_each}
+use Rattle.ncq_engine.proofs.ClockAnswers.{counted_engine, live_of}
+use Rattle.ncq_engine.proofs.CountedLaws.{HasSettled, IsAskedAs, counts_follow}
 use Rattle.ncq_engine.specs.declared.span.Span.{Span}
 use Rattle.ncq_engine.proofs.FiringLaws.{firing_spans}
-use Rattle.ncq_engine.proofs.CreateLaws.{above_all, create_accepted, created_instant}
+use Rattle.ncq_engine.proofs.CreateLaws.{above_all, create_accepted, created_instant, firing, own_counted}
 use Rattle.ncq_engine.proofs.CachedLaws.{grown_serve, keeps_grown, of_old_installed, serve_installed}
 use Rattle.ncq_engine.proofs.EngineLaws.{applies_cached}
-use Rattle.ncq_engine.proofs.InvariantLaws.{Invariant, invariant_added, invariant_cached, invariant_counted, invariant_noted}
+use Rattle.ncq_engine.proofs.InvariantLaws.{Invariant, invariant_added, invariant_cached, invariant_counted, invariant_counts, invariant_noted}
+use Rattle.ncq_engine.proofs.KeptCounts.{counts_settled}
+use Rattle.ncq_engine.proofs.Lists.{each_more, each_push}
+use Rattle.ncq_engine.proofs.NotedLaws.{any_flip}
 use Rattle.ncq_engine.proofs.ScanLaws.{asked_is}
 use Rattle.ncq_engine.proofs.TableLaws.{can_new}
 use Rattle.ncq_engine.proofs.UndoLaws.{at_mark_again, subscriptions_back, table_again}
@@ -73,8 +81,8 @@ pub record IsStarting (live_table : LiveState) (install : ℕ) (firings : List F
 
 -- what was written
 pub record IsToldFirst (inside : EngineState) (known : List Label) (live_table : LiveState) (firings : List Firing) (line out' : List ℕ) (places : List Span) : Type 0 where
-  pub text : out' ≡ line ++ flat_map (firing_text known inside.store live_table.table.files live_table.subscriptions) firings
-  pub stand : places ≡ firing_spans known inside.store live_table.table.files live_table.subscriptions (length line) firings
+  pub text : out' ≡ line ++ flat_map (firing_text known inside.store live_table.table.files inside.distinct live_table.subscriptions) firings
+  pub stand : places ≡ firing_spans known inside.store live_table.table.files inside.distinct live_table.subscriptions (length line) firings
 
 -- the statement and what was found of it
 pub record IsRead (e : EngineState) (statement : Statement) (query : NormalQuery) (action : ℕ) : Type 0 where
@@ -133,21 +141,39 @@ module _ (e : EngineState) (statement : Statement) (query : NormalQuery) (action
       noted_is : noted_by e.store.changes firings all ≡ map (λ m. fired_if (is_some (created_instant e.clock (e.creates + 1) m)) e.store m) all
       noted_is = create_fired e.store e.clock e.subscriptions (own inn.file) rise (below inn.file) starting.installs starting.kept firings starting.installs_is starting.kept_is starting.slice_is
 
-      noted_holds : Invariant (record e { count = e.count + 1; creates = e.creates + 1; subscriptions = noted_by e.store.changes firings all; table = live_table.table })
-      noted_holds =
-          subst (λ (ms : List Kept). Invariant (record e { count = e.count + 1; creates = e.creates + 1; subscriptions = ms; table = live_table.table })) (sym noted_is)
-          (invariant_noted e.store (λ m. is_some (created_instant e.clock (e.creates + 1) m)) (record e { count = e.count + 1; creates = e.creates + 1; subscriptions = all; table = live_table.table }) refl inn.facts.up_to added)
+      -- the live table as it is told
+      abbrev told_table : LiveState
+      told_table = record { table = live_table.table; subscriptions = all; instant = e.clock }
 
-      applies : (out line out' : List ℕ) (places : List Span) (applied : Answered) → line ≡ out ++ ok_text (e.count + 1)
-          → IsToldFirst (counted_engine e) e.labels (record { table = live_table.table; subscriptions = all; instant = e.clock }) firings line out' places
+      noted_holds : (distinct : DistinctTable) → HasSettled e.store told_table firings e.distinct distinct
+          → Invariant (record e { count = e.count + 1; creates = e.creates + 1; subscriptions = noted_by e.store.changes firings all; table = live_table.table; distinct = distinct })
+      noted_holds distinct s =
+          subst (λ (ms : List Kept). Invariant (record e { count = e.count + 1; creates = e.creates + 1; subscriptions = ms; table = live_table.table; distinct = distinct })) (sym noted_is)
+          (invariant_noted e.store (λ m. is_some (created_instant e.clock (e.creates + 1) m)) (record e { count = e.count + 1; creates = e.creates + 1; subscriptions = all; table = live_table.table; distinct = distinct }) refl inn.facts.up_to
+          (invariant_counts (record e { count = e.count + 1; creates = e.creates + 1; subscriptions = all; table = live_table.table }) distinct (counts_settled e.store told_table firings e.distinct s.waited distinct added.counts s.waits s.same s.settled) added))
+
+      -- the counts follow
+      counts_created : (distinct : DistinctTable) → HasSettled e.store told_table firings e.distinct distinct
+          → (h : History) → Follows e h → AreContents live_table.table.files (Create statement ∷ h) → AreUpTo (changes (Create statement ∷ h)) live_table.table.files → AreCounted (Create statement ∷ h) distinct
+      counts_created distinct settles h s contents upto_now =
+          counts_follow e.labels h (Create statement) e.store told_table s.last s.rising contents upto_now (created_instant e.clock (e.creates + 1)) firings e.distinct distinct settles (live h ++ created statement h ∷ []) all
+          (firing e live_table.table statement query action inn.file read.whole read.binds read.kind read.named inn.installed holds.number inn.fits upto can holds.installed holds.counts h s) can (found_each all rise)
+          (each_more (λ m. list_any (λ f. f.install == m.install) firings ≡ is_some (created_instant e.clock (e.creates + 1) m)) (IsAskedAs e.store live_table.table.files firings (created_instant e.clock (e.creates + 1)))
+          (λ m fires. inl (any_flip m firings ∙ fires)) all
+          (create_fires e.store e.clock e.subscriptions (own inn.file) rise (below inn.file) starting.installs starting.kept firings starting.installs_is starting.kept_is starting.slice_is))
+          (each_push (IsCounted h e.distinct) (live h) (created statement h) s.counted
+          (own_counted e live_table.table statement query action inn.file read.whole read.binds read.kind read.named inn.installed holds.number inn.fits upto can holds.installed holds.counts h s))
+
+      applies : (distinct : DistinctTable) → HasSettled e.store told_table firings e.distinct distinct → (out line out' : List ℕ) (places : List Span) (applied : Answered) → line ≡ out ++ ok_text (e.count + 1)
+          → IsToldFirst (counted_engine e) e.labels told_table firings line out' places
           → applied.from ≡ length line → applied.to ≡ length out' → applied.spans ≡ places
-          → Applies e (Create statement) out (Ok applied) (record e { count = e.count + 1; creates = e.creates + 1; subscriptions = noted_by e.store.changes firings all; table = live_table.table }) out'
-      applies out line out' places applied line_is told from to notices =
+          → Applies e (Create statement) out (Ok applied) (record e { count = e.count + 1; creates = e.creates + 1; subscriptions = noted_by e.store.changes firings all; table = live_table.table; distinct = distinct }) out'
+      applies distinct settles out line out' places applied line_is told from to notices =
           create_accepted e live_table.table statement query action inn.file read.whole read.binds read.kind read.named inn.installed holds.number inn.fits upto
-          read.fitting read.free read.timely can holds.installed out line out' applied (noted_by e.store.changes firings all) line_is
-          (told.text ∙ ap (λ text. line ++ text) (create_text e.store e.clock e.subscriptions (own inn.file) rise (below inn.file) starting.installs starting.kept firings starting.installs_is starting.kept_is starting.slice_is e.labels live_table.table.files))
+          read.fitting read.free read.timely can holds.installed holds.counts distinct (counts_created distinct settles) out line out' applied (noted_by e.store.changes firings all) line_is
+          (told.text ∙ ap (λ text. line ++ text) (create_text e.store e.clock e.subscriptions (own inn.file) rise (below inn.file) starting.installs starting.kept firings starting.installs_is starting.kept_is starting.slice_is e.labels live_table.table.files e.distinct))
           from to
-          (notices ∙ told.stand ∙ create_place e.store e.clock e.subscriptions (own inn.file) rise (below inn.file) starting.installs starting.kept firings starting.installs_is starting.kept_is starting.slice_is e.labels live_table.table.files (length line))
+          (notices ∙ told.stand ∙ create_place e.store e.clock e.subscriptions (own inn.file) rise (below inn.file) starting.installs starting.kept firings starting.installs_is starting.kept_is starting.slice_is e.labels live_table.table.files e.distinct (length line))
           noted_is
 
 -- what was read of a subscription's statement
@@ -193,13 +219,10 @@ subscription_of_it e known handled statement query action timing subscription no
     subscription_is : subscription ≡ new_subscription statement query (timed statement e.clock) action e.creates subscription.file
     subscription_is = one ∙ ap (λ t. new_subscription statement query t action e.creates subscription.file) now
 
--- the live table of an engine
-abbrev pub live_of : EngineState → LiveState
-live_of e = record { table = e.table; subscriptions = e.subscriptions; instant = e.clock }
-
--- the engine with this live table behind a create, and what is kept of what was told
-abbrev pub created_engine : EngineState → LiveState → List Cached → EngineState
-created_engine e after cache = record e { clock = after.instant; count = e.count + 1; creates = e.creates + 1; subscriptions = after.subscriptions; table = after.table; cache = cache }
+-- the engine with this live table behind a create, what is kept of what was told, and the counts
+abbrev pub created_engine : EngineState → LiveState → List Cached → DistinctTable → EngineState
+created_engine e after cache distinct =
+    record e { clock = after.instant; count = e.count + 1; creates = e.creates + 1; subscriptions = after.subscriptions; table = after.table; cache = cache; distinct = distinct }
 
 -- the subscription came in, as the live table tells
 pub record HasCome (e : EngineState) (statement : Statement) (m : Kept) (plan : Expr) (live_table : LiveState) : Type 0 where
@@ -251,12 +274,17 @@ module _ {e : EngineState} {statement : Statement} {m : Kept} {plan : Expr} {liv
     after_is : after ≡ record { table = live_table.table; subscriptions = noted_by e.store.changes firings full; instant = e.clock }
     after_is = noted ∙ (λ i. record { table = live_table.table; subscriptions = noted_by e.store.changes firings (inn.subscriptions i); instant = inn.instant i })
 
+    -- what waited for it was settled
+    full_settled : (distinct : DistinctTable) → HasSettled e.store live_table firings e.distinct distinct → HasSettled e.store (record { table = live_table.table; subscriptions = full; instant = e.clock }) firings e.distinct distinct
+    full_settled distinct =
+        subst (λ (l : LiveState). HasSettled e.store l firings e.distinct distinct) (λ i. record { table = live_table.table; subscriptions = inn.subscriptions i; instant = inn.instant i })
+
     -- what holds behind it
-    pub come_holds : (cache : List Cached) → Grows live_table.table e.cache cache → Invariant (created_engine e after cache)
-    come_holds cache grows =
-        subst (λ (l : LiveState). Invariant (created_engine e l cache)) (sym after_is)
-        (invariant_cached (record e { count = e.count + 1; creates = e.creates + 1; subscriptions = noted_by e.store.changes firings full; table = live_table.table }) cache
-        (grown_serve live_table.table e.cache cache come_serve grows) (noted_holds e statement m.query m.action c.holds read live_table inn firings start))
+    pub come_holds : (cache : List Cached) (distinct : DistinctTable) → Grows live_table.table e.cache cache → HasSettled e.store live_table firings e.distinct distinct → Invariant (created_engine e after cache distinct)
+    come_holds cache distinct grows settles =
+        subst (λ (l : LiveState). Invariant (created_engine e l cache distinct)) (sym after_is)
+        (invariant_cached (record e { count = e.count + 1; creates = e.creates + 1; subscriptions = noted_by e.store.changes firings full; table = live_table.table; distinct = distinct }) cache
+        (grown_serve live_table.table e.cache cache come_serve grows) (noted_holds e statement m.query m.action c.holds read live_table inn firings start distinct (full_settled distinct settles)))
 
     pub come_keeps : (cache : List Cached) → Grows live_table.table e.cache cache → KeepsPairs e.table e.cache after.table cache
     come_keeps cache grows =
@@ -264,14 +292,14 @@ module _ {e : EngineState} {statement : Statement} {m : Kept} {plan : Expr} {liv
         (keeps_grown e.table live_table.table e.cache cache c.holds.serve (of_old_installed (plan_of m.query) e.table live_table.table inn.file.0 inn.installed inn.installed.order) grows)
 
     -- the answer to the create, by what was told of the files as they are then
-    pub come_answers : (known : List Label) → e.labels ≡ known → (out out' : List ℕ) (answered : Answered) (cache : List Cached)
-        → IsAnswered (e.count + 1) known e.store live_table firings out out' answered
-        → Applies e (Create statement) out (Ok answered) (created_engine e after cache) out'
-    come_answers known handled out out' answered cache told =
-        subst (λ (l : LiveState). Applies e (Create statement) out (Ok answered) (created_engine e l cache) out') (sym after_is)
-        (let t = subst (λ (p : LiveState × List Label). IsAnswered (e.count + 1) p.1 e.store p.0 firings out out' answered) (λ i. (record { table = live_table.table; subscriptions = inn.subscriptions i; instant = inn.instant i }, sym handled i)) told in
-        applies_cached e (Create statement) out (Ok answered) (record e { count = e.count + 1; creates = e.creates + 1; subscriptions = noted_by e.store.changes firings full; table = live_table.table }) out' cache
-        (applies e statement m.query m.action c.holds read live_table inn firings start out (out ++ ok_text (e.count + 1)) out' answered.spans answered refl (record { text = t.written; stand = t.spans }) t.from t.to refl))
+    pub come_answers : (known : List Label) → e.labels ≡ known → (out out' : List ℕ) (answered : Answered) (cache : List Cached) (distinct : DistinctTable) → HasSettled e.store live_table firings e.distinct distinct
+        → IsAnswered (e.count + 1) known e.store e.distinct live_table firings out out' answered
+        → Applies e (Create statement) out (Ok answered) (created_engine e after cache distinct) out'
+    come_answers known handled out out' answered cache distinct settles told =
+        subst (λ (l : LiveState). Applies e (Create statement) out (Ok answered) (created_engine e l cache distinct) out') (sym after_is)
+        (let t = subst (λ (p : LiveState × List Label). IsAnswered (e.count + 1) p.1 e.store e.distinct p.0 firings out out' answered) (λ i. (record { table = live_table.table; subscriptions = inn.subscriptions i; instant = inn.instant i }, sym handled i)) told in
+        applies_cached e (Create statement) out (Ok answered) (record e { count = e.count + 1; creates = e.creates + 1; subscriptions = noted_by e.store.changes firings full; table = live_table.table; distinct = distinct }) out' cache
+        (applies e statement m.query m.action c.holds read live_table inn firings start distinct (full_settled distinct settles) out (out ++ ok_text (e.count + 1)) out' answered.spans answered refl (record { text = t.written; stand = t.spans }) t.from t.to refl))
 
   -- the subscription goes again: all is as before it came
   module _ (low : LiveState) (gone : low.subscriptions ≡ filter (λ n. not (is_of (e.creates + 1) n)) live_table.subscriptions)

@@ -1,17 +1,24 @@
 -- What the engine stands for behind a create.
-use Rattle.std.proofs.Common.{◌≡◌, ℕ, ◌+◌, ◌<◌, ◌≤◌, Bool, true, false, ◌&&◌, ◌==◌, List, [], ◌∷◌, ◌++◌, map, length, refl, sym, ◌∙◌, ap, subst, arith, zero-add}
-use Rattle.std.specs.Prelude.{Option, Some, None, Result, Ok, Err, if◌then◌else◌, IfNone, IfSome, nat_le, is_some}
+use Rattle.std.proofs.Common.{◌≡◌, ℕ, ◌+◌, ◌<◌, ◌≤◌, Bool, true, false, ◌&&◌, ◌||◌, ◌==◌, List, [], ◌∷◌, ◌++◌, map, length, refl, sym, ◌∙◌, ap, subst, arith, zero-add}
+use Rattle.std.specs.Prelude.{Option, Some, None, Result, Ok, Err, if◌then◌else◌, IfNone, IfSome, nat_eq, nat_le, is_some}
 use Rattle.std.proofs.Math.Seq.{take-length}
 use Rattle.std.proofs.lemmas.Bool.Decides.{nat_tests}
 use Rattle.std.proofs.lemmas.List.{append-nil}
 use Rattle.std.specs.List.{flat_map, list_any, AllByRecursion}
 use Rattle.std.specs.Str.{bytes_eq}
+use Rattle.std.specs.FinMap.{get-empty}
+use Rattle.std.specs.Ordering.{nat_cmp}
+use Rattle.std.specs.Cmp.Lexicographic.{slice_cmp}
+use Rattle.ncq_bag.specs.Bags.{count_in}
+use Rattle.ncq_bag.specs.Counts.{stands}
+use Rattle.ncq_base.specs.Keys.{ByBytes}
 use Rattle.ncq_base.specs.declared.atom.FileId.{FileId}
 use Rattle.ncq_bind.specs.Bindings.{Binds, Roots, have_roots, roots_in}
 use Rattle.ncq_bind.specs.Bound.{query_is_bound}
 use Rattle.ncq_bind.specs.declared.binding.BindError.{BindError}
 use Rattle.ncq_bind.specs.declared.binding.BindError.TheVariants as binding
 use Rattle.ncq_change.specs.Stores.{world_in}
+use Rattle.ncq_distinct.specs.DistinctTables.{counts_at, DistinctTable}
 use Rattle.ncq_event.specs.Calendars.{firing_at}
 use Rattle.ncq_event.specs.Instants.{is_expired}
 use Rattle.ncq_event.specs.Orders.{ordered_by}
@@ -33,14 +40,15 @@ use Rattle.ncq_engine.specs.declared.engine.ApplyError.TheVariants.{Refused}
 use Rattle.ncq_book.specs.declared.subscription.Subscription.{Subscription as Kept}
 use Rattle.ncq_book.specs.Books.{subscription_of}
 use Rattle.ncq_engine.specs.Applies.{Applies, error_of, kind_at, ok_text, query_refusal, refused_query}
-use Rattle.ncq_engine.specs.Engines.{CanTell, InstallsAreUpTo, Pairwise, NoticeText, fired_if, new_subscription, notice_texts}
+use Rattle.ncq_engine.specs.DistinctCounts.{AreCounted, IsCounted, all_at}
+use Rattle.ncq_engine.specs.Engines.{CanTell, InstallsAreUpTo, KeepsCounts, Pairwise, NoticeText, fired_if, new_subscription, notice_texts}
 use Rattle.ncq_engine.specs.Firing.{fires, is_new}
 use Rattle.ncq_engine.specs.History.{History, Subscription, changes, created, creates as creates_of, is_named, live, now, sources, start_of, world}
 use Rattle.ncq_engine.specs.Languages.{binding_refusal, language_of}
 use Rattle.ncq_engine.specs.Marks.{noted}
 use Rattle.ncq_engine.specs.Notices.{firings, kind_in, name_at}
 use Rattle.ncq_engine.specs.Output.{first_refusal, is_at_odds, notices, refused_if}
-use Rattle.std.specs.Option.{option_or}
+use Rattle.std.specs.Option.{option_or, unwrap_or}
 use Rattle.ncq_engine.specs.Joins.{timed}
 use Rattle.ncq_engine.specs.Stands.{AreContents, EngineState, Follows, Keeps}
 use Rattle.ncq_engine.specs.Tellings.{has_started, started_at}
@@ -49,7 +57,7 @@ use Rattle.ncq_engine.proofs.ContentLaws.{contents_installed}
 use Rattle.ncq_engine.proofs.EngineLaws.{accepts, gives_up, pairwise_any, refuses, rises_quietly}
 use Rattle.ncq_engine.proofs.HistoryLaws.{Installed, installed, never}
 use Rattle.ncq_engine.proofs.Keeping.{Agrees, IsFirst, keep_all}
-use Rattle.ncq_engine.proofs.Lists.{each_more, flat_map_append}
+use Rattle.ncq_engine.proofs.Lists.{each_more, each_push, flat_map_append}
 use Rattle.ncq_engine.proofs.MarkLaws.{never_first}
 use Rattle.ncq_engine.proofs.TellingLoops.{pairwise_push}
 use Rattle.ncq_engine.proofs.ToldLaws.{noticed, tells_each, told_list, told_of, told_spans, told_spans_are, told_text_is}
@@ -158,6 +166,14 @@ created_firings clock ms m less =
     by true = refl
     by false = refl
 
+-- no counts are kept under an install number above all others
+none_above : (most : ℕ) (ms : List Kept) → InstallsAreUpTo most ms → list_any (λ m. m.distinct && nat_eq m.install (most + 1)) ms ≡ false
+none_above most [] few = refl
+none_above most (m ∷ ms) few =
+    let le = few.0 in
+    let other : nat_eq m.install (most + 1) ≡ false = grind (arith, nat_tests, le) in
+    (λ i. m.distinct && other i || none_above most ms few.1 i) ∙ elim m.distinct as (λ t. (t && false || false) ≡ false) [ true ↦ refl | false ↦ refl ]
+
 -- the new subscription is kept, as it has not fired
 keeps_new : (engine : EngineState) (statement : Statement) (query : NormalQuery) (action : ℕ) (file : FileId)
     → IsWhole statement → Binds statement.query (roots_in engine.store) (Ok query) → kind_at engine.labels action ≡ kind_in statement.action engine.labels → name_at engine.labels action ≡ Some statement.action
@@ -168,6 +184,7 @@ keeps_new engine statement query action file whole binds kind named h s = record
   whole = whole;
   bound = binds.bound;
   query = binds.answer;
+  distinct = refl;
   timing = λ i. timed statement (s.clock i);
   kind = kind;
   action = named;
@@ -203,9 +220,13 @@ module _ (engine : EngineState) (table : TableState) (statement : Statement) (qu
   created_subscriptions = map (λ m. fired_if (is_some (created_instant engine.clock (engine.creates + 1) m)) engine.store m) (engine.subscriptions ++ new_subscription statement query (timed statement engine.clock) action engine.creates file ∷ [])
 
   abbrev pub created_list : List NoticeText
-  created_list = told_of engine.labels engine.store table.files (created_instant engine.clock (engine.creates + 1)) (engine.subscriptions ++ new_subscription statement query (timed statement engine.clock) action engine.creates file ∷ [])
+  created_list = told_of engine.labels engine.store table.files engine.distinct (created_instant engine.clock (engine.creates + 1)) (engine.subscriptions ++ new_subscription statement query (timed statement engine.clock) action engine.creates file ∷ [])
 
-  module _ (can : AllByRecursion (CanTell engine.labels engine.store table) all) (few : InstallsAreUpTo engine.creates engine.subscriptions) (h : History) (s : Follows engine h) where
+  -- the counts behind the create are right
+  abbrev pub AreCountedBehind : DistinctTable → Type 0
+  AreCountedBehind distinct' = (h : History) → Follows engine h → AreContents table.files (Create statement ∷ h) → AreUpTo (changes (Create statement ∷ h)) table.files → AreCounted (Create statement ∷ h) distinct'
+
+  module _ (can : AllByRecursion (CanTell engine.labels engine.store table) all) (few : InstallsAreUpTo engine.creates engine.subscriptions) (keeps : KeepsCounts engine.subscriptions engine.distinct) (h : History) (s : Follows engine h) where
     abbrev own : Subscription
     own = created statement h
 
@@ -242,7 +263,8 @@ module _ (engine : EngineState) (table : TableState) (statement : Statement) (qu
     own_keeps : Keeps engine.labels h own made
     own_keeps = keeps_new engine statement query action file whole binds kind named h s
 
-    firing : Pairwise (λ s m. Keeps engine.labels h s m × (instant m ≡ fires s h (Create statement))) (live h ++ own ∷ []) all
+    pub firing : Pairwise (λ s m. Keeps engine.labels h s m × (created_instant engine.clock (engine.creates + 1) m ≡ fires s h (Create statement))) (live h ++ created statement h ∷ [])
+        (engine.subscriptions ++ new_subscription statement query (timed statement engine.clock) action engine.creates file ∷ [])
     firing = pairwise_push (λ s m. Keeps engine.labels h s m × (instant m ≡ fires s h (Create statement))) (live h) engine.subscriptions own made (olds_fire (live h) engine.subscriptions s.subscriptions (installed h) below) (own_keeps, own_fires)
 
     olds_agree : (subs : List Subscription) (ms : List Kept) → Pairwise (Keeps engine.labels h) subs ms → Installed h subs → AllByRecursion (λ n. n.install < made.install) ms
@@ -257,13 +279,25 @@ module _ (engine : EngineState) (table : TableState) (statement : Statement) (qu
         (pairwise_push (λ s m. Keeps engine.labels h s m × (Agrees (is_some (instant m)) (fires s h (Create statement)) × IsFirst s h (Create statement))) (live h) engine.subscriptions own made
         (olds_agree (live h) engine.subscriptions s.subscriptions (installed h) below) (own_keeps, (ap is_some own_fires, own_first)))
 
+    -- it has no counts, as it has no mark
+    pub own_counted : IsCounted h engine.distinct (created statement h)
+    own_counted is key =
+        (λ i. stands (counts_at engine.distinct (sym s.creates i + 1)) key)
+        ∙ ap (λ (counts : ByBytes ℕ). stands counts key) (keeps (engine.creates + 1) (none_above engine.creates engine.subscriptions few))
+        ∙ ap (λ (o : Option ℕ). unwrap_or o 0) (get-empty (slice_cmp nat_cmp) key)
+        ∙ ap (λ (o : Option ℕ). count_in key (all_at statement.query h o)) (sym (never own h (let l : creates_of h < creates_of h + 1 = omega arith in l)))
+
+    upto_now : AreUpTo (changes (Create statement ∷ h)) table.files
+    upto_now = subst (λ n. AreUpTo n table.files) same_changes upto
+
     contents_are : AreContents table.files (Create statement ∷ h)
     contents_are = contents_installed (plan_of query) engine.table table file.0 h (Create statement) done (number ∙ s.changes) (zero-add (changes h))
         (subst (λ n. Fits n (world (sources (Create statement ∷ h))) table.files) (number ∙ s.changes) (subst (λ w. Fits engine.table.number w table.files) (sym (world_is engine.store (sources h) s.sources)) fits)) s.contents
 
-    -- the engine with the new subscription behind the others
-    pub create_follows : Follows (record engine { count = engine.count + 1; creates = engine.creates + 1; subscriptions = created_subscriptions; table = table }) (Create statement ∷ h)
-    create_follows = record {
+    -- the engine with the new subscription behind the others, and its counts
+    pub create_follows : (distinct' : DistinctTable) → AreCountedBehind distinct'
+        → Follows (record engine { count = engine.count + 1; creates = engine.creates + 1; subscriptions = created_subscriptions; table = table; distinct = distinct' }) (Create statement ∷ h)
+    create_follows distinct' counted = record {
       sources = s.sources;
       last = s.last;
       changes = same_changes;
@@ -271,54 +305,56 @@ module _ (engine : EngineState) (table : TableState) (statement : Statement) (qu
       creates = let c = s.creates in omega (arith, c);
       subscriptions = kept;
       contents = contents_are;
+      counted = counted h s contents_are upto_now;
       rising = rises_quietly h (Create statement) refl s.rising;
     }
 
-    list_is : created_list ≡ map (noticed engine.labels h (Create statement) engine.store table.files) (firings h (Create statement))
-    list_is = told_list engine.labels h (Create statement) engine.store table.files instant (live h ++ own ∷ []) all
-        (tells_each engine.labels h (Create statement) engine.store table s.last s.rising contents_are (subst (λ n. AreUpTo n table.files) same_changes upto) instant (live h ++ own ∷ []) all firing can)
+    list_is : created_list ≡ map (noticed engine.labels h (Create statement)) (firings h (Create statement))
+    list_is = told_list engine.labels h (Create statement) engine.store table.files engine.distinct instant (live h ++ own ∷ []) all
+        (tells_each engine.labels h (Create statement) engine.store table engine.distinct s.last s.rising contents_are upto_now instant (live h ++ own ∷ []) all firing can (each_push (IsCounted h engine.distinct) (live h) own s.counted own_counted))
 
-    olds_quiet : (ms : List Kept) → AllByRecursion (λ n. n.install < made.install) ms → told_of engine.labels engine.store table.files instant ms ≡ []
+    olds_quiet : (ms : List Kept) → AllByRecursion (λ n. n.install < made.install) ms → told_of engine.labels engine.store table.files engine.distinct instant ms ≡ []
     olds_quiet [] b = refl
-    olds_quiet (m ∷ ms) b = λ i. notice_texts engine.labels engine.store table.files m (quiet_one engine.clock made.install m b.0 i) ++ olds_quiet ms b.1 i
+    olds_quiet (m ∷ ms) b = λ i. notice_texts engine.labels engine.store table.files engine.distinct m (quiet_one engine.clock made.install m b.0 i) ++ olds_quiet ms b.1 i
 
     -- it alone is told
-    one_told : created_list ≡ notice_texts engine.labels engine.store table.files made (instant made)
+    one_told : created_list ≡ notice_texts engine.labels engine.store table.files engine.distinct made (instant made)
     one_told =
-        flat_map_append (λ (m : Kept). notice_texts engine.labels engine.store table.files m (instant m)) engine.subscriptions (made ∷ [])
-        ∙ (λ i. olds_quiet engine.subscriptions below i ++ (notice_texts engine.labels engine.store table.files made (instant made) ++ []))
-        ∙ append-nil (notice_texts engine.labels engine.store table.files made (instant made))
+        flat_map_append (λ (m : Kept). notice_texts engine.labels engine.store table.files engine.distinct m (instant m)) engine.subscriptions (made ∷ [])
+        ∙ (λ i. olds_quiet engine.subscriptions below i ++ (notice_texts engine.labels engine.store table.files engine.distinct made (instant made) ++ []))
+        ∙ append-nil (notice_texts engine.labels engine.store table.files engine.distinct made (instant made))
 
     in_order : ordered_by (λ (t : NoticeText). t.firing) created_list ≡ created_list
     in_order = ap (ordered_by (λ (t : NoticeText). t.firing)) one_told ∙ by (instant made) ∙ sym one_told
       where
-        by : (o : Option ℕ) → ordered_by (λ (t : NoticeText). t.firing) (notice_texts engine.labels engine.store table.files made o) ≡ notice_texts engine.labels engine.store table.files made o
+        by : (o : Option ℕ) → ordered_by (λ (t : NoticeText). t.firing) (notice_texts engine.labels engine.store table.files engine.distinct made o) ≡ notice_texts engine.labels engine.store table.files engine.distinct made o
         by None = refl
         by (Some at) = refl
 
     pub create_text : flat_map (λ (t : NoticeText). t.text) created_list ≡ notices (language_of engine.labels) h (Create statement)
-    create_text = ap (flat_map (λ (t : NoticeText). t.text)) (sym in_order) ∙ told_text_is engine.labels h (Create statement) engine.store table.files created_list list_is
+    create_text = ap (flat_map (λ (t : NoticeText). t.text)) (sym in_order) ∙ told_text_is engine.labels h (Create statement) created_list list_is
 
     pub create_spans : (from : ℕ) → told_spans from created_list ≡ spans (language_of engine.labels) h (Create statement) from
-    create_spans from = ap (told_spans from) (sym in_order) ∙ told_spans_are engine.labels h (Create statement) engine.store table.files created_list list_is from
+    create_spans from = ap (told_spans from) (sym in_order) ∙ told_spans_are engine.labels h (Create statement) created_list list_is from
 
   -- a create that is accepted
   pub create_accepted : is_at_odds (kind_in statement.action engine.labels) statement.argument ≡ false → list_any (λ m. bytes_eq statement.name m.name) engine.subscriptions ≡ false → is_expired (timed statement engine.clock) (start_of statement.start engine.clock) ≡ false
-      → AllByRecursion (CanTell engine.labels engine.store table) all → InstallsAreUpTo engine.creates engine.subscriptions
+      → AllByRecursion (CanTell engine.labels engine.store table) all → InstallsAreUpTo engine.creates engine.subscriptions → KeepsCounts engine.subscriptions engine.distinct
+      → (distinct' : DistinctTable) → AreCountedBehind distinct'
       → (out line out' : List ℕ) (applied : Answered) (left : List Kept) → line ≡ out ++ ok_text (engine.count + 1)
       → out' ≡ line ++ flat_map (λ (t : NoticeText). t.text) created_list
       → applied.from ≡ length line → applied.to ≡ length out' → applied.spans ≡ told_spans (length line) created_list → left ≡ created_subscriptions
-      → Applies engine (Create statement) out (Ok applied) (record engine { count = engine.count + 1; creates = engine.creates + 1; subscriptions = left; table = table }) out'
-  create_accepted fitting free timely can few out line out' applied left first rest from to places is =
+      → Applies engine (Create statement) out (Ok applied) (record engine { count = engine.count + 1; creates = engine.creates + 1; subscriptions = left; table = table; distinct = distinct' }) out'
+  create_accepted fitting free timely can few keeps distinct' counted out line out' applied left first rest from to places is =
       let text = flat_map (λ (t : NoticeText). t.text) created_list in
       let whole_text : out' ≡ (out ++ ok_text (engine.count + 1)) ++ text = rest ∙ ap (λ (l : List ℕ). l ++ text) first in
-      subst (λ (ms : List Kept). Applies engine (Create statement) out (Ok applied) (record engine { count = engine.count + 1; creates = engine.creates + 1; subscriptions = ms; table = table }) out') (sym is)
-      (accepts engine (Create statement) out applied (record engine { count = engine.count + 1; creates = engine.creates + 1; subscriptions = created_subscriptions; table = table }) out' text []
+      subst (λ (ms : List Kept). Applies engine (Create statement) out (Ok applied) (record engine { count = engine.count + 1; creates = engine.creates + 1; subscriptions = ms; table = table; distinct = distinct' }) out') (sym is)
+      (accepts engine (Create statement) out applied (record engine { count = engine.count + 1; creates = engine.creates + 1; subscriptions = created_subscriptions; table = table; distinct = distinct' }) out' text []
       (record {
         accepted = λ h s. create_refusal engine statement false false false None free (binds_freely statement.query (roots_in engine.store) query binds) fitting timely h s;
-        follows = λ h s. create_follows can few h s;
-        tells = λ h s. create_text can few h s;
-        stand = λ h s. places ∙ create_spans can few h s (length line) ∙ ap (spans (language_of engine.labels) h (Create statement)) (sym from);
+        follows = λ h s. create_follows can few keeps h s distinct' counted;
+        tells = λ h s. create_text can few keeps h s;
+        stand = λ h s. places ∙ create_spans can few keeps h s (length line) ∙ ap (spans (language_of engine.labels) h (Create statement)) (sym from);
         ends = λ h s. refl;
         counted = refl;
         named = refl;

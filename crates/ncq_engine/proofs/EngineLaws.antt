@@ -6,6 +6,7 @@ use Rattle.std.specs.List.{filter, flat_map, list_any}
 use Rattle.std.proofs.lemmas.List.{append-nil}
 use Rattle.ncq_cache.specs.Cached.{Cached}
 use Rattle.ncq_callback.specs.Labels.{Label}
+use Rattle.ncq_distinct.specs.DistinctTables.{DistinctTable, HaveSameCounts}
 use Rattle.ncq_event.specs.Orders.{ordered_by}
 use Rattle.ncq_script.specs.declared.command.Command.{Command}
 use Rattle.ncq_script.specs.declared.refusal.Refusal.{Refusal}
@@ -16,7 +17,7 @@ use Rattle.ncq_book.specs.declared.subscription.Subscription.{Subscription as Ke
 use Rattle.ncq_engine.specs.Applies.{Applies, GivesUp, ok_text}
 use Rattle.ncq_engine.specs.Engines.{Pairwise}
 use Rattle.ncq_engine.specs.Firing.{fires}
-use Rattle.ncq_engine.specs.History.{History, Subscription, moved, now}
+use Rattle.ncq_engine.specs.History.{History, Subscription, live, moved, now}
 use Rattle.ncq_engine.specs.Marks.{IsRising}
 use Rattle.ncq_engine.specs.Languages.{language_of}
 use Rattle.ncq_engine.specs.Notices.{fired_at, firings_in_order}
@@ -25,6 +26,7 @@ use Rattle.ncq_engine.specs.declared.span.Span.{Span}
 use Rattle.ncq_engine.specs.Spans.{spans}
 use Rattle.ncq_engine.specs.Stands.{EngineState, Follows, Keeps}
 use Rattle.ncq_engine.proofs.Keeping.{keeps_quiet}
+use Rattle.ncq_engine.proofs.KeptCounts.{counted_same}
 
 -- a command that leaves the clock leaves it rising
 pub rises_quietly : (h : History) (command : Command) → moved command (now h) ≡ now h → IsRising h → IsRising (command ∷ h)
@@ -32,13 +34,27 @@ rises_quietly h command same rising = ((let l : now h ≤ moved command (now h) 
 
 -- how many commands were answered, and where the notices of the last one stand, is no matter
 pub follows_still : (e : EngineState) (count : ℕ) (places : List Span) (h : History) → Follows e h → Follows (record e { count = count; spans = places }) h
-follows_still e count places h s = record { sources = s.sources; last = s.last; changes = s.changes; clock = s.clock; creates = s.creates; subscriptions = s.subscriptions; contents = s.contents; rising = s.rising }
+follows_still e count places h s = record { sources = s.sources; last = s.last; changes = s.changes; clock = s.clock; creates = s.creates; subscriptions = s.subscriptions; contents = s.contents; counted = s.counted; rising = s.rising }
 
 -- nor is what it keeps of what was told
 pub follows_cached : (e : EngineState) (cache : List Cached) (h : History) → Follows e h → Follows (record e { cache = cache }) h
-follows_cached e cache h s = record { sources = s.sources; last = s.last; changes = s.changes; clock = s.clock; creates = s.creates; subscriptions = s.subscriptions; contents = s.contents; rising = s.rising }
+follows_cached e cache h s = record { sources = s.sources; last = s.last; changes = s.changes; clock = s.clock; creates = s.creates; subscriptions = s.subscriptions; contents = s.contents; counted = s.counted; rising = s.rising }
 
--- so an answer does to an engine that keeps more or less of it what it does to the engine
+-- nor what waits beside the counts of those with DISTINCT
+pub follows_counts : (e : EngineState) (distinct : DistinctTable) (h : History) → HaveSameCounts e.distinct distinct → Follows e h → Follows (record e { distinct = distinct }) h
+follows_counts e distinct h same s = record {
+  sources = s.sources;
+  last = s.last;
+  changes = s.changes;
+  clock = s.clock;
+  creates = s.creates;
+  subscriptions = s.subscriptions;
+  contents = s.contents;
+  counted = counted_same h e.distinct distinct same (live h) s.counted;
+  rising = s.rising;
+}
+
+-- so an answer does to an engine that keeps more or less of what was told what it does to the engine
 pub applies_cached : (old : EngineState) (command : Command) (out : List ℕ) (result : Result Answered ApplyError) (new : EngineState) (out' : List ℕ) (cache : List Cached)
     → Applies old command out result new out' → Applies old command out result (record new { cache = cache }) out'
 applies_cached old command out (Ok answered) new out' cache a = record {
@@ -58,6 +74,31 @@ applies_cached old command out (Err (Refused why)) new out' cache a = record {
 }
 applies_cached old command out (Err OutOfMemory) new out' cache a = record {
   follows = λ h s. follows_cached new cache h (a.follows h s);
+  uncounted = a.uncounted;
+  labels = a.labels;
+  front = a.front;
+}
+
+-- and to one beside whose counts other changes wait
+pub applies_counts : (old : EngineState) (command : Command) (out : List ℕ) (result : Result Answered ApplyError) (new : EngineState) (out' : List ℕ) (distinct : DistinctTable) → HaveSameCounts new.distinct distinct
+    → Applies old command out result new out' → Applies old command out result (record new { distinct = distinct }) out'
+applies_counts old command out (Ok answered) new out' distinct same a = record {
+  accepted = a.accepted;
+  follows = λ h s. follows_counts new distinct (command ∷ h) same (a.follows h s);
+  answer = a.answer;
+  counted = a.counted;
+  labels = a.labels;
+  places = a.places;
+}
+applies_counts old command out (Err (Refused why)) new out' distinct same a = record {
+  refused = a.refused;
+  follows = λ h s. follows_counts new distinct h same (a.follows h s);
+  counted = a.counted;
+  labels = a.labels;
+  unwritten = a.unwritten;
+}
+applies_counts old command out (Err OutOfMemory) new out' distinct same a = record {
+  follows = λ h s. follows_counts new distinct h same (a.follows h s);
   uncounted = a.uncounted;
   labels = a.labels;
   front = a.front;

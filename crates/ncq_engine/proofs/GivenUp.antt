@@ -29,6 +29,7 @@ follows_ready e ready alike h s = record {
   creates = s.creates;
   subscriptions = s.subscriptions;
   contents = s.contents;
+  counted = s.counted;
   rising = s.rising;
 }
 

@@ -4,6 +4,7 @@ use Rattle.std.specs.Prelude.{not, nat_eq}
 use Rattle.std.specs.List.{filter, list_any, AllByRecursion}
 use Rattle.ncq_cache.specs.Cached.{Cached}
 use Rattle.ncq_change.specs.Stores.{world_in}
+use Rattle.ncq_distinct.specs.DistinctTables.{DistinctTable, HaveSameCounts}
 use Rattle.ncq_feed.specs.Feeds.{AreFed}
 use Rattle.ncq_group.specs.Installs.{IsInstalled}
 use Rattle.ncq_group.specs.Tables.{TableState}
@@ -23,11 +24,12 @@ use Rattle.ncq_source.specs.StoreStates.{StoreState, Declares, IsAlike}
 use Rattle.ncq_book.specs.declared.subscription.Subscription.{Subscription as Kept}
 use Rattle.ncq_book.specs.Books.{InstallsRise}
 use Rattle.ncq_engine.specs.Cached.{AllServe}
-use Rattle.ncq_engine.specs.Engines.{CanTell, InstallsAreUpTo, IsEngine, fired_if, last_in}
+use Rattle.ncq_engine.specs.Engines.{CanTell, InstallsAreUpTo, IsEngine, KeepsCounts, fired_if, last_in}
 use Rattle.ncq_engine.specs.History.{world}
 use Rattle.ncq_engine.specs.Stands.{EngineState, content_of}
-use Rattle.ncq_engine.specs.Tellings.{AreOf, IsLeftBy}
+use Rattle.ncq_engine.specs.Tellings.{AreOf, IsLeftBy, without}
 use Rattle.ncq_engine.proofs.CachedLaws.{serve_fed, serve_installed, serve_left}
+use Rattle.ncq_engine.proofs.KeptCounts.{AreRemoved, counts_joined, counts_left, counts_noted, counts_same}
 use Rattle.ncq_engine.proofs.Lists.{each_filter, each_more, each_push}
 use Rattle.ncq_engine.proofs.Places.{one_declared, room_is_no_content}
 use Rattle.ncq_engine.proofs.Sounds.{sound_fed, sound_installed, sound_left}
@@ -36,7 +38,7 @@ use Rattle.ncq_engine.proofs.TableLaws.{can_left, can_noted, can_store, can_tabl
 use Rattle.ncq_engine.proofs.Worlds.{new_is_empty, world_is}
 
 abbrev pub Invariant : EngineState → Type 0
-Invariant e = IsEngine e.store e.count e.creates e.labels e.subscriptions e.table e.cache
+Invariant e = IsEngine e.store e.count e.creates e.labels e.subscriptions e.table e.cache e.distinct
 
 -- where nothing is kept of what was told, all of it serves
 pub none_serve : (table : TableState) (cache : List Cached) → cache ≡ [] → AllServe table cache
@@ -56,12 +58,34 @@ invariant_cached e cache serve i = record {
   sound = i.sound;
   next = i.next;
   serve = serve;
+  counts = i.counts;
 }
+
+-- the counts are others
+pub invariant_counts : (e : EngineState) (distinct : DistinctTable) → KeepsCounts e.subscriptions distinct → Invariant e → Invariant (record e { distinct = distinct })
+invariant_counts e distinct counts i = record {
+  changes = i.changes;
+  creates_too = i.creates_too;
+  lasts = i.lasts;
+  can = i.can;
+  rise = i.rise;
+  installed = i.installed;
+  number = i.number;
+  fits = i.fits;
+  sound = i.sound;
+  next = i.next;
+  serve = i.serve;
+  counts = counts;
+}
+
+-- the same counts are kept, and other changes of them wait
+pub invariant_waits : (e : EngineState) (distinct : DistinctTable) → HaveSameCounts e.distinct distinct → Invariant e → Invariant (record e { distinct = distinct })
+invariant_waits e distinct same i = invariant_counts e distinct (counts_same e.subscriptions e.distinct distinct same i.counts) i
 
 -- it holds with the same subscriptions and files, wherever they are kept
 pub invariant_same : (e : EngineState) (live_table : LiveState) → live_table.subscriptions ≡ e.subscriptions → live_table.table ≡ e.table → Invariant e → Invariant (record e { subscriptions = live_table.subscriptions; table = live_table.table })
 invariant_same e live_table subscriptions table =
-    subst (λ (p : List Kept × TableState). IsEngine e.store e.count e.creates e.labels p.0 p.1 e.cache) (λ j. (sym subscriptions j, sym table j))
+    subst (λ (p : List Kept × TableState). IsEngine e.store e.count e.creates e.labels p.0 p.1 e.cache e.distinct) (λ j. (sym subscriptions j, sym table j))
 
 -- sources that differ in room alone have one world
 pub world_alike : (old new : StoreState) → map without_room new.sources ≡ map without_room old.sources → world_in new ≡ world_in old
@@ -91,6 +115,7 @@ invariant_counted e i =
       sound = i.sound;
       next = i.next;
       serve = i.serve;
+      counts = i.counts;
     }
 
 -- one more source
@@ -113,6 +138,7 @@ invariant_declared e store name root key d i =
       sound = i.sound;
       next = i.next;
       serve = i.serve;
+      counts = i.counts;
     }
 
 -- room for sources
@@ -135,6 +161,7 @@ invariant_alike e store alike i =
       sound = i.sound;
       next = i.next;
       serve = i.serve;
+      counts = i.counts;
     }
 
 -- files that were fed stand one change later
@@ -160,6 +187,7 @@ invariant_changed e change store table i more few last lasts fed fits upto numbe
   sound = sound_fed e.store change e.table.files table.files (world_in store) fed (subst (λ n. Fits n (world_in store) table.files) number_is fits) (subst (λ n. AreUpTo n table.files) number_is upto) i.sound;
   next = (let n = i.next in let l : table.next_file ≤ 256 * e.creates = omega (arith, n, next) in l);
   serve = serve_fed e.table table e.cache number next i.serve;
+  counts = i.counts;
 }
   where
     number_is : table.number ≡ e.store.changes + 1
@@ -200,6 +228,7 @@ invariant_created e i few =
       sound = i.sound;
       next = (let l : e.table.next_file ≤ 256 * (e.creates + 1) = omega (arith, n) in l);
       serve = i.serve;
+      counts = i.counts;
     }
 
 -- the subscription is there, with the file of its plan
@@ -222,6 +251,7 @@ invariant_added e expr table file m i done fits small can install few =
       sound = sound_installed expr e.table table file (world_in e.store) done fits i.sound;
       next = (let l : table.next_file ≤ 256 * (e.creates + 1) = omega (arith, n, room, small) in l);
       serve = serve_installed expr e.table table file done done.order e.cache i.serve;
+      counts = counts_joined e.subscriptions m e.distinct i.counts;
     }
 
 each_map : (P Q : Kept → Type 0) (f : Kept → Kept) → ((m : Kept) → P m → Q (f m)) → (ms : List Kept) → AllByRecursion P ms → AllByRecursion Q (map f ms)
@@ -263,6 +293,7 @@ module _ (store : StoreState) (test : Kept → Bool) where
         sound = i.sound;
         next = i.next;
         serve = i.serve;
+        counts = counts_noted test store e.subscriptions e.distinct i.counts;
       }
 
 rise_filter : (keep : Kept → Bool) (ms : List Kept) → InstallsRise ms → InstallsRise (filter keep ms)
@@ -284,10 +315,10 @@ fits_left old new now w left fits number file at =
     let was = left number file at in
     subst (λ (e : Expr). IsContent now file.content.rows (rows_in e w)) (sym was.2.0) (subst (λ (c : FileState). IsContent now c.rows (rows_in was.0.expr w)) (sym was.2.1) (fits number was.0 was.1))
 
--- subscriptions are gone
-pub invariant_left : (e : EngineState) (keep : Kept → Bool) (table : TableState) → Invariant e → IsLiveTable table (filter keep e.subscriptions) → AreOf e.table.files table.files → table.number ≡ e.table.number → table.next_file ≡ e.table.next_file
-    → Invariant (record e { subscriptions = filter keep e.subscriptions; table = table })
-invariant_left e keep table i live_table left number next = record {
+-- subscriptions are gone, with their counts
+pub invariant_left : (e : EngineState) (keep : Kept → Bool) (table : TableState) (distinct : DistinctTable) → Invariant e → IsLiveTable table (filter keep e.subscriptions) → AreOf e.table.files table.files → table.number ≡ e.table.number → table.next_file ≡ e.table.next_file
+    → KeepsCounts (filter keep e.subscriptions) distinct → Invariant (record e { subscriptions = filter keep e.subscriptions; table = table; distinct = distinct })
+invariant_left e keep table distinct i live_table left number next counts = record {
   changes = i.changes;
   creates_too = i.creates_too;
   lasts = i.lasts;
@@ -299,12 +330,15 @@ invariant_left e keep table i live_table left number next = record {
   sound = sound_left e.table.files table.files left i.sound;
   next = (let n = i.next in let l : table.next_file ≤ 256 * e.creates = omega (arith, n, next) in l);
   serve = serve_left e.table table e.cache left number next i.serve;
+  counts = counts;
 }
 
 -- one subscription is gone
-pub left_holds : (e : EngineState) (install : ℕ) (live_table : LiveState) → Invariant e → IsLeftBy (install ∷ []) (record { table = e.table; subscriptions = e.subscriptions; instant = e.clock }) live_table → IsLiveTable live_table.table live_table.subscriptions
-    → IsEngine e.store e.count e.creates e.labels live_table.subscriptions live_table.table e.cache
-left_holds e install live_table holds left owns =
-    let subscriptions : live_table.subscriptions ≡ filter (λ m. not (list_any (nat_eq m.install) (install ∷ []))) e.subscriptions = left.subscriptions in
-    subst (λ (ms : List Kept). IsEngine e.store e.count e.creates e.labels ms live_table.table e.cache) (sym subscriptions)
-    (invariant_left e (λ m. not (list_any (nat_eq m.install) (install ∷ []))) live_table.table holds (subst (IsLiveTable live_table.table) subscriptions owns) left.files left.number left.next_file)
+pub left_holds : (e : EngineState) (install : ℕ) (live_table : LiveState) (distinct : DistinctTable) → Invariant e → IsLeftBy (install ∷ []) (record { table = e.table; subscriptions = e.subscriptions; instant = e.clock }) live_table → IsLiveTable live_table.table live_table.subscriptions
+    → AreRemoved (install ∷ []) e.distinct distinct
+    → IsEngine e.store e.count e.creates e.labels live_table.subscriptions live_table.table e.cache distinct
+left_holds e install live_table distinct holds left owns gone =
+    let subscriptions : live_table.subscriptions ≡ without (install ∷ []) e.subscriptions = left.subscriptions in
+    subst (λ (ms : List Kept). IsEngine e.store e.count e.creates e.labels ms live_table.table e.cache distinct) (sym subscriptions)
+    (invariant_left e (λ m. not (list_any (nat_eq m.install) (install ∷ []))) live_table.table distinct holds (subst (IsLiveTable live_table.table) subscriptions owns) left.files left.number left.next_file
+    (counts_left (install ∷ []) e.subscriptions e.distinct distinct holds.counts gone))

@@ -45,6 +45,7 @@ keeps_as labels h command s m k written e = record {
   whole = k.whole;
   bound = k.bound;
   query = k.query;
+  distinct = k.distinct;
   timing = k.timing;
   kind = k.kind;
   action = k.action;

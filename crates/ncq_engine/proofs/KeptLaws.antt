@@ -31,7 +31,7 @@ use Rattle.ncq_plan.proofs.CallerLemmas.{plan_is_wide}
 use Rattle.ncq_shelf.specs.KeptFiles.{Files, KeptFile}
 use Rattle.ncq_source.specs.StoreStates.{StoreState}
 use Rattle.ncq_engine.specs.Cached.{AllServe, Grows, IsFresh, key_of}
-use Rattle.ncq_engine.specs.Engines.{CanTell, last_in, latest_in, mark_in, news_of, rows_in_file, notice_text}
+use Rattle.ncq_engine.specs.Engines.{CanTell, entries_text, last_in, latest_in, mark_in, news_of, rows_in_file}
 use Rattle.ncq_engine.specs.declared.span.Span.{Span}
 use Rattle.ncq_engine.specs.Notices.{rendered}
 use Rattle.ncq_engine.specs.Scans.{scanned_by}
@@ -72,36 +72,31 @@ none_written : (kind : Option Kind) (argument name : List ℕ) (instant : ℕ) (
 none_written kind argument name instant [] none = refl
 none_written kind argument name instant (entry ∷ more) none = absurd (let n : ⊥ = grind (arith, nat_tests, none) in n)
 
-module _ (labels : List Label) (store : StoreState) (files : Files) (m : Kept) (within : m.action < length labels) (instant : ℕ) (entries : List Difference) (are : entries ≡ entries_of m.query (news_of store files m)) where
-  -- what is told is what is rendered of the entries
-  told_as : notice_text labels store files m instant ≡ rendered (option_map (λ label. label.1) (slice_get labels m.action)) m.argument m.name instant entries
-  told_as = sym (ap (rendered (option_map (λ label. label.1) (slice_get labels m.action)) m.argument m.name instant) are)
+-- what is written of entries, and where it stands
+module _ (labels : List Label) (m : Kept) (within : m.action < length labels) (instant : ℕ) (entries : List Difference) where
+  no_text : (length entries == 0) ≡ true → entries_text labels m instant entries ≡ []
+  no_text = none_written (option_map (λ label. label.1) (slice_get labels m.action)) m.argument m.name instant entries
 
-  pub text_none : (out out' : List ℕ) → (length entries == 0) ≡ true → out' ≡ out → out' ≡ out ++ notice_text labels store files m instant
-  text_none out out' none is =
-      is ∙ sym (append-nil out)
-      ∙ ap (λ (text : List ℕ). out ++ text) (sym (told_as ∙ none_written (option_map (λ label. label.1) (slice_get labels m.action)) m.argument m.name instant entries none))
+  pub text_none : (out out' : List ℕ) → (length entries == 0) ≡ true → out' ≡ out → out' ≡ out ++ entries_text labels m instant entries
+  text_none out out' none is = is ∙ sym (append-nil out) ∙ ap (λ (text : List ℕ). out ++ text) (sym (no_text none))
 
   -- where nothing differs there is no span
-  pub span_none : (from : ℕ) (spans : List Span) → (length entries == 0) ≡ true → spans ≡ spans ++ span_of m.name from (notice_text labels store files m instant)
-  span_none from spans none =
-      sym (append-nil spans)
-      ∙ ap (λ (text : List ℕ). spans ++ span_of m.name from text) (sym (told_as ∙ none_written (option_map (λ label. label.1) (slice_get labels m.action)) m.argument m.name instant entries none))
+  pub span_none : (from : ℕ) (spans : List Span) → (length entries == 0) ≡ true → spans ≡ spans ++ span_of m.name from (entries_text labels m instant entries)
+  span_none from spans none = sym (append-nil spans) ∙ ap (λ (text : List ℕ). spans ++ span_of m.name from text) (sym (no_text none))
 
   -- else there is the one of what was written
   pub span_some : (name out out' : List ℕ) (from to : ℕ) (old new : List Span) → (length entries == 0) ≡ false → name ≡ m.name → from ≡ length out → to ≡ length out'
-      → out' ≡ out ++ notice_text labels store files m instant → new ≡ old ++ record { name = name; from = from; to = to } ∷ [] → new ≡ old ++ span_of m.name (length out) (notice_text labels store files m instant)
+      → out' ≡ out ++ entries_text labels m instant entries → new ≡ old ++ record { name = name; from = from; to = to } ∷ [] → new ≡ old ++ span_of m.name (length out) (entries_text labels m instant entries)
   span_some name out out' from to old new some n begins ends written more =
-      let long : length out' ≡ length out + length (notice_text labels store files m instant) = ap length written ∙ length-append out (notice_text labels store files m instant) in
-      let span = span_as labels m.action within m.argument m.name instant entries (length out) (length out') some (long ∙ ap (λ (text : List ℕ). length out + length text) told_as) in
-      more ∙ (λ i. old ++ record { name = n i; from = begins i; to = ends i } ∷ []) ∙ ap (λ (s : List Span). old ++ s) (sym span ∙ ap (span_of m.name (length out)) (sym told_as))
+      let long : length out' ≡ length out + length (entries_text labels m instant entries) = ap length written ∙ length-append out (entries_text labels m instant entries) in
+      more ∙ (λ i. old ++ record { name = n i; from = begins i; to = ends i } ∷ [])
+      ∙ ap (λ (s : List Span). old ++ s) (sym (span_as labels m.action within m.argument m.name instant entries (length out) (length out') some long))
 
   pub text_some : (argument name out out' : List ℕ) → (length entries == 0) ≡ false → argument ≡ m.argument → name ≡ m.name
-      → IfSome (slice_get labels m.action) (λ label. out' ≡ out ++ render label.1 argument name instant entries) → out' ≡ out ++ notice_text labels store files m instant
+      → IfSome (slice_get labels m.action) (λ label. out' ≡ out ++ render label.1 argument name instant entries) → out' ≡ out ++ entries_text labels m instant entries
   text_some argument name out out' some a n w =
       written_as labels m.action within m.argument m.name instant entries out out' some
       (subst (λ (p : List ℕ × List ℕ). IfSome (slice_get labels m.action) (λ label. out' ≡ out ++ render label.1 p.0 p.1 instant entries)) (λ i. (a i, n i)) w)
-      ∙ ap (λ (text : List ℕ). out ++ text) (sym told_as)
 
 -- what a call on a subscription's file asks and gives
 module _ (labels : List Label) (store : StoreState) (table : TableState) (m : Kept) (can : CanTell labels store table m) (facts : Facts table) (content : FileState) (is : content ≡ can.file.content) where

@@ -5,6 +5,8 @@ pub mod MarkLaws
 pub mod Worlds
 pub mod AskedLaws
 pub mod NoticeLaws
+pub mod KeptCounts
+pub mod CountedLaws
 pub mod Keeping
 pub mod ToldLaws
 pub mod Places
@@ -16,6 +18,7 @@ pub mod NamedLaws
 pub mod CommandLaws
 pub mod ChangeLaws
 pub mod KeptLaws
+pub mod AwaitLaws
 pub mod TellingLoops
 pub mod StartedLaws
 pub mod TableLaws

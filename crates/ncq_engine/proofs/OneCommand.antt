@@ -1,15 +1,23 @@
 -- A batch is answered as a delta of its sections: the two are one command but for their name.
-use Rattle.std.proofs.Common.{◌≡◌, ℕ, true, false, List, [], ◌∷◌, ◌++◌, refl, subst}
-use Rattle.std.specs.Prelude.{Result, Ok, Err, nat_le, if◌then◌else◌}
+use Rattle.std.proofs.Common.{◌≡◌, ◌∙◌, ℕ, true, false, List, [], ◌∷◌, ◌++◌, map, refl, ap, subst}
+use Rattle.std.specs.Prelude.{Option, Some, None, Result, Ok, Err, nat_le, if◌then◌else◌}
+use Rattle.std.specs.List.{AllByRecursion}
+use Rattle.ncq_bag.specs.Bags.{count_in}
+use Rattle.ncq_bind.specs.Answers.{all}
 use Rattle.ncq_book.specs.declared.subscription.Subscription.{Subscription as Kept}
 use Rattle.ncq_callback.specs.Labels.{Label}
+use Rattle.ncq_distinct.specs.DistinctTables.{DistinctTable}
 use Rattle.ncq_midfile.specs.Content.{IsContent}
 use Rattle.ncq_plan.specs.Exprs.{World, rows_in}
+use Rattle.ncq_pyx.specs.Canonical.{pyx}
 use Rattle.ncq_script.specs.declared.command.Command.TheVariants.{Delta, Batch}
 use Rattle.ncq_shelf.specs.KeptFiles.{Files}
 use Rattle.ncq_source.specs.declared.change.Section.{Section}
+use Rattle.ncq_xmlql.specs.declared.model.Query.{Query}
 use Rattle.ncq_engine.specs.Applies.{Applies}
+use Rattle.ncq_engine.specs.DistinctCounts.{all_at, IsCounted}
 use Rattle.ncq_engine.specs.Engines.{Pairwise}
+use Rattle.ncq_engine.specs.Firing.{mark}
 use Rattle.ncq_engine.specs.History.{History, Source, Subscription, changes, live, sources, up_to, with_items, with_sections, world}
 use Rattle.ncq_engine.specs.Notices.{Language}
 use Rattle.ncq_engine.specs.Output.{output}
@@ -18,6 +26,7 @@ use Rattle.ncq_engine.specs.Works.{IsWithinWork}
 use Rattle.ncq_engine.specs.declared.telling.Answered.{Answered}
 use Rattle.ncq_engine.specs.declared.engine.ApplyError.{ApplyError}
 use Rattle.ncq_engine.specs.declared.engine.ApplyError.TheVariants.{OutOfMemory, Refused}
+use Rattle.ncq_engine.proofs.Lists.{each_more}
 
 module _ (changed : List Section) (h : History) where
   same_up_to : (number : ℕ) → world (sources (up_to number (Delta changed ∷ h))) ≡ world (sources (up_to number (Batch changed ∷ h)))
@@ -42,6 +51,7 @@ module _ (changed : List Section) (h : History) where
           whole = k.whole;
           bound = k.bound;
           query = k.query;
+          distinct = k.distinct;
           timing = k.timing;
           kind = k.kind;
           action = k.action;
@@ -52,6 +62,14 @@ module _ (changed : List Section) (h : History) where
         keeps_too labels subs ms p.1,
       )
 
+  all_too : (query : Query) (o : Option ℕ) → all_at query (Delta changed ∷ h) o ≡ all_at query (Batch changed ∷ h) o
+  all_too query None = refl
+  all_too query (Some number) = ap (λ (w : World). map pyx (all query w)) (same_up_to number)
+
+  counted_too : (distinct : DistinctTable) (subs : List Subscription) → AllByRecursion (IsCounted (Delta changed ∷ h) distinct) subs → AllByRecursion (IsCounted (Batch changed ∷ h) distinct) subs
+  counted_too distinct =
+      each_more (IsCounted (Delta changed ∷ h) distinct) (IsCounted (Batch changed ∷ h) distinct) (λ s counted asked key. counted asked key ∙ ap (count_in key) (all_too s.statement.query (mark s (Delta changed ∷ h))))
+
   follows_too : (engine : EngineState) → Follows engine (Delta changed ∷ h) → Follows engine (Batch changed ∷ h)
   follows_too engine f = record {
     sources = f.sources;
@@ -61,6 +79,7 @@ module _ (changed : List Section) (h : History) where
     creates = f.creates;
     subscriptions = keeps_too engine.labels (live h) engine.subscriptions f.subscriptions;
     contents = contents_too engine.table.files f.contents;
+    counted = counted_too engine.distinct (live h) f.counted;
     rising = f.rising;
   }
 

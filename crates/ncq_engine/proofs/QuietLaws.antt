@@ -1,12 +1,11 @@
--- What a change does not tell: a subscription that does not ask its source, and one whose file got no row, are told nothing.
-use Rattle.std.proofs.Common.{◌≡◌, ℕ, ◌≤◌, max, true, false, ◌||◌, ◌==◌, cond, List, [], ◌∷◌, map, slice_get, refl, sym, ◌∙◌, ap, subst, arith, true≢false}
+-- What a change does not tell: of a subscription that does not ask its source, and of one whose file got no row, the rows tell nothing.
+use Rattle.std.proofs.Common.{◌≡◌, ℕ, ◌≤◌, max, true, false, ◌||◌, ◌==◌, cond, List, [], ◌∷◌, refl, sym, ◌∙◌, ap, subst, arith, true≢false}
 use Rattle.std.specs.Prelude.{Some, IfSome, nat_le, nat_lt, if◌then◌else◌}
-use Rattle.std.specs.Option.{option_map, unwrap_or}
+use Rattle.std.specs.Option.{option_map}
 use Rattle.std.proofs.lemmas.Bool.Decides.{nat_tests}
 use Rattle.std.specs.List.{list_any, AllByRecursion}
 use Rattle.std.specs.Str.{bytes_eq}
 use Rattle.ncq_bag.specs.Bags.{difference}
-use Rattle.ncq_bind.specs.Answers.{answer}
 use Rattle.ncq_book.specs.declared.subscription.Subscription.{Subscription as Kept}
 use Rattle.ncq_callback.specs.Labels.{Label}
 use Rattle.ncq_event.specs.declared.timing.Timing.{Timing}
@@ -18,25 +17,23 @@ use Rattle.ncq_news.proofs.CallerLemmas.{since_tell}
 use Rattle.ncq_plan.specs.declared.expr.Expr.{Expr}
 use Rattle.ncq_plan.specs.Exprs.{World, rows_in}
 use Rattle.ncq_plan.specs.Plans.{plan_of}
-use Rattle.ncq_pyx.specs.Canonical.{pyx}
 use Rattle.ncq_row.specs.Embeddings.{Row}
 use Rattle.ncq_script.specs.declared.command.Command.TheVariants.{Delta}
 use Rattle.ncq_shelf.specs.Contents.{AreUpTo}
 use Rattle.ncq_source.specs.Sections.{is_named}
 use Rattle.ncq_source.specs.declared.change.Section.{Section}
 use Rattle.ncq_source.specs.StoreStates.{StoreState}
-use Rattle.ncq_engine.specs.Engines.{CanTell, last_in, mark_in, news_of, rows_in_file, notice_text}
+use Rattle.ncq_engine.specs.DistinctCounts.{all_at, all_news, all_over}
+use Rattle.ncq_engine.specs.Engines.{CanTell, last_in, mark_in, news_in, rows_in_file}
 use Rattle.ncq_engine.specs.Firing.{are_named, mark, sources_of}
 use Rattle.ncq_engine.specs.History.{History, Subscription, changes, last_change, now, sources, up_to, world}
-use Rattle.ncq_engine.specs.Languages.{language_of}
 use Rattle.ncq_engine.specs.Marks.{IsRising, first_mark, latest_change, noted}
-use Rattle.ncq_engine.specs.Notices.{answer_at, kind_in, news, rendered}
 use Rattle.ncq_engine.specs.Stands.{AreContents, Keeps}
-use Rattle.ncq_engine.proofs.AskedLaws.{other_stays, same_answer, same_bag, stays_since}
+use Rattle.ncq_engine.proofs.AskedLaws.{other_stays, same_all, same_bag, stays_since}
 use Rattle.ncq_engine.proofs.HistoryLaws.{key_is}
 use Rattle.ncq_engine.proofs.Keeping.{mark_few, mark_is}
 use Rattle.ncq_engine.proofs.MarkLaws.{any_named, last_few, marks_follow}
-use Rattle.ncq_engine.proofs.NoticeLaws.{answer_is, text_is}
+use Rattle.ncq_engine.proofs.NoticeLaws.{answer_is, news_is}
 use Rattle.ncq_engine.proofs.StartedLaws.{FiresFirst}
 use Rattle.ncq_engine.proofs.Worlds.{world_at_mark}
 
@@ -101,41 +98,44 @@ module _ (labels : List Label) (h : History) (changed : List Section) (store : S
         let late : nat_le s.start (now h) ≡ true = ap (λ (t : Timing). nat_le t.start (now h)) (sym k.timing) ∙ started in
         started_mark s h rising fired (ap (λ (t : Timing). t.every == 0) (sym k.timing) ∙ based) (grind (arith, nat_tests, late))
 
-    -- the answer before the change
-    abbrev old_answer : List (List ℕ)
-    old_answer = map pyx (answer s.statement.query (world (sources h)))
+    -- all that its query answers before the change
+    abbrev all_before : List (List ℕ)
+    all_before = all_over s.statement.query (sources h)
 
     -- the rows of its plan at a number
     abbrev then_rows : ℕ → List Row
     then_rows number = rows_in (plan_of m.query) (world (sources (up_to number h)))
 
-    -- at a number that covers the sources the answer is that
-    answer_since : (number : ℕ) → ((asked : List ℕ) → list_any (bytes_eq asked) (sources_of s.statement) ≡ true → last_change asked h ≤ number)
-        → map pyx (answer s.statement.query (world (sources (up_to number h)))) ≡ old_answer
-    answer_since number covers = ap (map pyx) (same_answer s.statement (world (sources (up_to number h))) (world (sources h)) (λ asked there. stays_since asked number h (covers asked there)))
+    -- at a number that covers the sources it answers that
+    all_since : (number : ℕ) → ((asked : List ℕ) → list_any (bytes_eq asked) (sources_of s.statement) ≡ true → last_change asked h ≤ number)
+        → all_over s.statement.query (sources (up_to number h)) ≡ all_before
+    all_since number covers = same_all s.statement (sources (up_to number h)) (sources h) (λ asked there. stays_since asked number h (covers asked there))
 
     -- nothing is told of a source that it does not ask
-    pub quiet_elsewhere : are_named changed m.sources ≡ false → (instant : ℕ) → notice_text labels store table.files m instant ≡ []
-    quiet_elsewhere elsewhere instant =
-        text_is labels h (Delta changed) store table last rising contents upto s m k can instant
-        ∙ ap (rendered (kind_in s.statement.action labels) (unwrap_or s.statement.argument []) s.statement.name instant) nothing
+    pub quiet_elsewhere : are_named changed m.sources ≡ false → news_in store table.files m ≡ []
+    quiet_elsewhere elsewhere = news_is labels h (Delta changed) store table last rising contents upto s m k can ∙ nothing
       where
         unasked : are_named changed (sources_of s.statement) ≡ false
         unasked = ap (are_named changed) (sym k.sources) ∙ elsewhere
 
-        answer_now : map pyx (answer s.statement.query (world (sources (Delta changed ∷ h)))) ≡ old_answer
-        answer_now = ap (map pyx) (same_answer s.statement (world (sources (Delta changed ∷ h))) (world (sources h))
-            (λ asked there. other_stays asked changed h (not_asked changed asked (sources_of s.statement) unasked there)))
+        all_now : all_over s.statement.query (sources (Delta changed ∷ h)) ≡ all_before
+        all_now = same_all s.statement (sources (Delta changed ∷ h)) (sources h)
+            (λ asked there. other_stays asked changed h (not_asked changed asked (sources_of s.statement) unasked there))
 
-        nothing : news (language_of labels) s h (Delta changed) ≡ []
+        nothing : all_news s h (Delta changed) ≡ []
         nothing =
-            (λ i. difference (answer_now i) (answer_at (language_of labels) s.statement.query h (has_mark.is i)))
-            ∙ ap (difference old_answer) (answer_since has_mark.number has_mark.covers)
-            ∙ same_bag old_answer
+            (λ i. difference (all_now i) (all_at s.statement.query h (has_mark.is i)))
+            ∙ ap (difference all_before) (all_since has_mark.number has_mark.covers)
+            ∙ same_bag all_before
 
     -- nothing is told where its file has no row of the change
-    pub quiet_unfed : since (changes h) can.file.content.rows ≡ [] → (instant : ℕ) → notice_text labels store table.files m instant ≡ []
-    quiet_unfed unfed instant = ap (rendered (option_map (λ label. label.1) (slice_get labels m.action)) m.argument m.name instant) nothing
+    pub quiet_unfed : since (changes h) can.file.content.rows ≡ [] → news_in store table.files m ≡ []
+    quiet_unfed unfed =
+        (λ i. entries_of m.query (since_mark (marks i) (rows_in_file (can.at i))))
+        ∙ since_tell m.query has_mark.number (changes h) can.file.content.rows (then_rows has_mark.number) (then_rows (changes h))
+        (none_since (changes h) can.file.content.rows unfed) (content_then has_mark.number base has_mark.few) content_now
+        ∙ (λ i. difference (answers_then (changes h) (λ asked there. last_few asked h) i) (answers_then has_mark.number has_mark.covers i))
+        ∙ same_bag all_before
       where
         marks : mark_in store m ≡ Some has_mark.number
         marks = mark_is labels h s m k rising store last ∙ has_mark.is
@@ -151,16 +151,8 @@ module _ (labels : List Label) (h : History) (changed : List Section) (store : S
             (contents m.file.0 can.file number can.at low within))
 
         answers_then : (number : ℕ) → ((asked : List ℕ) → list_any (bytes_eq asked) (sources_of s.statement) ≡ true → last_change asked h ≤ number)
-            → answers_in m.query (then_rows number) ≡ old_answer
-        answers_then number covers = answer_is s.statement m.query k.whole k.bound k.query (world (sources (up_to number h))) ∙ answer_since number covers
+            → answers_in m.query (then_rows number) ≡ all_before
+        answers_then number covers = answer_is s.statement m.query k.whole k.bound k.query (world (sources (up_to number h))) ∙ all_since number covers
 
         content_now : IsContent (changes h) can.file.content.rows (then_rows (changes h))
         content_now = let few = has_mark.few in content_then (changes h) (omega (arith, few, base)) (omega arith)
-
-        nothing : entries_of m.query (news_of store table.files m) ≡ []
-        nothing =
-            (λ i. entries_of m.query (since_mark (marks i) (rows_in_file (can.at i))))
-            ∙ since_tell m.query has_mark.number (changes h) can.file.content.rows (then_rows has_mark.number) (then_rows (changes h))
-            (none_since (changes h) can.file.content.rows unfed) (content_then has_mark.number base has_mark.few) content_now
-            ∙ (λ i. difference (answers_then (changes h) (λ asked there. last_few asked h) i) (answers_then has_mark.number has_mark.covers i))
-            ∙ same_bag old_answer

@@ -13,6 +13,7 @@ use Rattle.ncq_engine.specs.Spans.{spans_of}
 use Rattle.ncq_engine.specs.Stands.{EngineState, Follows}
 use Rattle.ncq_engine.specs.Summaries.{IsSummary}
 use Rattle.ncq_engine.proofs.ContentLaws.{contents_stay}
+use Rattle.ncq_engine.proofs.CountedLaws.{counted_quietly}
 use Rattle.ncq_engine.proofs.EngineLaws.{accepts, keep_quiet, rises_quietly, told_nobody}
 use Rattle.ncq_engine.proofs.ReportLaws.{summary_is}
 
@@ -26,6 +27,7 @@ follows_report e h f = record {
   creates = f.creates ∙ sym (zero-add (creates h));
   subscriptions = keep_quiet e.labels h Report (λ _. refl) (live h) e.subscriptions f.subscriptions;
   contents = contents_stay e.table.files h Report (zero-add (changes h)) f.contents;
+  counted = counted_quietly h Report (λ _. refl) e.distinct (live h) f.counted;
   rising = rises_quietly h Report refl f.rising;
 }
 

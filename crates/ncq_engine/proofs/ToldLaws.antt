@@ -4,12 +4,14 @@ use Rattle.std.specs.Prelude.{Option, Some, None, if◌then◌else◌}
 use Rattle.std.proofs.lemmas.Bool.Decides.{nat_tests}
 use Rattle.std.specs.List.{filter, flat_map, AllByRecursion}
 use Rattle.ncq_callback.specs.Labels.{Label}
+use Rattle.ncq_distinct.specs.DistinctTables.{DistinctTable}
 use Rattle.ncq_event.specs.declared.firing.Firing.{Firing}
 use Rattle.ncq_event.specs.Orders.{is_before, placed_by, ordered_by}
 use Rattle.ncq_script.specs.declared.command.Command.{Command}
 use Rattle.ncq_script.specs.declared.command.Command.TheVariants.{Declare, Delta, Batch, Create, Delete, Clock, Report, Malformed}
 use Rattle.ncq_source.specs.StoreStates.{StoreState}
 use Rattle.ncq_book.specs.declared.subscription.Subscription.{Subscription as Kept}
+use Rattle.ncq_engine.specs.DistinctCounts.{IsCounted}
 use Rattle.ncq_engine.specs.Engines.{NoticeText}
 use Rattle.ncq_engine.specs.Engines.{CanTell, Pairwise, last_in, notice_texts, notice_text}
 use Rattle.ncq_engine.specs.Firing.{fires}
@@ -120,38 +122,17 @@ abbrev pub told_spans : ℕ → List NoticeText → List Span
 told_spans from list = spans_of (λ (t : NoticeText). t.name) (λ (t : NoticeText). t.text) from list
 
 -- what subscriptions are told, each with its firing
-abbrev pub told_of : List Label → StoreState → Files → (Kept → Option ℕ) → List Kept → List NoticeText
-told_of labels store files instant ms = flat_map (λ m. notice_texts labels store files m (instant m)) ms
+abbrev pub told_of : List Label → StoreState → Files → DistinctTable → (Kept → Option ℕ) → List Kept → List NoticeText
+told_of labels store files distinct instant ms = flat_map (λ m. notice_texts labels store files distinct m (instant m)) ms
 
-module _ (labels : List Label) (h : History) (command : Command) (store : StoreState) (files : Files) where
+module _ (labels : List Label) (h : History) (command : Command) where
   -- the notice of a firing, with the firing
   abbrev pub noticed : Fired → NoticeText
   noticed f = record { firing = f.0; name = f.1.statement.name; text = notice_at (language_of labels) h command f }
 
-  -- what is kept of a subscription is told what the notice of its subscription says
-  abbrev pub Tells : Subscription → Kept → Type 0
-  Tells s m = (m.install ≡ s.install) × (m.name ≡ s.statement.name)
-      × ((instant : ℕ) → notice_text labels store files m instant ≡ notice_at (language_of labels) h command (record { instant = instant; install = s.install }, s))
-
-  told_one : (s : Subscription) (m : Kept) (o : Option ℕ) → Tells s m → notice_texts labels store files m o ≡ map noticed (fired_at s o)
-  told_one s m None k = refl
-  told_one s m (Some d) k = λ i. record { firing = record { instant = d; install = k.0 i }; name = k.1 i; text = k.2 d i } ∷ []
-
   map_push : (xs ys : List Fired) → map noticed (xs ++ ys) ≡ map noticed xs ++ map noticed ys
   map_push [] ys = refl
   map_push (x ∷ xs) ys = ap (λ more. noticed x ∷ more) (map_push xs ys)
-
-  -- what the subscriptions are told is what is told of their subscriptions
-  pub told_list : (instant : Kept → Option ℕ) (subs : List Subscription) (ms : List Kept)
-      → Pairwise (λ s m. Tells s m × (instant m ≡ fires s h command)) subs ms
-      → told_of labels store files instant ms ≡ map noticed (flat_map (λ s. fired_at s (fires s h command)) subs)
-  told_list instant [] [] p = refl
-  told_list instant [] (m ∷ ms) p = absurd p
-  told_list instant (s ∷ subs) [] p = absurd p
-  told_list instant (s ∷ subs) (m ∷ ms) p =
-      (λ i. notice_texts labels store files m (p.0.1 i) ++ told_list instant subs ms p.1 i)
-      ∙ (λ i. told_one s m (fires s h command) p.0.0 i ++ map noticed (flat_map (λ s. fired_at s (fires s h command)) subs))
-      ∙ sym (map_push (fired_at s (fires s h command)) (flat_map (λ s. fired_at s (fires s h command)) subs))
 
   pub texts_of : (xs : List Fired) → flat_map (λ (t : NoticeText). t.text) (map noticed xs) ≡ flat_map (notice_at (language_of labels) h command) xs
   texts_of [] = refl
@@ -182,16 +163,39 @@ module _ (labels : List Label) (h : History) (command : Command) (store : StoreS
       ∙ ap (told_spans from) (order_made noticed (λ (f : Fired). f.0) (λ (t : NoticeText). t.firing) (λ x. refl) (firings h command))
       ∙ spans_are from (firings_in_order h command)
 
--- the subscriptions of an engine that follows the history are told what the notices say: the store is that before the command, and the files are those behind it
-module _ (labels : List Label) (h : History) (command : Command) (store : StoreState) (table : TableState)
+  module _ (store : StoreState) (files : Files) (distinct : DistinctTable) where
+    -- what is kept of a subscription is told what the notice of its subscription says
+    abbrev pub Tells : Subscription → Kept → Type 0
+    Tells s m = (m.install ≡ s.install) × (m.name ≡ s.statement.name)
+        × ((instant : ℕ) → notice_text labels store files distinct m instant ≡ notice_at (language_of labels) h command (record { instant = instant; install = s.install }, s))
+
+    told_one : (s : Subscription) (m : Kept) (o : Option ℕ) → Tells s m → notice_texts labels store files distinct m o ≡ map noticed (fired_at s o)
+    told_one s m None k = refl
+    told_one s m (Some d) k = λ i. record { firing = record { instant = d; install = k.0 i }; name = k.1 i; text = k.2 d i } ∷ []
+
+    -- what the subscriptions are told is what is told of their subscriptions
+    pub told_list : (instant : Kept → Option ℕ) (subs : List Subscription) (ms : List Kept)
+        → Pairwise (λ s m. Tells s m × (instant m ≡ fires s h command)) subs ms
+        → told_of labels store files distinct instant ms ≡ map noticed (flat_map (λ s. fired_at s (fires s h command)) subs)
+    told_list instant [] [] p = refl
+    told_list instant [] (m ∷ ms) p = absurd p
+    told_list instant (s ∷ subs) [] p = absurd p
+    told_list instant (s ∷ subs) (m ∷ ms) p =
+        (λ i. notice_texts labels store files distinct m (p.0.1 i) ++ told_list instant subs ms p.1 i)
+        ∙ (λ i. told_one s m (fires s h command) p.0.0 i ++ map noticed (flat_map (λ s. fired_at s (fires s h command)) subs))
+        ∙ sym (map_push (fired_at s (fires s h command)) (flat_map (λ s. fired_at s (fires s h command)) subs))
+
+-- the subscriptions of an engine that follows the history are told what the notices say: the store and the counts are those before the command, and the files are those behind it
+module _ (labels : List Label) (h : History) (command : Command) (store : StoreState) (table : TableState) (distinct : DistinctTable)
     (last : (name : List ℕ) → last_in store name ≡ last_change name h) (rising : IsRising h) (contents : AreContents table.files (command ∷ h))
     (upto : AreUpTo (changes (command ∷ h)) table.files) where
-  pub tells_one : (s : Subscription) (m : Kept) → Keeps labels h s m → CanTell labels store table m → Tells labels h command store table.files s m
-  tells_one s m k can = (k.install, k.name, λ instant. text_is labels h command store table last rising contents upto s m k can instant)
+  pub tells_one : (s : Subscription) (m : Kept) → Keeps labels h s m → CanTell labels store table m → IsCounted h distinct s → Tells labels h command store table.files distinct s m
+  tells_one s m k can counted = (k.install, k.name, λ instant. text_is labels h command store table last rising contents upto s m k can distinct counted instant)
 
   pub tells_each : (instant : Kept → Option ℕ) (subs : List Subscription) (ms : List Kept) → Pairwise (λ s m. Keeps labels h s m × (instant m ≡ fires s h command)) subs ms
-      → AllByRecursion (CanTell labels store table) ms → Pairwise (λ s m. Tells labels h command store table.files s m × (instant m ≡ fires s h command)) subs ms
-  tells_each instant [] [] p c = tt
-  tells_each instant [] (m ∷ ms) p c = absurd p
-  tells_each instant (s ∷ subs) [] p c = absurd p
-  tells_each instant (s ∷ subs) (m ∷ ms) p c = ((tells_one s m p.0.0 c.0, p.0.1), tells_each instant subs ms p.1 c.1)
+      → AllByRecursion (CanTell labels store table) ms → AllByRecursion (IsCounted h distinct) subs
+      → Pairwise (λ s m. Tells labels h command store table.files distinct s m × (instant m ≡ fires s h command)) subs ms
+  tells_each instant [] [] p c counted = tt
+  tells_each instant [] (m ∷ ms) p c counted = absurd p
+  tells_each instant (s ∷ subs) [] p c counted = absurd p
+  tells_each instant (s ∷ subs) (m ∷ ms) p c counted = ((tells_one s m p.0.0 c.0 counted.0, p.0.1), tells_each instant subs ms p.1 c.1 counted.1)

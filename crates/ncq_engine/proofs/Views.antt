@@ -13,4 +13,5 @@ view_of i = record {
   table = i.live_table.table;
   spans = i.spans;
   cache = i.cache;
+  distinct = i.distinct;
 }

@@ -1,16 +1,19 @@
 -- An engine and its subscriptions, as contracts see them, and what a firing makes of a
 -- subscription.
-use Rattle.std.specs.Prelude.{◌≡◌, ◌<◌, ◌≤◌, ◌==◌, ◌&&◌, ℕ, Bool, true, if◌then◌else◌}
+use Rattle.std.specs.Prelude.{◌≡◌, ◌<◌, ◌≤◌, ◌==◌, ◌&&◌, ℕ, Bool, true, false, if◌then◌else◌}
 use Rattle.std.specs.Prelude.{List, [], max, ◌*◌}
 use Rattle.std.specs.Prelude.{◌∷◌, length}
-use Rattle.std.specs.Prelude.{Option, Some, None, nat_lt, nat_le, slice_get, ◌+◌, IfSome}
-use Rattle.std.specs.FinMap.{get}
+use Rattle.std.specs.Prelude.{Option, Some, None, nat_eq, nat_lt, nat_le, slice_get, ◌+◌, IfSome}
+use Rattle.std.specs.FinMap.{get, empty}
 use Rattle.std.specs.Option.{option_map, unwrap_or}
 use Rattle.std.specs.List.{list_any, AllByRecursion}
+use Rattle.ncq_bag.specs.Counts.{turns}
+use Rattle.ncq_bag.specs.declared.bag.Difference.{Difference}
 use Rattle.ncq_base.specs.declared.atom.FileId.{FileId}
 use Rattle.ncq_cache.specs.Cached.{Cached}
 use Rattle.ncq_callback.specs.Labels.{Label}
 use Rattle.ncq_change.specs.Stores.{world_in}
+use Rattle.ncq_distinct.specs.DistinctTables.{counts_at, DistinctTable}
 use Rattle.ncq_event.specs.Instants.{due}
 use Rattle.ncq_event.specs.declared.firing.Firing.{Firing}
 use Rattle.ncq_event.specs.declared.timing.Timing.{Timing}
@@ -63,11 +66,26 @@ rows_in_file (Some file) = file.content.rows
 abbrev pub news_of : StoreState → Files → Kept → List SignedRow
 news_of store files m = since_mark (mark_in store m) (rows_in_file (get files m.file.0))
 
--- what it is told at an instant
-abbrev pub notice_text : List Label → StoreState → Files → Kept → ℕ → List ℕ
-notice_text labels store files m instant =
+-- what they tell of all that its query answers
+abbrev pub news_in : StoreState → Files → Kept → List Difference
+news_in store files m = entries_of m.query (news_of store files m)
+
+-- what it is told of that: with DISTINCT what leaves 0 or reaches it in its counts
+abbrev pub told_in : StoreState → Files → DistinctTable → Kept → List Difference
+told_in store files distinct m = if m.distinct
+    then turns (counts_at distinct m.install) (news_in store files m) else news_in store files m
+
+-- the text of a notice of these entries
+abbrev pub entries_text : List Label → Kept → ℕ → List Difference → List ℕ
+entries_text labels m instant entries =
     rendered (option_map (λ label. label.1) (slice_get labels m.action)) m.argument m.name instant
-    (entries_of m.query (news_of store files m))
+    entries
+
+-- what it is told at an instant
+abbrev pub notice_text
+    : List Label → StoreState → Files → DistinctTable → Kept → ℕ → List ℕ
+notice_text labels store files distinct m instant =
+    entries_text labels m instant (told_in store files distinct m)
 
 -- whether it fires at a change of these sections now
 abbrev pub is_told_change : List Section → ℕ → Kept → Bool
@@ -122,13 +140,14 @@ pub record NoticeText : Type 0 where
   pub text : List ℕ
 
 -- its notice where it fires, with the firing
-abbrev pub notice_texts : List Label → StoreState → Files → Kept → Option ℕ → List NoticeText
-notice_texts labels store files m None = []
-notice_texts labels store files m (Some instant) =
+abbrev pub notice_texts
+    : List Label → StoreState → Files → DistinctTable → Kept → Option ℕ → List NoticeText
+notice_texts labels store files distinct m None = []
+notice_texts labels store files distinct m (Some instant) =
     record {
       firing = record { instant = instant; install = m.install };
       name = m.name;
-      text = notice_text labels store files m instant;
+      text = notice_text labels store files distinct m instant;
     } ∷ []
 
 -- none has an install number above this one
@@ -141,6 +160,7 @@ new_subscription statement query timing action creates file = record {
   name = statement.name;
   sources = sources_of statement;
   query = query;
+  distinct = statement.query.distinct;
   file = file;
   timing = timing;
   action = action;
@@ -154,12 +174,19 @@ abbrev pub AreSound : Files → Type 0
 AreSound files = EachFile files (λ number file.
     (n : ℕ) → file.content.base ≤ n → IsSoundAt n file.content.rows)
 
+-- counts are kept of those of the subscriptions alone that have DISTINCT
+abbrev pub KeepsCounts : List Kept → DistinctTable → Type 0
+KeepsCounts subscriptions distinct =
+    (install : ℕ) → list_any (λ m. m.distinct && nat_eq m.install install) subscriptions ≡ false
+    → counts_at distinct install ≡ empty
+
 -- what holds of an engine whatever was answered: there are no more changes and creates than
 -- commands, and no source has changed later; its subscriptions can be told and rise
 -- by install number; its files have the rows of the sources as they stand, and were sound at each
 -- change since their bases, and no more numbers were given than creates can take
 pub record IsEngine (store : StoreState) (count creates : ℕ) (labels : List Label)
-    (subscriptions : List Kept) (table : TableState) (cache : List Cached) : Type 0 where
+    (subscriptions : List Kept) (table : TableState) (cache : List Cached)
+    (distinct : DistinctTable) : Type 0 where
   pub changes : store.changes ≤ count
   pub creates_too : creates ≤ count
   pub lasts : (name : List ℕ) → last_in store name ≤ store.changes
@@ -171,3 +198,4 @@ pub record IsEngine (store : StoreState) (count creates : ℕ) (labels : List La
   pub sound : AreSound table.files
   pub next : table.next_file ≤ 256 * creates
   pub serve : AllServe table cache
+  pub counts : KeepsCounts subscriptions distinct

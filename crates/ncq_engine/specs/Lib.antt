@@ -9,6 +9,7 @@ pub mod Alone
 pub mod Marks
 pub mod Languages
 pub mod Cached
+pub mod DistinctCounts
 pub mod Engines
 pub mod Stands
 pub mod Applies

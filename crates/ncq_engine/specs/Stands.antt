@@ -8,6 +8,7 @@ use Rattle.ncq_bind.specs.Bound.{query_is_bound}
 use Rattle.ncq_bind.specs.NormalQueries.{normal_query}
 use Rattle.ncq_cache.specs.Cached.{Cached, cached_code}
 use Rattle.ncq_callback.specs.Labels.{Label}
+use Rattle.ncq_distinct.specs.DistinctTables.{distinct_code, DistinctTable}
 use Rattle.ncq_callback.specs.contracts.notice.Kind.{the_row as kind_row}
 use Rattle.ncq_book.specs.contracts.subscription.Subscription.{the_row as subscription_row}
 use Rattle.ncq_book.specs.declared.subscription.Subscription.{Subscription as Kept}
@@ -23,7 +24,8 @@ use Rattle.ncq_xmlql.specs.WellFormed.{IsWellFormed}
 use Rattle.ncq_engine.specs.contracts.span.Span.{the_row as span_row}
 use Rattle.ncq_engine.specs.declared.span.Span.{Span}
 use Rattle.ncq_engine.specs.Cached.{AreToldRight}
-use Rattle.ncq_engine.specs.Engines.{Pairwise, last_in}
+use Rattle.ncq_engine.specs.DistinctCounts.{AreCounted}
+use Rattle.ncq_engine.specs.Engines.{KeepsCounts, Pairwise, last_in}
 use Rattle.ncq_engine.specs.Firing.{mark, sources_of}
 use Rattle.ncq_engine.specs.History.{History, Source, Subscription, changes, creates, last_change}
 use Rattle.ncq_engine.specs.History.{live, now, sources, timing_of, up_to, world}
@@ -33,7 +35,8 @@ use Rattle.ncq_engine.specs.Notices.{kind_in, name_at}
 -- what contracts see of an engine: the store, the clock, how many commands were answered and how
 -- many creates accepted, the names and kinds of its handlers, the live subscriptions in the order
 -- of their creates, the table of the files that they share, where the notices of the last answer
--- stand, and what is kept of what was told, the most lately used first
+-- stand, what is kept of what was told, the most lately used first, and the counts of the
+-- subscriptions with DISTINCT
 pub record EngineState : Type 0 where
   pub store : StoreState
   pub clock : ℕ
@@ -44,17 +47,19 @@ pub record EngineState : Type 0 where
   pub table : TableState
   pub spans : List Span
   pub cache : List Cached
+  pub distinct : DistinctTable
 
 -- how an engine is written as a value
 abbrev pub engine_code : Coded EngineState
 engine_code =
     code_by
     (StoreState × (ℕ × (ℕ × (ℕ × (List Label × (List Kept × (TableState × (List Span
-    × List Cached))))))))
+    × (List Cached × DistinctTable)))))))))
     (coded× store_code (coded× coded_ℕ (coded× coded_ℕ (coded× coded_ℕ
     (coded× (coded_list (coded× (coded_list coded_ℕ) kind_row.coded))
     (coded× (coded_list subscription_row.coded)
-    (coded× table_code (coded× (coded_list span_row.coded) cached_code))))))))
+    (coded× table_code (coded× (coded_list span_row.coded)
+    (coded× cached_code distinct_code)))))))))
     (λ e. (
       e.store,
       (
@@ -71,7 +76,10 @@ engine_code =
                   e.table,
                   (
                     e.spans,
-                    e.cache,
+                    (
+                      e.cache,
+                      e.distinct,
+                    ),
                   ),
                 ),
               ),
@@ -89,7 +97,8 @@ engine_code =
       subscriptions = p.1.1.1.1.1.0;
       table = p.1.1.1.1.1.1.0;
       spans = p.1.1.1.1.1.1.1.0;
-      cache = p.1.1.1.1.1.1.1.1;
+      cache = p.1.1.1.1.1.1.1.1.0;
+      distinct = p.1.1.1.1.1.1.1.1.1;
     })
     (λ _. refl)
 
@@ -111,6 +120,7 @@ pub record Keeps (labels : List Label) (history : History) (s : Subscription) (m
   pub whole : IsWellFormed s.statement
   pub bound : query_is_bound s.statement.query ≡ true
   pub query : m.query ≡ normal_query s.statement.query
+  pub distinct : m.distinct ≡ s.statement.query.distinct
   pub timing : m.timing ≡ timing_of s
   pub kind : option_map (λ label. label.1) (slice_get labels m.action)
       ≡ kind_in s.statement.action labels
@@ -127,8 +137,8 @@ AreContents files history =
     → IsContent change file.content.rows
     (rows_in file.expr (world (sources (up_to change history))))
 
--- the store, the clock, the creates and the live subscriptions are those after the history, and the
--- files tell the sources at each change
+-- the store, the clock, the creates and the live subscriptions are those after the history, the
+-- files tell the sources at each change, and the counts of those with DISTINCT are right
 pub record Follows (engine : EngineState) (history : History) : Type 0 where
   pub sources : map content_of engine.store.sources ≡ sources history
   pub last : (name : List ℕ) → last_in engine.store name ≡ last_change name history
@@ -137,6 +147,7 @@ pub record Follows (engine : EngineState) (history : History) : Type 0 where
   pub creates : engine.creates ≡ creates history
   pub subscriptions : Pairwise (Keeps engine.labels history) (live history) engine.subscriptions
   pub contents : AreContents engine.table.files history
+  pub counted : AreCounted history engine.distinct
   pub rising : IsRising history
 
 -- the file that it has was made at its mark or before
@@ -156,10 +167,11 @@ pub record IsBounded (engine : EngineState) (history : History) : Type 0 where
   pub few_creates : creates history ≤ engine.count
   pub few_files : engine.table.next_file ≤ 256 * creates history
 
--- the engine stands for the history, its subscriptions share their files, it is bounded, and what it
--- keeps of what was told is right
+-- the engine stands for the history, its subscriptions share their files, it is bounded, what it
+-- keeps of what was told is right, and it keeps counts of live subscriptions with DISTINCT alone
 pub record Stands (engine : EngineState) (history : History) : Type 0 where
   pub follows : Follows engine history
   pub bounded : IsBounded engine history
   pub shares : Shares engine.subscriptions engine.table
   pub cached : AreToldRight history engine.table engine.cache
+  pub counts : KeepsCounts engine.subscriptions engine.distinct

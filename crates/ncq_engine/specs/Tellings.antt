@@ -1,12 +1,14 @@
 -- Who fires and what they are told, by install numbers. Only the crate's private clauses cite it.
-use Rattle.std.specs.Prelude.{◌≡◌, ◌++◌, ℕ, Bool, false, nat_le, nat_eq}
+use Rattle.std.specs.Prelude.{◌≡◌, ◌++◌, ◌&&◌, ℕ, Bool, false, nat_le, nat_eq}
 use Rattle.std.specs.Prelude.{List, [], ◌∷◌, length}
 use Rattle.std.specs.Prelude.{Option, Some, None, IfSome, if◌then◌else◌, map, not}
 use Rattle.std.specs.FinMap.{get}
 use Rattle.std.specs.List.{filter, flat_map, list_any, AllByRecursion}
+use Rattle.ncq_bag.specs.declared.bag.Difference.{Difference}
 use Rattle.ncq_book.specs.declared.subscription.Subscription.{Subscription as Kept}
 use Rattle.ncq_book.specs.Books.{subscription_of, is_of}
 use Rattle.ncq_callback.specs.Labels.{Label}
+use Rattle.ncq_distinct.specs.DistinctTables.{waiting_at, DistinctTable}
 use Rattle.ncq_event.specs.declared.firing.Firing.{Firing}
 use Rattle.ncq_group.specs.Tables.{TableState}
 use Rattle.ncq_live.specs.LiveTables.{LiveState}
@@ -18,7 +20,7 @@ use Rattle.ncq_engine.specs.declared.span.Span.{Span}
 use Rattle.ncq_engine.specs.declared.telling.Answered.{Answered}
 use Rattle.ncq_engine.specs.Cached.{IsFresh}
 use Rattle.ncq_engine.specs.Engines.{CanTell, has_news_in, latest_in, mark_in, news_of, noted_at}
-use Rattle.ncq_engine.specs.Engines.{notice_text, rows_in_file}
+use Rattle.ncq_engine.specs.Engines.{news_in, notice_text, rows_in_file}
 use Rattle.ncq_engine.specs.Output.{expired_line, ok_text}
 use Rattle.ncq_engine.specs.Scans.{scanned_by}
 use Rattle.ncq_engine.specs.Spans.{spans_of}
@@ -52,13 +54,17 @@ is_news_at store subscriptions firing = has_its_news store (subscription_of firi
     subscriptions)
 
 -- the notice of a firing
-abbrev pub text_of : List Label → StoreState → Files → ℕ → Option Kept → List ℕ
-text_of labels store files instant None = []
-text_of labels store files instant (Some m) = notice_text labels store files m instant
+abbrev pub text_of
+    : List Label → StoreState → Files → DistinctTable → ℕ → Option Kept → List ℕ
+text_of labels store files distinct instant None = []
+text_of labels store files distinct instant (Some m) =
+    notice_text labels store files distinct m instant
 
-abbrev pub firing_text : List Label → StoreState → Files → List Kept → Firing → List ℕ
-firing_text labels store files subscriptions firing =
-    text_of labels store files firing.instant (subscription_of firing.install subscriptions)
+abbrev pub firing_text
+    : List Label → StoreState → Files → DistinctTable → List Kept → Firing → List ℕ
+firing_text labels store files distinct subscriptions firing =
+    text_of labels store files distinct firing.instant
+    (subscription_of firing.install subscriptions)
 
 -- the name of the subscription of a firing
 abbrev pub name_of : Option Kept → List ℕ
@@ -83,15 +89,44 @@ CanTellEach labels store live_table =
     AllByRecursion (CanTell labels store live_table.table) live_table.subscriptions
 
 -- the notices of firings, one behind the other
-abbrev pub firings_text : List Label → StoreState → LiveState → List Firing → List ℕ
-firings_text labels store live_table firings =
-    flat_map (firing_text labels store live_table.table.files live_table.subscriptions) firings
+abbrev pub firings_text
+    : List Label → StoreState → DistinctTable → LiveState → List Firing → List ℕ
+firings_text labels store distinct live_table firings =
+    flat_map (firing_text labels store live_table.table.files distinct live_table.subscriptions)
+    firings
 
 -- where each of them stands, from this place on
-abbrev pub firings_spans : List Label → StoreState → LiveState → ℕ → List Firing → List Span
-firings_spans labels store live_table from firings =
+abbrev pub firings_spans
+    : List Label → StoreState → DistinctTable → LiveState → ℕ → List Firing → List Span
+firings_spans labels store distinct live_table from firings =
     spans_of (firing_name live_table.subscriptions)
-    (firing_text labels store live_table.table.files live_table.subscriptions) from firings
+    (firing_text labels store live_table.table.files distinct live_table.subscriptions) from firings
+
+-- the changes of the counts of a subscription with DISTINCT: what its rows tell, where it fires
+abbrev pub awaited_of
+    : StoreState → Files → List Firing → Option Kept → List Difference
+awaited_of store files firings None = []
+awaited_of store files firings (Some m) =
+    if m.distinct && is_fired firings m then news_in store files m else []
+
+-- these changes wait, and no others
+abbrev pub Awaits : StoreState → LiveState → List Firing → DistinctTable → Type 0
+Awaits store live_table firings distinct =
+    (any : ℕ) → waiting_at distinct any ≡ awaited_of store live_table.table.files firings
+    (subscription_of any live_table.subscriptions)
+
+-- where the changes of some firings wait, those of these firings wait too
+abbrev pub AwaitMore
+    : StoreState → LiveState → List Firing → DistinctTable → DistinctTable → Type 0
+AwaitMore store live_table more old new =
+    (firings : List Firing) → Awaits store live_table firings old
+    → Awaits store live_table (firings ++ more) new
+
+-- with DISTINCT what its rows tell waits, beside what waited for others
+abbrev pub AwaitsNews : StoreState → Files → Kept → DistinctTable → DistinctTable → Type 0
+AwaitsNews store files m old new =
+    (any : ℕ) → waiting_at new any ≡ (if m.distinct && nat_eq any m.install
+    then news_in store files m else waiting_at old any)
 
 -- the subscriptions behind these firings at a number of changes
 abbrev pub noted_by : ℕ → List Firing → List Kept → List Kept
@@ -152,10 +187,11 @@ HasNews store files m latest =
 -- the answer to the command of this number was appended: its first line, and the notices of these
 -- firings
 pub record IsAnswered (number : ℕ) (labels : List Label) (store : StoreState)
-    (live_table : LiveState) (firings : List Firing) (old new : List ℕ) (answered : Answered)
-    : Type 0 where
-  pub written : new ≡ (old ++ ok_text number) ++ firings_text labels store live_table firings
+    (distinct : DistinctTable) (live_table : LiveState) (firings : List Firing)
+    (old new : List ℕ) (answered : Answered) : Type 0 where
+  pub written : new
+      ≡ (old ++ ok_text number) ++ firings_text labels store distinct live_table firings
   pub from : answered.from ≡ length (old ++ ok_text number)
   pub to : answered.to ≡ length new
   pub spans : answered.spans
-      ≡ firings_spans labels store live_table (length (old ++ ok_text number)) firings
+      ≡ firings_spans labels store distinct live_table (length (old ++ ok_text number)) firings

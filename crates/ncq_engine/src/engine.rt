@@ -3,7 +3,7 @@ ghost use Rattle.std.specs.Prelude.{◌≡◌, ◌≢◌, ◌⊎◌, ◌+◌, �
 ghost use Rattle.std.specs.Prelude.{length, map};
 ghost use Rattle.std.specs.Prelude.{codes, decimal, IfOk, OnOk, OnErr, IfSome, IfNone, Err, None};
 ghost use Rattle.std.specs.Prelude.{Some, true, false};
-ghost use Rattle.std.specs.FinMap.{get};
+ghost use Rattle.std.specs.FinMap.{empty, get};
 ghost use Rattle.std.specs.List.{flat_map, list_all, AllByRecursion};
 ghost use Rattle.std.specs.Option.{is_some, unwrap_or};
 ghost use Rattle.ncq_bind.specs.Bindings.{are_declared, roots_in};
@@ -21,7 +21,7 @@ ghost use Rattle.ncq_engine.specs.Applies.{query_refusal};
 ghost use Rattle.ncq_engine.specs.Applies.{KeepsCache, OfFollowed};
 ghost use Rattle.ncq_engine.specs.Compactions.{AreCompacted, HasBase, IsChange, IsWorn, KeepBases};
 ghost use Rattle.ncq_engine.specs.Compactions.{least_of, MoveBases};
-ghost use Rattle.ncq_engine.specs.Engines.{new_subscription};
+ghost use Rattle.ncq_engine.specs.Engines.{new_subscription, KeepsCounts};
 ghost use Rattle.ncq_engine.specs.History.{History, start_of};
 ghost use Rattle.ncq_engine.specs.Joins.{IsSubscriptionOf, OfStatement};
 ghost use Rattle.ncq_engine.specs.Languages.{language_of};
@@ -47,6 +47,7 @@ use ncq_bind::{BindError, bind};
 use ncq_book::Subscription;
 use ncq_cache::NoticeCache;
 use ncq_callback::{Handlers, Kind};
+use ncq_distinct::DistinctTable;
 use ncq_event::{Timing, is_expired};
 use ncq_live::LiveTable;
 use ncq_plan::{NormalQuery, plan};
@@ -104,6 +105,7 @@ pub struct Engine {
     labels: Vec<(Bytes, Kind)>,
     spans: Spans,
     cache: NoticeCache,
+    distinct: DistinctTable,
 }
 
 impl Drop for Engine {
@@ -116,12 +118,14 @@ impl Drop for Engine {
             labels,
             spans,
             cache,
+            distinct,
         } = self;
         drop(store);
         drop(live_table);
         drop(labels);
         drop(spans);
         drop(cache);
+        drop(distinct);
     }
 }
 
@@ -143,11 +147,12 @@ impl Model for Engine {
       table = e.live_table.table;
       spans = e.spans;
       cache = e.cache;
+      distinct = e.distinct;
     } };
 
     ghost invariant = { λ e.
         IsEngine e.store e.count e.creates e.labels.items e.live_table.subscriptions
-        e.live_table.table e.cache };
+        e.live_table.table e.cache e.distinct };
 }
 
 impl Engine {
@@ -158,6 +163,7 @@ impl Engine {
         ensures count { IfOk result (λ engine. engine.count ≡ 0) }
         ensures no_spans { IfOk result (λ engine. engine.spans ≡ []) }
         ensures no_cache { IfOk result (λ engine. engine.cache ≡ []) }
+        ensures no_counts { IfOk result (λ engine. engine.distinct ≡ empty) }
         ensures labels { IfOk result (λ engine. engine.labels
             ≡ (labels handlers.now.items.items (λ h. h.name) (λ h. h.kind))) }
     {
@@ -170,6 +176,7 @@ impl Engine {
             labels,
             spans: Spans::new(alloc),
             cache: NoticeCache::new(alloc)?,
+            distinct: DistinctTable::new(alloc, seed),
         };
         engine.stands();
         Ok(engine)
@@ -303,12 +310,14 @@ impl Engine {
     }
 
     /// The engine is bounded by each history that it follows, its subscriptions share their files,
-    /// and what it keeps of what was told serves: this call does nothing.
+    /// what it keeps of what was told serves, and it keeps counts of no others: this call does
+    /// nothing.
     fn stands(&self)
         ensures bounded { (history : History) → Follows self.now history
             → IsBounded self.now history }
         ensures shares { Shares self.now.subscriptions self.now.table }
         ensures serve { AllServe self.now.table self.now.cache }
+        ensures counts { KeepsCounts self.now.subscriptions self.now.distinct }
     {
         self.live_table.shares();
     }
@@ -587,9 +596,11 @@ impl Engine {
             handlers,
             out,
             &mut self.cache,
+            &mut self.distinct,
         ) {
             Ok(answered) => {
                 self.store.commit(change);
+                self.distinct.settle();
                 self.count += 1;
                 Ok(answered)
             }
@@ -678,17 +689,20 @@ impl Engine {
             handlers,
             out,
             &mut self.cache,
+            &mut self.distinct,
         ) {
             Ok((answered, firings)) => {
                 let changes = self.store.changes();
                 note_all(&mut self.live_table, changes, firings.as_slice());
+                self.distinct.settle();
                 self.creates = install;
                 self.count += 1;
                 Ok(answered)
             }
             Err(AllocError) => {
                 // The numbers of its files are given again.
-                self.cache.clear();
+                let cache = &mut self.cache;
+                cache.clear();
                 self.live_table.remove(install);
                 self.live_table.roll_back(mark);
                 Err(ApplyError::OutOfMemory)
@@ -716,6 +730,7 @@ impl Engine {
             name: statement.name.copy(alloc)?,
             sources,
             query,
+            distinct: statement.query.distinct,
             file: FileId(0),
             timing,
             action,
@@ -743,7 +758,7 @@ impl Engine {
         };
         let answered = write_accepted(alloc, self.count + 1, out)?;
         self.live_table.facts();
-        take_all(&mut self.live_table, &[install]);
+        take_all(&mut self.live_table, &mut self.distinct, &[install]);
         self.live_table.facts();
         self.count += 1;
         Ok(answered)
@@ -780,6 +795,7 @@ impl Engine {
             handlers,
             out,
             &mut self.cache,
+            &mut self.distinct,
         )?;
         let answered = answered.with(spans, out);
         let expired = self.live_table.book().expired(alloc, instant)?;
@@ -787,7 +803,8 @@ impl Engine {
         self.live_table.move_to(alloc, instant)?;
         let changes = self.store.changes();
         note_all(&mut self.live_table, changes, firings.as_slice());
-        take_all(&mut self.live_table, expired.as_slice());
+        self.distinct.settle();
+        take_all(&mut self.live_table, &mut self.distinct, expired.as_slice());
         self.live_table.facts();
         self.count += 1;
         Ok(answered)

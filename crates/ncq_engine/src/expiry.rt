@@ -1,11 +1,14 @@
 //! Subscriptions that end.
-ghost use Rattle.std.specs.Prelude.{◌≡◌, ◌++◌, OnOk};
+ghost use Rattle.std.specs.Prelude.{◌≡◌, ◌++◌, if◌then◌else◌, nat_eq, OnOk, ℕ};
+ghost use Rattle.std.specs.FinMap.{empty};
 ghost use Rattle.std.specs.Io.{StartsWith};
-ghost use Rattle.std.specs.List.{flat_map};
+ghost use Rattle.std.specs.List.{flat_map, list_any};
+ghost use Rattle.ncq_distinct.specs.DistinctTables.{counts_at};
 ghost use Rattle.ncq_engine.specs.Output.{expired_line};
 ghost use Rattle.ncq_engine.specs.Tellings.{expired_of, IsLeftBy};
 
 use ncq_book::Book;
+use ncq_distinct::DistinctTable;
 use ncq_live::LiveTable;
 use std::alloc::AllocError;
 
@@ -47,12 +50,15 @@ fn write_expired_line(name: &[u8], out: &mut Vec<u8>) -> Result<(), AllocError>
     Ok(())
 }
 
-/// Takes the subscriptions of these install numbers away, and gives up their uses of their files.
-/// It takes no memory.
-pub(crate) fn take_all(live_table: &mut LiveTable, installs: &[u64])
-    ensures { IsLeftBy installs.now live_table.old live_table.new }
+/// Takes the subscriptions of these install numbers away, with their counts, and gives up their
+/// uses of their files. It takes no memory.
+pub(crate) fn take_all(live_table: &mut LiveTable, distinct: &mut DistinctTable, installs: &[u64])
+    ensures left { IsLeftBy installs.now live_table.old live_table.new }
+    ensures counts { (any : ℕ) → counts_at distinct.new any
+        ≡ (if list_any (nat_eq any) installs.now then empty else counts_at distinct.old any) }
 {
     for install in installs {
         live_table.remove(*install);
+        distinct.remove(*install);
     }
 }

@@ -1,12 +1,13 @@
 //! A firing: what the answer of a subscription gained and lost since its latest one.
-ghost use Rattle.std.specs.Prelude.{◌≡◌, ◌++◌, length, IfSome, OnOk};
+ghost use Rattle.std.specs.Prelude.{◌≡◌, ◌++◌, ◌<◌, length, IfSome, OnOk};
 ghost use Rattle.std.specs.Io.{StartsWith};
 ghost use Rattle.ncq_callback.specs.Labels.{labels};
+ghost use Rattle.ncq_distinct.specs.DistinctTables.{HaveSameCounts};
 ghost use Rattle.ncq_source.specs.StoreStates.{StoreState};
 ghost use Rattle.ncq_engine.specs.Cached.{AllServe, Grows};
-ghost use Rattle.ncq_engine.specs.Engines.{mark_in, latest_in, notice_text, CanTell};
+ghost use Rattle.ncq_engine.specs.Engines.{mark_in, latest_in, entries_text, notice_text, CanTell};
 ghost use Rattle.ncq_engine.specs.Spans.{span_of};
-ghost use Rattle.ncq_engine.specs.Tellings.{IsLatest};
+ghost use Rattle.ncq_engine.specs.Tellings.{AwaitsNews, IsLatest};
 
 use crate::latest::{Latest, find_news};
 use crate::span::{Span, Spans};
@@ -14,7 +15,8 @@ use crate::who::last_change;
 use ncq_base::{Bytes, Copied};
 use ncq_book::Subscription;
 use ncq_cache::NoticeCache;
-use ncq_callback::Handlers;
+use ncq_callback::{Handlers, Notice};
+use ncq_distinct::DistinctTable;
 use ncq_group::GroupTable;
 use ncq_source::Store;
 use std::alloc::{AllocError, Global};
@@ -23,7 +25,8 @@ use std::mem::replace;
 /// Appends what the answer of the subscription gained and lost since its latest firing, and adds
 /// where that stands, if anything differs. What was told last, if anything was, serves where it is
 /// the same, and what is kept of what was told before; what this subscription is told is what was
-/// told last from then on. What was written before stays in front.
+/// told last from then on. With DISTINCT the changes of its counts wait. What was written before
+/// stays in front.
 pub(crate) fn fire<'a>(
     alloc: Global,
     subscription: &'a Subscription,
@@ -35,6 +38,7 @@ pub(crate) fn fire<'a>(
     spans: &mut Spans,
     latest: &mut Option<Latest<'a>>,
     cache: &mut NoticeCache,
+    distinct: &mut DistinctTable,
 ) -> Result<(), AllocError>
     requires can { CanTell (labels handlers.now.items.items (λ h. h.name) (λ h. h.kind))
         store.now groups.now subscription.now }
@@ -42,29 +46,86 @@ pub(crate) fn fire<'a>(
     requires serve { AllServe groups.now cache.old }
     ensures text { OnOk result (out.new.items ≡ out.old.items
         ++ notice_text (labels handlers.now.items.items (λ h. h.name) (λ h. h.kind))
-        store.now groups.now.files subscription.now instant) }
+        store.now groups.now.files distinct.old subscription.now instant) }
     ensures front { StartsWith out.new.items out.old.items }
     ensures span { OnOk result (spans.new ≡ spans.old
         ++ span_of subscription.now.name (length out.old.items)
         (notice_text (labels handlers.now.items.items (λ h. h.name) (λ h. h.kind))
-        store.now groups.now.files subscription.now instant)) }
+        store.now groups.now.files distinct.old subscription.now instant)) }
     ensures latest { IfSome latest.new (IsLatest store.now groups.now) }
     ensures cached { Grows groups.now cache.old cache.new }
+    ensures counts { HaveSameCounts distinct.old distinct.new }
+    ensures waiting { OnOk result (AwaitsNews store.now groups.now.files subscription.now
+        distinct.old distinct.new) }
 {
     find_news(alloc, subscription, instant, groups, store, latest, cache)?;
-    let Some(told) = latest else {
-        unreachable!();
-    };
-    if told.notice.entries.as_slice().is_empty() {
+    match latest {
+        Some(told) if subscription.distinct => {
+            let entries = distinct.prepare(alloc, subscription.install, &told.notice.entries)?;
+            let name = Bytes::new(alloc);
+            let mut notice = Notice {
+                name,
+                instant,
+                entries,
+            };
+            write_notice(
+                alloc,
+                subscription,
+                instant,
+                &mut notice,
+                handlers,
+                out,
+                spans,
+            )
+        }
+        Some(told) => {
+            write_notice(
+                alloc,
+                subscription,
+                instant,
+                &mut told.notice,
+                handlers,
+                out,
+                spans,
+            )
+        }
+        None => unreachable!(),
+    }
+}
+
+/// Appends a notice to the subscription at the instant, and adds where that stands, if it has
+/// entries. What was written before stays in front.
+fn write_notice(
+    alloc: Global,
+    subscription: &Subscription,
+    instant: u64,
+    notice: &mut Notice,
+    handlers: &Handlers,
+    out: &mut Vec<u8>,
+    spans: &mut Spans,
+) -> Result<(), AllocError>
+    requires action { subscription.now.action
+        < length (labels handlers.now.items.items (λ h. h.name) (λ h. h.kind)) }
+    ensures text { OnOk result (out.new.items ≡ out.old.items
+        ++ entries_text (labels handlers.now.items.items (λ h. h.name) (λ h. h.kind))
+        subscription.now instant notice.old.entries) }
+    ensures front { StartsWith out.new.items out.old.items }
+    ensures span { OnOk result (spans.new ≡ spans.old
+        ++ span_of subscription.now.name (length out.old.items)
+        (entries_text (labels handlers.now.items.items (λ h. h.name) (λ h. h.kind))
+        subscription.now instant notice.old.entries)) }
+    ensures entries { notice.new.entries ≡ notice.old.entries }
+{
+    if notice.entries.as_slice().is_empty() {
         return Ok(());
     }
-    told.notice.name = subscription.name.copy(alloc)?;
-    told.notice.instant = instant;
+    notice.name = subscription.name.copy(alloc)?;
+    notice.instant = instant;
     let from = out.len();
     let argument = subscription.argument.as_slice();
-    handlers.call(subscription.action, argument, &told.notice, out)?;
+    handlers.call(subscription.action, argument, notice, out)?;
     let to = out.len();
-    let name = replace(&mut told.notice.name, Bytes::new(alloc));
+    let name = replace(&mut notice.name, Bytes::new(alloc));
     spans.push(Span { name, from, to })
 }
 

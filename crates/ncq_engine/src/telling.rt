@@ -5,10 +5,12 @@ ghost use Rattle.std.specs.Io.{StartsWith};
 ghost use Rattle.std.specs.List.{AllByRecursion};
 ghost use Rattle.ncq_book.specs.Books.{subscription_of, watchers_of, InstallsRise};
 ghost use Rattle.ncq_callback.specs.Labels.{labels};
+ghost use Rattle.ncq_distinct.specs.DistinctTables.{HaveSameCounts};
 ghost use Rattle.ncq_engine.specs.Cached.{AllServe, Grows};
 ghost use Rattle.ncq_engine.specs.Output.{ok_text};
 ghost use Rattle.ncq_engine.specs.Tellings.{firings_spans, firings_text, noted_by, started_at};
-ghost use Rattle.ncq_engine.specs.Tellings.{started_of, CanTellEach, IsAnswered, IsLatest};
+ghost use Rattle.ncq_engine.specs.Tellings.{started_of, AwaitMore, Awaits, CanTellEach};
+ghost use Rattle.ncq_engine.specs.Tellings.{IsAnswered, IsLatest};
 
 use crate::firing::fire;
 use crate::latest::{Latest, put_back};
@@ -17,6 +19,7 @@ use crate::who::{started, starter};
 use ncq_base::write_decimal;
 use ncq_cache::NoticeCache;
 use ncq_callback::Handlers;
+use ncq_distinct::DistinctTable;
 use ncq_event::{Firing, Firings};
 use ncq_live::LiveTable;
 use ncq_source::Store;
@@ -74,7 +77,8 @@ pub(crate) fn write_accepted(
     })
 }
 
-/// Appends the notices of firings, in their order, and tells where each stands.
+/// Appends the notices of firings, in their order, and tells where each stands. With DISTINCT the
+/// changes of counts wait.
 pub(crate) fn tell(
     alloc: Global,
     live_table: &LiveTable,
@@ -83,6 +87,7 @@ pub(crate) fn tell(
     handlers: &Handlers,
     out: &mut Vec<u8>,
     cache: &mut NoticeCache,
+    distinct: &mut DistinctTable,
 ) -> Result<Spans, AllocError>
     requires can { CanTellEach (labels handlers.now.items.items (λ h. h.name) (λ h. h.kind))
         store.now live_table.now }
@@ -91,13 +96,16 @@ pub(crate) fn tell(
         (λ f. IsSome (subscription_of f.install live_table.now.subscriptions)) firings.now }
     ensures text { OnOk result (out.new.items ≡ out.old.items
         ++ firings_text (labels handlers.now.items.items (λ h. h.name) (λ h. h.kind)) store.now
-        live_table.now firings.now) }
+        distinct.old live_table.now firings.now) }
     ensures front { StartsWith out.new.items out.old.items }
     ensures spans { IfOk result (λ spans. spans
         ≡ firings_spans (labels handlers.now.items.items (λ h. h.name) (λ h. h.kind)) store.now
-        live_table.now (length out.old.items) firings.now) }
+        distinct.old live_table.now (length out.old.items) firings.now) }
     ensures cached { Grows live_table.now.table cache.old cache.new }
+    ensures counts { HaveSameCounts distinct.old distinct.new }
+    ensures waiting { OnOk result (Awaits store.now live_table.now firings.now distinct.new) }
 {
+    distinct.forget();
     let mut spans = Spans::new(alloc);
     let mut latest = None;
     for firing in firings {
@@ -115,6 +123,7 @@ pub(crate) fn tell(
             &mut spans,
             &mut latest,
             cache,
+            distinct,
         )?;
     }
     put_back(&mut latest, cache);
@@ -131,19 +140,25 @@ fn tell_started(
     handlers: &Handlers,
     out: &mut Vec<u8>,
     cache: &mut NoticeCache,
+    distinct: &mut DistinctTable,
 ) -> Result<Spans, AllocError>
     requires can { CanTellEach (labels handlers.now.items.items (λ h. h.name) (λ h. h.kind))
         store.now live_table.now }
     requires serve { AllServe live_table.now.table cache.old }
     ensures text { OnOk result (out.new.items ≡ out.old.items
         ++ firings_text (labels handlers.now.items.items (λ h. h.name) (λ h. h.kind)) store.now
-        live_table.now (started_of live_table.now installs.now)) }
+        distinct.old live_table.now (started_of live_table.now installs.now)) }
     ensures front { StartsWith out.new.items out.old.items }
     ensures spans { IfOk result (λ spans. spans
         ≡ firings_spans (labels handlers.now.items.items (λ h. h.name) (λ h. h.kind)) store.now
-        live_table.now (length out.old.items) (started_of live_table.now installs.now)) }
+        distinct.old live_table.now (length out.old.items)
+        (started_of live_table.now installs.now)) }
     ensures cached { Grows live_table.now.table cache.old cache.new }
+    ensures counts { HaveSameCounts distinct.old distinct.new }
+    ensures waiting { OnOk result (Awaits store.now live_table.now
+        (started_of live_table.now installs.now) distinct.new) }
 {
+    distinct.forget();
     let mut spans = Spans::new(alloc);
     let mut latest = None;
     for install in installs {
@@ -157,6 +172,7 @@ fn tell_started(
             &mut spans,
             &mut latest,
             cache,
+            distinct,
         )?;
     }
     put_back(&mut latest, cache);
@@ -175,6 +191,7 @@ fn tell_one<'a>(
     spans: &mut Spans,
     latest: &mut Option<Latest<'a>>,
     cache: &mut NoticeCache,
+    distinct: &mut DistinctTable,
 ) -> Result<(), AllocError>
     requires can { CanTellEach (labels handlers.now.items.items (λ h. h.name) (λ h. h.kind))
         store.now live_table.now }
@@ -182,14 +199,19 @@ fn tell_one<'a>(
     requires serve { AllServe live_table.now.table cache.old }
     ensures text { OnOk result (out.new.items ≡ out.old.items
         ++ firings_text (labels handlers.now.items.items (λ h. h.name) (λ h. h.kind)) store.now
-        live_table.now (started_at live_table.now.instant live_table.now.subscriptions install)) }
+        distinct.old live_table.now
+        (started_at live_table.now.instant live_table.now.subscriptions install)) }
     ensures front { StartsWith out.new.items out.old.items }
     ensures spans { OnOk result (spans.new ≡ spans.old
         ++ firings_spans (labels handlers.now.items.items (λ h. h.name) (λ h. h.kind)) store.now
-        live_table.now (length out.old.items)
+        distinct.old live_table.now (length out.old.items)
         (started_at live_table.now.instant live_table.now.subscriptions install)) }
     ensures latest { IfSome latest.new (IsLatest store.now live_table.now.table) }
     ensures cached { Grows live_table.now.table cache.old cache.new }
+    ensures counts { HaveSameCounts distinct.old distinct.new }
+    ensures waiting { OnOk result (AwaitMore store.now live_table.now
+        (started_at live_table.now.instant live_table.now.subscriptions install)
+        distinct.old distinct.new) }
 {
     let Some(subscription) = starter(live_table.book(), install) else {
         return Ok(());
@@ -205,6 +227,7 @@ fn tell_one<'a>(
         spans,
         latest,
         cache,
+        distinct,
     )
 }
 
@@ -219,21 +242,29 @@ pub(crate) fn answer_change(
     handlers: &Handlers,
     out: &mut Vec<u8>,
     cache: &mut NoticeCache,
+    distinct: &mut DistinctTable,
 ) -> Result<Answered, AllocError>
     requires can { CanTellEach (labels handlers.now.items.items (λ h. h.name) (λ h. h.kind))
         store.now live_table.now }
     requires serve { AllServe live_table.now.table cache.old }
     ensures told { IfOk result (IsAnswered number
-        (labels handlers.now.items.items (λ h. h.name) (λ h. h.kind)) store.now live_table.now
+        (labels handlers.now.items.items (λ h. h.name) (λ h. h.kind)) store.now distinct.old
+        live_table.now
         (started_of live_table.now (watchers_of fed.now live_table.now.subscriptions))
         out.old.items out.new.items) }
     ensures front { StartsWith out.new.items out.old.items }
     ensures cached { Grows live_table.now.table cache.old cache.new }
+    ensures counts { HaveSameCounts distinct.old distinct.new }
+    ensures waiting { OnOk result (Awaits store.now live_table.now
+        (started_of live_table.now (watchers_of fed.now live_table.now.subscriptions))
+        distinct.new) }
 {
     let answered = write_accepted(alloc, number, out)?;
     let watchers = live_table.book().watchers(alloc, fed)?;
     let installs = watchers.as_slice();
-    let spans = tell_started(alloc, live_table, installs, store, handlers, out, cache)?;
+    let spans = tell_started(
+        alloc, live_table, installs, store, handlers, out, cache, distinct,
+    )?;
     Ok(answered.with(spans, out))
 }
 
@@ -248,16 +279,20 @@ pub(crate) fn answer_create(
     handlers: &Handlers,
     out: &mut Vec<u8>,
     cache: &mut NoticeCache,
+    distinct: &mut DistinctTable,
 ) -> Result<(Answered, Firings), AllocError>
     requires can { CanTellEach (labels handlers.now.items.items (λ h. h.name) (λ h. h.kind))
         store.now live_table.now }
     requires serve { AllServe live_table.now.table cache.old }
     ensures told { IfOk result (λ told. IsAnswered number
-        (labels handlers.now.items.items (λ h. h.name) (λ h. h.kind)) store.now live_table.now
-        told.1 out.old.items out.new.items told.0) }
+        (labels handlers.now.items.items (λ h. h.name) (λ h. h.kind)) store.now distinct.old
+        live_table.now told.1 out.old.items out.new.items told.0) }
     ensures front { StartsWith out.new.items out.old.items }
     ensures firings { IfOk result (λ told. told.1 ≡ started_of live_table.now (install ∷ [])) }
     ensures cached { Grows live_table.now.table cache.old cache.new }
+    ensures counts { HaveSameCounts distinct.old distinct.new }
+    ensures waiting { OnOk result (Awaits store.now live_table.now
+        (started_of live_table.now (install ∷ [])) distinct.new) }
 {
     let answered = write_accepted(alloc, number, out)?;
     let firings = started(alloc, live_table.book(), &[install])?;
@@ -269,6 +304,7 @@ pub(crate) fn answer_create(
         handlers,
         out,
         cache,
+        distinct,
     )?;
     Ok((answered.with(spans, out), firings))
 }

@@ -327,7 +327,7 @@ fn expect_each_last(
     Ok(())
 }
 
-/// Elements may be nested 64 deep. The key of the outermost one is the text in the innermost one.
+/// Elements may be nested 512 deep. The key of the outermost one is the text in the innermost one.
 const NESTED: &[Repeated<'_>] = &[
     Repeated {
         front: "source s root R key a\ndelta s\n",
@@ -345,14 +345,14 @@ const NESTED: &[Repeated<'_>] = &[
         middle: "-x\n",
         second: ")a\n",
         back: ".\n",
-        last: 64,
+        last: 512,
         within: "1 ok\n2 ok\n",
         over: "1 ok\n2 refused 15 limit nesting\n",
     },
 ];
 
 #[test]
-fn elements_are_nested_at_most_64_deep(rt: HostRuntime) -> Result<(), Fail> {
+fn elements_are_nested_at_most_512_deep(rt: HostRuntime) -> Result<(), Fail> {
     expect_each_last(&rt, &rt, NESTED)
 }
 

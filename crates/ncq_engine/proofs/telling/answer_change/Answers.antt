@@ -1,11 +1,11 @@
-use Rattle.std.proofs.Common.{◌≡◌, ◌∙◌, ◌++◌, List, ℕ, length, ap}
+use Rattle.std.proofs.Common.{◌≡◌, ◌∙◌, ◌++◌, List, ℕ, length, ap, subst}
 use Rattle.std.specs.List.{flat_map}
 use Rattle.ncq_base.proofs.Written.{front_still}
 use Rattle.ncq_book.specs.Books.{BookState, watchers_of}
 use Rattle.ncq_callback.specs.Labels.{labels}
 use Rattle.ncq_event.specs.declared.firing.Firing.{Firing}
 use Rattle.ncq_engine.specs.declared.telling.Answered.{Answered}
-use Rattle.ncq_engine.specs.Tellings.{firing_name, firing_text, started_at}
+use Rattle.ncq_engine.specs.Tellings.{Awaits, firing_name, firing_text, started_at}
 use Rattle.ncq_engine.specs.Spans.{spans_of}
 use Rattle.ncq_engine.proofs.CachedLaws.{grows_none}
 use Rattle.ncq_engine.proofs.telling.answer_change.Goals as goal
@@ -14,10 +14,12 @@ pub returns : goal.returns
 returns g c =
     let live_table = c.args.live_table.now in
     let slice : c.as_slice-installs.result.now ≡ watchers_of c.args.fed.now live_table.subscriptions = c.as_slice-installs.ensures ∙ c.in_ok-watchers.ensures ∙ ap (λ (b : BookState). watchers_of c.args.fed.now b.subscriptions) c.book.ensures in
-    let text : Firing → List ℕ = firing_text (labels c.args.handlers.now.items.items (λ h. h.name) (λ h. h.kind)) c.args.store.now live_table.table.files live_table.subscriptions in
+    let text : Firing → List ℕ = firing_text (labels c.args.handlers.now.items.items (λ h. h.name) (λ h. h.kind)) c.args.store.now live_table.table.files c.args.distinct.now live_table.subscriptions in
     let starts : ℕ → List Firing = started_at live_table.instant live_table.subscriptions in
     record {
       cached = c.tell_started.ensures.cached;
+      counts = c.tell_started.ensures.counts;
+      waiting = subst (λ (ns : List ℕ). Awaits c.args.store.now live_table (flat_map starts ns) c.tell_started.new.distinct) slice c.in_ok-spans.ensures.waiting;
       front = front_still c.args.out.now.items _ c.write_accepted.new.out.items c.tell_started.new.out.items c.in_ok-answered.ensures.text c.tell_started.ensures.front;
       told = record {
         written = c.in_ok-spans.ensures.text ∙ (λ i. c.in_ok-answered.ensures.text i ++ flat_map text (flat_map starts (slice i)));

@@ -7,10 +7,10 @@ use Rattle.ncq_group.specs.Tables.{TableState}
 use Rattle.ncq_engine.specs.Cached.{AllServe, Grows}
 use Rattle.ncq_engine.specs.Engines.{CanTell, notice_text}
 use Rattle.ncq_engine.specs.Spans.{span_of}
-use Rattle.ncq_engine.specs.Tellings.{IsLatest, has_started}
+use Rattle.ncq_engine.specs.Tellings.{AwaitsNews, IsLatest, has_started}
 use Rattle.ncq_engine.specs.declared.span.Span.{Span}
 use Rattle.ncq_engine.proofs.CachedLaws.{grows_none}
-use Rattle.ncq_engine.proofs.TellingLoops.{found_has, spans_started, text_started}
+use Rattle.ncq_engine.proofs.TellingLoops.{found_has, spans_started, text_started, waits_started}
 use Rattle.ncq_engine.proofs.telling.tell_one.Given.{Over}
 use Rattle.ncq_engine.proofs.telling.tell_one.Goals.{In-Some}
 use Rattle.ncq_engine.proofs.telling.tell_one.Goals as goal
@@ -46,14 +46,20 @@ returns g c =
     let out : List ℕ = c.args.out.now.items in
     let spans : List Span = c.args.spans.now in
     let now : c.instant.result ≡ live_table.instant = c.instant.ensures ∙ ap (λ (b : BookState). b.instant) c.book-2.ensures in
-    let text = text_started all store live_table c.args.install m (found g at) (started g at) in
-    let placed = spans_started all store live_table c.args.install m (found g at) (started g at) (length out) in
+    let distinct = c.args.distinct.now in
+    let text = text_started all store distinct live_table c.args.install m (found g at) (started g at) in
+    let placed = spans_started all store distinct live_table c.args.install m (found g at) (started g at) (length out) in
     record {
       text = on_ok_weaker c.fire.result
-          (λ written. written ∙ (λ i. out ++ notice_text all store (c.groups.ensures i).files m (now i)) ∙ ap (λ (t : List ℕ). out ++ t) (sym text)) c.fire.ensures.text;
+          (λ written. written ∙ (λ i. out ++ notice_text all store (c.groups.ensures i).files distinct m (now i)) ∙ ap (λ (t : List ℕ). out ++ t) (sym text)) c.fire.ensures.text;
       front = c.fire.ensures.front;
       spans = on_ok_weaker c.fire.result
-          (λ more. more ∙ (λ i. spans ++ span_of m.name (length out) (notice_text all store (c.groups.ensures i).files m (now i))) ∙ ap (λ (s : List Span). spans ++ s) (sym placed)) c.fire.ensures.span;
+          (λ more. more ∙ (λ i. spans ++ span_of m.name (length out) (notice_text all store (c.groups.ensures i).files distinct m (now i))) ∙ ap (λ (s : List Span). spans ++ s) (sym placed)) c.fire.ensures.span;
       latest = subst (λ (t : TableState). IfSome c.fire.new.latest (IsLatest store t)) c.groups.ensures c.fire.ensures.latest;
       cached = subst (λ (t : TableState). Grows t c.args.cache.now c.fire.new.cache) c.groups.ensures c.fire.ensures.cached;
+      counts = c.fire.ensures.counts;
+      waiting = on_ok_weaker c.fire.result
+          (λ told. waits_started all store distinct live_table c.args.install m (found g at) (started g at) distinct c.fire.new.distinct
+          (subst (λ (t : TableState). AwaitsNews store t.files m distinct c.fire.new.distinct) c.groups.ensures told))
+          c.fire.ensures.waiting;
     }

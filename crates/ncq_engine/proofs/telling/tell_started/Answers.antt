@@ -1,11 +1,12 @@
-use Rattle.std.proofs.Common.{◌≡◌, ◌++◌, List, ℕ, length, take, get_or, ◌+◌, ◌<◌, ◌≤◌, arith, ◌∙◌, ap, length-append}
+use Rattle.std.proofs.Common.{◌≡◌, ◌++◌, List, ℕ, length, take, get_or, ◌+◌, ◌<◌, ◌≤◌, arith, sym, subst, ◌∙◌, ap, length-append}
 use Rattle.std.specs.List.{flat_map}
 use Rattle.std.proofs.lemmas.List.{take_all}
 use Rattle.ncq_base.proofs.Written.{front_still}
 use Rattle.ncq_callback.specs.Labels.{labels}
 use Rattle.ncq_event.specs.declared.firing.Firing.{Firing}
 use Rattle.ncq_engine.specs.Spans.{spans_of}
-use Rattle.ncq_engine.specs.Tellings.{firing_name, firing_text, started_at}
+use Rattle.ncq_engine.specs.Tellings.{Awaits, firing_name, firing_text, started_at}
+use Rattle.ncq_engine.proofs.AwaitLaws.{firing_same}
 use Rattle.ncq_engine.proofs.CachedLaws.{grown_serve, grows_more}
 use Rattle.ncq_engine.proofs.KeptLaws.{latest_keyed}
 use Rattle.ncq_engine.proofs.TellingLoops.{made_more, spans_onto, texts_onto}
@@ -25,17 +26,23 @@ loop-install-preserved g c =
     let at = c.loop-install.install-index in
     let here : at < length installs = c.loop-install-test.true in
     let item : ℕ = get_or installs at 0 in
-    let text : Firing → List ℕ = firing_text (labels c.args.handlers.now.items.items (λ h. h.name) (λ h. h.kind)) c.args.store.now live_table.table.files live_table.subscriptions in
+    let text : Firing → List ℕ = firing_text (labels c.args.handlers.now.items.items (λ h. h.name) (λ h. h.kind)) c.args.store.now live_table.table.files c.args.distinct.now live_table.subscriptions in
     let starts : ℕ → List Firing = started_at live_table.instant live_table.subscriptions in
+    let told : Firing → List ℕ = firing_text (labels c.args.handlers.now.items.items (λ h. h.name) (λ h. h.kind)) c.args.store.now live_table.table.files c.loop-install.distinct live_table.subscriptions in
+    let same : told ≡ text = firing_same (labels c.args.handlers.now.items.items (λ h. h.name) (λ h. h.kind)) c.args.store.now live_table.table.files c.args.distinct.now c.loop-install.distinct c.loop-install.invariant.counts live_table.subscriptions in
     let before : List Firing = flat_map starts (take at installs) in
     let after : List Firing = flat_map starts (take (at + 1) installs) in
     let all : after ≡ before ++ starts item = made_more starts installs at 0 here in
     record {
-      text = texts_onto before (starts item) after all text c.args.out.now.items c.loop-install.out.items c.tell_one.new.out.items c.loop-install.invariant.text c.in_ok-tell_one.ensures.text;
+      text = texts_onto before (starts item) after all text c.args.out.now.items c.loop-install.out.items c.tell_one.new.out.items c.loop-install.invariant.text
+          (c.in_ok-tell_one.ensures.text ∙ ap (λ (f : Firing → List ℕ). c.loop-install.out.items ++ flat_map f (starts item)) same);
       spans = spans_onto before (starts item) after all (firing_name live_table.subscriptions) text (length c.args.out.now.items) (length c.loop-install.out.items) c.loop-install.spans c.tell_one.new.spans c.loop-install.invariant.spans
-          (ap length c.loop-install.invariant.text ∙ length-append c.args.out.now.items (flat_map text before)) c.in_ok-tell_one.ensures.spans;
+          (ap length c.loop-install.invariant.text ∙ length-append c.args.out.now.items (flat_map text before))
+          (c.in_ok-tell_one.ensures.spans ∙ ap (λ (f : Firing → List ℕ). c.loop-install.spans ++ spans_of (firing_name live_table.subscriptions) f (length c.loop-install.out.items) (starts item)) same);
       latest = c.tell_one.ensures.latest;
       cached = grows_more live_table.table c.args.cache.now c.loop-install.cache c.tell_one.new.cache c.loop-install.invariant.cached c.tell_one.ensures.cached;
+      counts = λ any. c.tell_one.ensures.counts any ∙ c.loop-install.invariant.counts any;
+      waiting = subst (λ (fs : List Firing). Awaits c.args.store.now live_table fs c.tell_one.new.distinct) (sym all) (c.in_ok-tell_one.ensures.waiting before c.loop-install.invariant.waiting);
     }
 
 pub returns-clause-text : goal.returns-clause-text
@@ -43,7 +50,7 @@ returns-clause-text g c =
     let live_table = c.args.live_table.now in
     let past : length c.args.installs.now ≤ c.loop-install.install-index = omega (arith, c.loop-install-test.false) in
     c.loop-install.invariant.text
-    ∙ ap (λ (ns : List ℕ). c.args.out.now.items ++ flat_map (firing_text (labels c.args.handlers.now.items.items (λ h. h.name) (λ h. h.kind)) c.args.store.now live_table.table.files live_table.subscriptions) (flat_map (started_at live_table.instant live_table.subscriptions) ns))
+    ∙ ap (λ (ns : List ℕ). c.args.out.now.items ++ flat_map (firing_text (labels c.args.handlers.now.items.items (λ h. h.name) (λ h. h.kind)) c.args.store.now live_table.table.files c.args.distinct.now live_table.subscriptions) (flat_map (started_at live_table.instant live_table.subscriptions) ns))
     (take_all c.loop-install.install-index c.args.installs.now past)
 
 pub returns-clause-spans : goal.returns-clause-spans
@@ -51,7 +58,7 @@ returns-clause-spans g c =
     let live_table = c.args.live_table.now in
     let past : length c.args.installs.now ≤ c.loop-install.install-index = omega (arith, c.loop-install-test.false) in
     c.loop-install.invariant.spans
-    ∙ ap (λ (ns : List ℕ). spans_of (firing_name live_table.subscriptions) (firing_text (labels c.args.handlers.now.items.items (λ h. h.name) (λ h. h.kind)) c.args.store.now live_table.table.files live_table.subscriptions) (length c.args.out.now.items)
+    ∙ ap (λ (ns : List ℕ). spans_of (firing_name live_table.subscriptions) (firing_text (labels c.args.handlers.now.items.items (λ h. h.name) (λ h. h.kind)) c.args.store.now live_table.table.files c.args.distinct.now live_table.subscriptions) (length c.args.out.now.items)
     (flat_map (started_at live_table.instant live_table.subscriptions) ns))
     (take_all c.loop-install.install-index c.args.installs.now past)
 
@@ -61,6 +68,15 @@ returns-in_err-tell_one-clause-front g c = front_still c.args.out.now.items _ c.
 pub returns-in_err-tell_one-clause-cached : goal.returns-in_err-tell_one-clause-cached
 returns-in_err-tell_one-clause-cached g c =
     grows_more c.args.live_table.now.table c.args.cache.now c.loop-install.cache c.tell_one.new.cache c.loop-install.invariant.cached c.tell_one.ensures.cached
+
+pub returns-clause-waiting : goal.returns-clause-waiting
+returns-clause-waiting g c =
+    let live_table = c.args.live_table.now in
+    let past : length c.args.installs.now ≤ c.loop-install.install-index = omega (arith, c.loop-install-test.false) in
+    subst (λ (ns : List ℕ). Awaits c.args.store.now live_table (flat_map (started_at live_table.instant live_table.subscriptions) ns) c.loop-install.distinct) (take_all c.loop-install.install-index c.args.installs.now past) c.loop-install.invariant.waiting
+
+pub returns-in_err-tell_one-clause-counts : goal.returns-in_err-tell_one-clause-counts
+returns-in_err-tell_one-clause-counts g c any = c.tell_one.ensures.counts any ∙ c.loop-install.invariant.counts any
 
 pub returns-clause-cached : goal.returns-clause-cached
 returns-clause-cached g c =

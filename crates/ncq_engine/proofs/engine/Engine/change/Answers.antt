@@ -27,6 +27,6 @@ returns-clause-work g c =
     let cache : List Cached = mid.cache in
     let same : mid ≡ record was { table = table; cache = cache } = c.compact_worn.ensures.same in
     let command = Delta c.args.sections.now in
-    let stands : (h : History) → Stands was h → Stands mid h = stands_still was mid c.compact_worn.ensures.follows c.stands.ensures.bounded c.stands.ensures.shares c.compact_worn.ensures.cached in
+    let stands : (h : History) → Stands was h → Stands mid h = stands_still was mid c.compact_worn.ensures.follows c.stands.ensures.bounded c.stands.ensures.shares c.stands.ensures.counts c.compact_worn.ensures.cached in
     work_from was table cache (λ h s. subst (λ (e : EngineState). Stands e h) same (stands h s)) command c.args.steps.now c.make_change.new.steps
     (subst (λ (e : EngineState). IsWithinWork e command c.args.steps.now c.make_change.new.steps) same c.make_change.ensures.work)

@@ -23,7 +23,7 @@ returns-in_default-clause-applies c =
 pub invariant_of-self : goal.invariant_of-self
 invariant_of-self c =
     let was = view_of c.self.inside in
-    left_holds (record was { count = was.count + 1 }) c.in-Some.install c.take_all.new.live_table (invariant_counted was c.self.invariant) c.take_all.ensures c.facts-2.ensures.live_table
+    left_holds (record was { count = was.count + 1 }) c.in-Some.install c.take_all.new.live_table c.take_all.new.distinct (invariant_counted was c.self.invariant) c.take_all.ensures.left c.facts-2.ensures.live_table c.take_all.ensures.counts
 
 pub returns-clause-applies : goal.returns-clause-applies
 returns-clause-applies c =
@@ -32,9 +32,9 @@ returns-clause-applies c =
     let found : install_of c.args.name.now was.subscriptions ≡ Some c.in-Some.install =
     ap (λ (b : BookState). install_of c.args.name.now b.subscriptions) (sym c.book.ensures) ∙ sym c.in-Some.ensures in
     subst (λ (e : EngineState). Applies e (Delete c.args.name.now) c.args.out.now.items (Ok c.in_ok-answered.answered)
-    (record was { clock = after.instant; count = was.count + 1; subscriptions = after.subscriptions; table = after.table }) c.write_accepted.new.out.items) c.self.view_is
+    (record was { clock = after.instant; count = was.count + 1; subscriptions = after.subscriptions; table = after.table; distinct = c.take_all.new.distinct }) c.write_accepted.new.out.items) c.self.view_is
     (delete_answers was c.args.name.now c.in-Some.install found c.facts.ensures.rise c.facts.ensures.names
-    after c.take_all.ensures c.args.out.now.items c.in_ok-answered.answered c.write_accepted.new.out.items c.in_ok-answered.ensures.text c.in_ok-answered.ensures.places)
+    after c.take_all.ensures.left c.take_all.new.distinct c.take_all.ensures.counts c.args.out.now.items c.in_ok-answered.answered c.write_accepted.new.out.items c.in_ok-answered.ensures.text c.in_ok-answered.ensures.places)
 
 -- what is kept of what was told is kept still
 pub returns-in_default-clause-cached : goal.returns-in_default-clause-cached
@@ -47,6 +47,6 @@ pub returns-clause-cached : goal.returns-clause-cached
 returns-clause-cached c =
     let was = view_of c.self.inside in
     let after = c.take_all.new.live_table in
-    let left = c.take_all.ensures in
+    let left = c.take_all.ensures.left in
     subst (λ (e : EngineState). KeepsPairs e.table e.cache after.table was.cache) c.self.view_is
     (keeps_left was.table after.table left.files left.number left.next_file was.cache was.cache (grows_none was.table was.cache))

@@ -1,7 +1,8 @@
-use Rattle.std.proofs.Common.{◌≡◌, ◌∙◌, ap, refl, rules, subst, sym, arith}
+use Rattle.std.proofs.Common.{◌≡◌, ◌∙◌, List, ap, refl, rules, subst, sym, arith}
 use Rattle.std.specs.Prelude.{Err, Ok}
 use Rattle.std.proofs.Math.Seq.{take-length}
 use Rattle.ncq_callback.specs.Labels.{labels}
+use Rattle.ncq_event.specs.declared.firing.Firing.{Firing}
 use Rattle.ncq_live.specs.LiveTables.{LiveState}
 use Rattle.ncq_script.specs.declared.command.Command.TheVariants.{Create}
 use Rattle.ncq_xmlql.specs.declared.model.Statement.{Statement}
@@ -10,16 +11,17 @@ use Rattle.ncq_engine.specs.Applies.{Applies}
 use Rattle.ncq_engine.specs.Cached.{KeepsPairs}
 use Rattle.ncq_engine.specs.Joins.{IsSubscriptionOf}
 use Rattle.ncq_engine.specs.Stands.{EngineState}
-use Rattle.ncq_engine.specs.Tellings.{noted_by}
+use Rattle.ncq_engine.specs.Tellings.{Awaits, noted_by}
 use Rattle.ncq_engine.proofs.CachedAnswers.{keeps_itself, keeps_none, keeps_same}
+use Rattle.ncq_engine.proofs.CountedLaws.{HasSettled}
 use Rattle.ncq_engine.proofs.CreateAnswers.{HasCome, above_is, come_answers, come_can, come_holds, come_keeps, come_serve, created_engine, free_is, gone_mark, gone_subscriptions, gone_table, room_left, subscriptions_few}
-use Rattle.ncq_engine.proofs.EngineLaws.{applies_cached, gives_up}
+use Rattle.ncq_engine.proofs.EngineLaws.{applies_cached, applies_counts, gives_up}
 use Rattle.ncq_engine.proofs.GivenUp.{IsStill, given_up, with_parts}
-use Rattle.ncq_engine.proofs.InvariantLaws.{invariant_cached, invariant_same, none_serve}
+use Rattle.ncq_engine.proofs.InvariantLaws.{invariant_cached, invariant_same, invariant_waits, none_serve}
 use Rattle.ncq_engine.proofs.Views.{view_of}
 use Rattle.ncq_engine.proofs.WorkAnswers.{join_work}
 use Rattle.ncq_engine.proofs.engine.Engine.join.Given.{Over}
-use Rattle.ncq_engine.proofs.engine.Engine.join.Goals.{After-facts-2, After-note_all, After-roll_back, In_err-add, In_ok-plan}
+use Rattle.ncq_engine.proofs.engine.Engine.join.Goals.{After-facts-2, After-note_all, After-roll_back, After-settle, In_err-add, In_ok-plan}
 use Rattle.ncq_engine.proofs.engine.Engine.join.Goals as goal
 
 -- the subscription is that of a statement, for the engine as it was
@@ -42,6 +44,15 @@ come g c statement its = record {
 -- its firing was noted
 noted : (g : Over) (c : After-note_all g) → c.note_all.new.live_table ≡ record c.add.new.self { subscriptions = noted_by c.self.inside.store.changes c.in-Ok.firings c.add.new.self.subscriptions }
 noted g c = c.note_all.ensures ∙ (λ j. record c.add.new.self { subscriptions = noted_by (c.changes-changes.ensures j) (c.as_slice.ensures j) c.add.new.self.subscriptions })
+
+-- what waited for it was settled
+settles : (g : Over) (c : After-settle g) → HasSettled c.self.inside.store c.add.new.self c.in-Ok.firings c.self.inside.distinct c.settle.new.self
+settles g c = record {
+  waited = c.answer_create.new.distinct;
+  same = c.answer_create.ensures.counts;
+  waits = subst (λ (firings : List Firing). Awaits c.self.inside.store c.add.new.self firings c.answer_create.new.distinct) (sym c.in-Ok.ensures.firings) c.in-Ok.ensures.waiting;
+  settled = c.settle.ensures.counts;
+}
 
 -- it did not come in
 not_in : (g : Over) (c : In_err-add g) → IsStill (view_of c.self.inside) c.add.new.self
@@ -108,7 +119,7 @@ invariant_of-self g c =
 pub invariant_of-self-in-Ok : goal.invariant_of-self-in-Ok
 invariant_of-self-in-Ok g c =
     let at = goal.at.invariant_of-self-in-Ok g c in
-    come_holds (come g at.After-facts-2 c.requires.some.0 c.requires.some.1) c.in-Ok.firings c.in-Ok.ensures.firings c.note_all.new.live_table (noted g at.After-note_all) c.answer_create.new.cache c.answer_create.ensures.cached
+    come_holds (come g at.After-facts-2 c.requires.some.0 c.requires.some.1) c.in-Ok.firings c.in-Ok.ensures.firings c.note_all.new.live_table (noted g at.After-note_all) c.answer_create.new.cache c.settle.new.self c.answer_create.ensures.cached (settles g at.After-settle)
 
 pub roll_back-requires-clause-base : goal.roll_back-requires-clause-base
 roll_back-requires-clause-base g c = λ number file there.
@@ -125,16 +136,17 @@ invariant_of-self-in-Err g c =
     let at = goal.at.invariant_of-self-in-Err g c in
     let after = c.roll_back.new.self in
     let still = gone g at.After-roll_back c.requires.some.0 (come g at.After-facts-2 c.requires.some.0 c.requires.some.1) in
-    invariant_cached (record (view_of c.self.inside) { subscriptions = after.subscriptions; table = after.table }) c.clear.new.self (none_serve after.table c.clear.new.self c.clear.ensures)
-    (invariant_same (view_of c.self.inside) after still.subscriptions still.table c.self.invariant)
+    invariant_waits (record (view_of c.self.inside) { subscriptions = after.subscriptions; table = after.table; cache = c.clear.new.self }) c.answer_create.new.distinct c.answer_create.ensures.counts
+    (invariant_cached (record (view_of c.self.inside) { subscriptions = after.subscriptions; table = after.table }) c.clear.new.self (none_serve after.table c.clear.new.self c.clear.ensures)
+    (invariant_same (view_of c.self.inside) after still.subscriptions still.table c.self.invariant))
 
 pub returns-in-Ok-clause-applies : goal.returns-in-Ok-clause-applies
 returns-in-Ok-clause-applies g c = λ statement its.
     let at = goal.at.returns-in-Ok-clause-applies g c in
     let was = view_of c.self.inside in
-    subst (λ (e : EngineState). Applies e (Create statement) c.args.out.now.items (Ok c.in-Ok.answered) (created_engine was c.note_all.new.live_table c.answer_create.new.cache) c.answer_create.new.out.items) c.self.view_is
+    subst (λ (e : EngineState). Applies e (Create statement) c.args.out.now.items (Ok c.in-Ok.answered) (created_engine was c.note_all.new.live_table c.answer_create.new.cache c.settle.new.self) c.answer_create.new.out.items) c.self.view_is
     (come_answers (come g at.After-facts-2 statement its) c.in-Ok.firings c.in-Ok.ensures.firings c.note_all.new.live_table (noted g at.After-note_all)
-    (labels c.args.handlers.now.items.items (λ h. h.name) (λ h. h.kind)) (ap (λ (e : EngineState). e.labels) c.self.view_is ∙ c.requires.handlers) c.args.out.now.items c.answer_create.new.out.items c.in-Ok.answered c.answer_create.new.cache c.in-Ok.ensures.told)
+    (labels c.args.handlers.now.items.items (λ h. h.name) (λ h. h.kind)) (ap (λ (e : EngineState). e.labels) c.self.view_is ∙ c.requires.handlers) c.args.out.now.items c.answer_create.new.out.items c.in-Ok.answered c.answer_create.new.cache c.settle.new.self (settles g at.After-settle) c.in-Ok.ensures.told)
 
 pub returns-in_err-plan-clause-applies : goal.returns-in_err-plan-clause-applies
 returns-in_err-plan-clause-applies g c = λ statement its.
@@ -149,9 +161,11 @@ pub returns-clause-applies : goal.returns-clause-applies
 returns-clause-applies g c = λ statement its.
     let at = goal.at.returns-clause-applies g c in
     let written = c.answer_create.new.out.items in
-    applies_cached c.args.self.now (Create statement) c.args.out.now.items (Err OutOfMemory) (with_parts (view_of c.self.inside) c.self.inside.store c.roll_back.new.self) written c.clear.new.self
+    let back = with_parts (view_of c.self.inside) c.self.inside.store c.roll_back.new.self in
+    applies_counts c.args.self.now (Create statement) c.args.out.now.items (Err OutOfMemory) (record back { cache = c.clear.new.self }) written c.answer_create.new.distinct c.answer_create.ensures.counts
+    (applies_cached c.args.self.now (Create statement) c.args.out.now.items (Err OutOfMemory) back written c.clear.new.self
     (given_up c.self.view_is (Create statement) c.args.out.now.items (Err OutOfMemory) refl c.self.inside.store (record { changes = refl; sources = refl })
-    c.roll_back.new.self (gone g at.After-roll_back statement (come g at.After-facts-2 statement its)) written c.answer_create.ensures.front)
+    c.roll_back.new.self (gone g at.After-roll_back statement (come g at.After-facts-2 statement its)) written c.answer_create.ensures.front))
 
 pub returns-in-Ok-clause-work : goal.returns-in-Ok-clause-work
 returns-in-Ok-clause-work g c = join_work c.self.view_is c.args.steps.now c.add.new.steps c.args.subscription c.in_ok-plan.plan c.in_ok-plan.ensures c.add.ensures.cost

@@ -1,4 +1,4 @@
-use Rattle.std.proofs.Common.{◌≡◌, ◌∙◌, ◌+◌, arith, ap, refl, rules, subst, sym}
+use Rattle.std.proofs.Common.{◌≡◌, ◌∙◌, ◌+◌, List, ℕ, arith, ap, refl, rules, subst, sym}
 use Rattle.std.specs.Prelude.{Err, Ok, IfNone, IfSome}
 use Rattle.std.proofs.Math.Seq.{take-length}
 use Rattle.std.specs.FinMap.{get}
@@ -12,21 +12,22 @@ use Rattle.ncq_shelf.specs.Contents.{cut_to}
 use Rattle.ncq_engine.specs.Applies.{Applies, change_refusal}
 use Rattle.ncq_engine.specs.Cached.{KeepsPairs}
 use Rattle.ncq_engine.specs.Stands.{EngineState}
-use Rattle.ncq_engine.specs.Tellings.{IsAnswered, started_of}
+use Rattle.ncq_engine.specs.Tellings.{Awaits, IsAnswered, started_of}
 use Rattle.ncq_engine.specs.Compactions.{KeepBases}
 use Rattle.ncq_engine.proofs.BaseLaws.{answered_so, bases_fed, bases_same, refused_table}
 use Rattle.ncq_engine.proofs.CachedAnswers.{keeps_as_was, keeps_none, keeps_refused, keeps_same}
-use Rattle.ncq_engine.proofs.ChangeAnswers.{IsFed, IsReserved, can_tell, change_answers, changed_engine, changed_keeps, holds_changed, holds_ready, is_prepared, served}
+use Rattle.ncq_engine.proofs.ChangeAnswers.{IsFed, IsReserved, can_tell, change_answers, changed_engine, changed_keeps, fed_firings, holds_changed, holds_ready, is_prepared, served}
+use Rattle.ncq_engine.proofs.CountedLaws.{HasSettled}
 use Rattle.ncq_engine.proofs.ChangeLaws.{change_refused, told_known}
 use Rattle.ncq_engine.specs.declared.engine.ApplyError.TheVariants.{OutOfMemory}
-use Rattle.ncq_engine.proofs.EngineLaws.{applies_cached}
+use Rattle.ncq_engine.proofs.EngineLaws.{applies_cached, applies_counts}
 use Rattle.ncq_engine.proofs.GivenUp.{IsStill, given_up, with_parts}
-use Rattle.ncq_engine.proofs.InvariantLaws.{invariant_alike, invariant_cached, invariant_same, none_serve}
+use Rattle.ncq_engine.proofs.InvariantLaws.{invariant_alike, invariant_cached, invariant_same, invariant_waits, none_serve}
 use Rattle.ncq_engine.proofs.TableLaws.{table_back}
 use Rattle.ncq_engine.proofs.Views.{view_of}
 use Rattle.ncq_engine.proofs.WorkAnswers.{change_work}
 use Rattle.ncq_engine.proofs.engine.Engine.make_change.Given.{Over}
-use Rattle.ncq_engine.proofs.engine.Engine.make_change.Goals.{After-facts-2, After-roll_back, In_err-fed, In_ok-reserve}
+use Rattle.ncq_engine.proofs.engine.Engine.make_change.Goals.{After-facts-2, After-roll_back, After-settle, In_err-fed, In_ok-reserve}
 use Rattle.ncq_engine.proofs.engine.Engine.make_change.Goals as goal
 
 -- the change was prepared, and there is room for it
@@ -52,6 +53,16 @@ fed g c = record {
   facts = c.facts-2.ensures.facts;
   subscriptions = c.in_ok-fed.ensures.subscriptions;
   instant = c.in_ok-fed.ensures.instant;
+}
+
+-- what waited for those who fire was settled
+settles : (g : Over) (c : After-settle g) → (fed : List ℕ) → c.as_slice.result.now ≡ fed
+    → HasSettled c.reserve.new.self c.feed.new.self (fed_firings c.feed.new.self fed) c.self.inside.distinct c.settle.new.self
+settles g c fed is = record {
+  waited = c.answer_change.new.distinct;
+  same = c.answer_change.ensures.counts;
+  waits = subst (λ (list : List ℕ). Awaits c.reserve.new.self c.feed.new.self (fed_firings c.feed.new.self list) c.answer_change.new.distinct) is c.in-Ok-answer_change.ensures.waiting;
+  settled = c.settle.ensures.counts;
 }
 
 -- the files were not fed
@@ -116,7 +127,7 @@ answer_change-requires g c =
 pub invariant_of-self-in-Ok-answer_change : goal.invariant_of-self-in-Ok-answer_change
 invariant_of-self-in-Ok-answer_change g c =
     let at = goal.at.invariant_of-self-in-Ok-answer_change g c in
-    holds_changed (reserved g at.In_ok-reserve) (fed g at.After-facts-2) c.commit.new.self c.commit.ensures.done c.answer_change.new.cache c.answer_change.ensures.cached
+    holds_changed (reserved g at.In_ok-reserve) (fed g at.After-facts-2) c.commit.new.self c.commit.ensures.done c.answer_change.new.cache c.settle.new.self c.answer_change.ensures.cached (settles g at.After-settle c.in_ok-fed.fed c.as_slice.ensures)
 
 pub invariant_of-self-in-Err-answer_change : goal.invariant_of-self-in-Err-answer_change
 invariant_of-self-in-Err-answer_change g c =
@@ -124,18 +135,19 @@ invariant_of-self-in-Err-answer_change g c =
     let ready = reserved g at.In_ok-reserve in
     let after = c.roll_back.new.self in
     let still = rolled_back g at.After-roll_back ready in
-    invariant_cached (record (view_of c.self.inside) { store = c.reserve.new.self; subscriptions = after.subscriptions; table = after.table }) c.clear.new.self (none_serve after.table c.clear.new.self c.clear.ensures)
-    (invariant_same (record (view_of c.self.inside) { store = c.reserve.new.self }) after still.subscriptions still.table (holds_ready ready))
+    invariant_waits (record (view_of c.self.inside) { store = c.reserve.new.self; subscriptions = after.subscriptions; table = after.table; cache = c.clear.new.self }) c.answer_change.new.distinct c.answer_change.ensures.counts
+    (invariant_cached (record (view_of c.self.inside) { store = c.reserve.new.self; subscriptions = after.subscriptions; table = after.table }) c.clear.new.self (none_serve after.table c.clear.new.self c.clear.ensures)
+    (invariant_same (record (view_of c.self.inside) { store = c.reserve.new.self }) after still.subscriptions still.table (holds_ready ready)))
 
 pub returns-in-Ok-answer_change-clause-applies : goal.returns-in-Ok-answer_change-clause-applies
 returns-in-Ok-answer_change-clause-applies g c =
     let at = goal.at.returns-in-Ok-answer_change-clause-applies g c in
     let known = labels c.args.handlers.now.items.items (λ h. h.name) (λ h. h.kind) in
     let after = c.feed.new.self in
-    let told = subst (λ list. IsAnswered (c.self.inside.count + 1) known c.reserve.new.self after (started_of after (watchers_of list after.subscriptions)) c.args.out.now.items c.answer_change.new.out.items c.in-Ok-answer_change.answered) c.as_slice.ensures c.in-Ok-answer_change.ensures.told in
-    subst (λ (e : EngineState). Applies e (Delta c.args.sections.now) c.args.out.now.items (Ok c.in-Ok-answer_change.answered) (changed_engine (view_of c.self.inside) c.commit.new.self after c.answer_change.new.cache) c.answer_change.new.out.items) c.self.view_is
+    let told = subst (λ list. IsAnswered (c.self.inside.count + 1) known c.reserve.new.self c.self.inside.distinct after (started_of after (watchers_of list after.subscriptions)) c.args.out.now.items c.answer_change.new.out.items c.in-Ok-answer_change.answered) c.as_slice.ensures c.in-Ok-answer_change.ensures.told in
+    subst (λ (e : EngineState). Applies e (Delta c.args.sections.now) c.args.out.now.items (Ok c.in-Ok-answer_change.answered) (changed_engine (view_of c.self.inside) c.commit.new.self after c.answer_change.new.cache c.settle.new.self) c.answer_change.new.out.items) c.self.view_is
     (change_answers (reserved g at.In_ok-reserve) (fed g at.After-facts-2) c.commit.new.self c.commit.ensures.done known (ap (λ (e : EngineState). e.labels) c.self.view_is ∙ c.requires.handlers)
-    c.args.out.now.items c.answer_change.new.out.items c.in-Ok-answer_change.answered c.answer_change.new.cache told)
+    c.args.out.now.items c.answer_change.new.out.items c.in-Ok-answer_change.answered c.answer_change.new.cache c.settle.new.self (settles g at.After-settle c.in_ok-fed.fed c.as_slice.ensures) told)
 
 pub returns-in_err-reserve-clause-applies : goal.returns-in_err-reserve-clause-applies
 returns-in_err-reserve-clause-applies g c =
@@ -152,9 +164,11 @@ pub returns-in-Err-answer_change-clause-applies : goal.returns-in-Err-answer_cha
 returns-in-Err-answer_change-clause-applies g c =
     let at = goal.at.returns-in-Err-answer_change-clause-applies g c in
     let written = c.answer_change.new.out.items in
-    applies_cached c.args.self.now (Delta c.args.sections.now) c.args.out.now.items (Err OutOfMemory) (with_parts (view_of c.self.inside) c.reserve.new.self c.roll_back.new.self) written c.clear.new.self
+    let back = with_parts (view_of c.self.inside) c.reserve.new.self c.roll_back.new.self in
+    applies_counts c.args.self.now (Delta c.args.sections.now) c.args.out.now.items (Err OutOfMemory) (record back { cache = c.clear.new.self }) written c.answer_change.new.distinct c.answer_change.ensures.counts
+    (applies_cached c.args.self.now (Delta c.args.sections.now) c.args.out.now.items (Err OutOfMemory) back written c.clear.new.self
     (given_up c.self.view_is (Delta c.args.sections.now) c.args.out.now.items (Err OutOfMemory) refl c.reserve.new.self c.in_ok-reserve.ensures.same
-    c.roll_back.new.self (rolled_back g at.After-roll_back (reserved g at.In_ok-reserve)) written c.answer_change.ensures.front)
+    c.roll_back.new.self (rolled_back g at.After-roll_back (reserved g at.In_ok-reserve)) written c.answer_change.ensures.front))
 
 pub returns-in-Ok-answer_change-clause-work : goal.returns-in-Ok-answer_change-clause-work
 returns-in-Ok-answer_change-clause-work g c = change_work c.self.view_is c.args.steps.now c.feed.new.steps (reserved g (goal.at.returns-in-Ok-answer_change-clause-work g c).In_ok-reserve) c.feed.ensures.cost
@@ -168,7 +182,7 @@ returns-in_err-fed-clause-work g c = change_work c.self.view_is c.args.steps.now
 -- the files keep their bases
 pub returns-in-Ok-answer_change-clause-bases : goal.returns-in-Ok-answer_change-clause-bases
 returns-in-Ok-answer_change-clause-bases g c =
-    let after = changed_engine (view_of c.self.inside) c.commit.new.self c.feed.new.self c.answer_change.new.cache in
+    let after = changed_engine (view_of c.self.inside) c.commit.new.self c.feed.new.self c.answer_change.new.cache c.settle.new.self in
     subst (λ (e : EngineState). KeepBases e after) c.self.view_is (bases_fed c.reserve.new.self c.in-Ok.change (view_of c.self.inside) after c.in_ok-fed.ensures.fed)
 
 pub returns-in-Err-clause-bases : goal.returns-in-Err-clause-bases

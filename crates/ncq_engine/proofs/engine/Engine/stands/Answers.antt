@@ -1,5 +1,6 @@
 use Rattle.std.proofs.Common.{subst}
 use Rattle.ncq_engine.specs.Cached.{AllServe}
+use Rattle.ncq_engine.specs.Engines.{KeepsCounts}
 use Rattle.ncq_engine.specs.History.{History}
 use Rattle.ncq_engine.specs.Stands.{EngineState, Follows, IsBounded}
 use Rattle.ncq_engine.proofs.BoundLaws.{bounded}
@@ -11,3 +12,6 @@ returns-clause-bounded c = subst (λ (e : EngineState). (h : History) → Follow
 
 pub returns-clause-serve : goal.returns-clause-serve
 returns-clause-serve c = subst (λ (e : EngineState). AllServe e.table e.cache) c.self.view_is c.self.invariant.serve
+
+pub returns-clause-counts : goal.returns-clause-counts
+returns-clause-counts c = subst (λ (e : EngineState). KeepsCounts e.subscriptions e.distinct) c.self.view_is c.self.invariant.counts
