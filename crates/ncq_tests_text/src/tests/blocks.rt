@@ -353,11 +353,11 @@ fn answer_to_nested(
 type Nested = (usize, &'static str, usize, &'static str);
 
 const NESTED: &[Nested] = &[
-    (64, "(e", 65, "deep 65"),
-    (65, "", 65, "deep 65"),
-    (64, "(", 65, "bad 65"),
-    (64, "", 63, "bad 129"),
-    (64, "", 65, "bad 130"),
+    (512, "(e", 513, "deep 513"),
+    (513, "", 513, "deep 513"),
+    (512, "(", 513, "bad 513"),
+    (512, "", 511, "bad 1025"),
+    (512, "", 513, "bad 1026"),
 ];
 
 fn expect_nested(rt: &impl Abort, alloc: Global, row: &Nested) -> Result<(), AllocError> {

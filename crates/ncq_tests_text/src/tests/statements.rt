@@ -130,7 +130,7 @@ fn show_query(out: &mut Vec<u8>, query: &Query) -> Result<(), AllocError> {
     for item in query.items.as_slice() {
         show_item(out, item)?;
     }
-    out.extend_from_slice(b"-> ")?;
+    out.extend_from_slice(if query.distinct { "-> once " } else { "-> " }.as_bytes())?;
     show_template(out, &query.template)
 }
 
@@ -142,7 +142,8 @@ fn show_time(out: &mut Vec<u8>, word: &str, time: Option<u64>) -> Result<(), All
     Ok(())
 }
 
-/// `name: items -> template do action 'argument' start n every n expire n`.
+/// `name: items -> template do action 'argument' start n every n expire n`, with `once` before the
+/// template where each forest is asked once.
 fn show_statement(out: &mut Vec<u8>, statement: &Statement) -> Result<(), AllocError> {
     show_bytes(out, "", &statement.name, ": ")?;
     show_query(out, &statement.query)?;
@@ -468,6 +469,73 @@ fn conditions_and_templates(rt: HostRuntime) -> Result<(), Fail> {
         "create w where <R><a/></> in q",
         "w: R(<a()>) in q; ",
         CONDITIONS_AND_TEMPLATES,
+    )?;
+    Ok(())
+}
+
+const DISTINCT: &[Pair] = &[
+    (
+        " CONSTRUCT DISTINCT <r>$s</> DO print",
+        "-> once <r($s)> do print every 0",
+    ),
+    (
+        " CONSTRUCT distinct <r>$s</> DO print",
+        "-> once <r($s)> do print every 0",
+    ),
+    (
+        " construct Distinct $s do print",
+        "-> once $s do print every 0",
+    ),
+    (
+        ", CONSTRUCT DISTINCT <r/> DO count EVERY 5",
+        "-> once <r()> do count every 5",
+    ),
+    (
+        ", $s != 1, CONSTRUCT dISTINCT $s DO print",
+        "$s != '1'; -> once $s do print every 0",
+    ),
+    (
+        " CONSTRUCT <r>$s</> DO print",
+        "-> <r($s)> do print every 0",
+    ),
+    (" CONSTRUCT $s DO print", "-> $s do print every 0"),
+    // Elsewhere it is a word as any other.
+    (
+        " CONSTRUCT <r>distinct</> DO print",
+        "-> <r('distinct')> do print every 0",
+    ),
+    (
+        " CONSTRUCT DISTINCT <r>DISTINCT $s</> DO print",
+        "-> once <r('DISTINCT'$s)> do print every 0",
+    ),
+    (
+        " CONSTRUCT <distinct distinct=$distinct/> DO distinct DISTINCT",
+        "-> <distinct distinct=$distinct()> do distinct 'DISTINCT' every 0",
+    ),
+    (
+        ", $s = distinct CONSTRUCT $s DO print",
+        "$s = 'distinct'; -> $s do print every 0",
+    ),
+    (" CONSTRUCT DISTINCT DISTINCT $g DO print", "none"),
+    (" CONSTRUCT DISTINCT DO print", "none"),
+    (" CONSTRUCT DISTINCT", "none"),
+    (" DISTINCT CONSTRUCT $s DO print", "none"),
+    (", DISTINCT CONSTRUCT $s DO print", "none"),
+    (" CONSTRUCT, DISTINCT $s DO print", "none"),
+    (" CONSTRUCT DISTINCT, $s DO print", "none"),
+    (" CONSTRUCT $s DISTINCT DO print", "none"),
+    (" CONSTRUCT \"DISTINCT\" $s DO print", "none"),
+    (" CONSTRUCT DISTINCTS $s DO print", "none"),
+];
+
+#[test]
+fn distinct(rt: HostRuntime) -> Result<(), Fail> {
+    expect_behind(
+        &rt,
+        rt.alloc(),
+        "create w where <R><a>$s</></> in q",
+        "w: R(<a=$s>) in q; ",
+        DISTINCT,
     )?;
     Ok(())
 }
