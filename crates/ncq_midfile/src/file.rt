@@ -306,11 +306,12 @@ impl MidFile {
         lose_order(&mut self.finders, slot);
     }
 
-    /// Makes `n` the base: of the rows up to `n` the file has then those that are left there, in any
-    /// order, and behind them it has the rows above `n`. All keep their numbers. It costs the rows
-    /// since the base where the file is large, all rows are as wide as the first and none is above
-    /// `n`, else all rows; where none is above `n`, there are fewer than 256 and few of them stay, at
-    /// most all rows for each that went out, and no memory. After an error the file is as it was.
+    /// Makes `n` the base: of the rows up to `n` the file has then those that are left there, in
+    /// any order, and behind them it has the rows above `n`. All keep their numbers. It costs the
+    /// rows since the base where the file is large, all rows are as wide as the first and none is
+    /// above `n`, else all rows; where none is above `n`, there are fewer than 256 and few of them
+    /// stay, at most all rows for each that went out, and no memory. After an error the file is as
+    /// it was.
     pub fn compact(&mut self, alloc: Global, n: u64) -> Result<(), AllocError>
         requires base { self.old.base ≤ n }
         requires sound { IsSoundAt n self.old.rows }

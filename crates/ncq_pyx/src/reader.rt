@@ -209,8 +209,8 @@ pub const MAX_NESTING: usize = 512;
 /// The items that the lines spell, each element proper: in normal form, with PYX names.
 /// `BadLine` comes where the first line after which no continuation is a block is this one, counted
 /// from 1; where the lines end inside an element it is their number plus 1. `TooDeep` comes in its
-/// place where that line is good but for opening an element inside 512 others. `OutOfMemory` is want
-/// of memory.
+/// place where that line is good but for opening an element inside 512 others. `OutOfMemory` is
+/// want of memory.
 pub fn read_block(alloc: Global, lines: &Lines) -> Result<Items, PyxError>
     ensures reads { Reads max_nesting lines.now result }
     ensures exactly { (answer : Result (List Item) PyxError) →
