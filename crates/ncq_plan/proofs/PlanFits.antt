@@ -24,11 +24,11 @@ both s t p q = λ i. p i && q i
 
 -- how many operators
 
-equals_operators : (equals : List EqualTo) (input : Expr) → operators (with_equals input equals) ≡ operators input + length equals
+pub equals_operators : (equals : List EqualTo) (input : Expr) → operators (with_equals input equals) ≡ operators input + length equals
 equals_operators [] input = omega arith
 equals_operators (equal ∷ more) input = let rest = equals_operators more (EqSel input equal.slot equal.constant) in let one = operators_equal input equal.slot equal.constant in omega arith
 
-ranges_operators : (ranges : List Within) (input : Expr) → operators (with_ranges input ranges) ≡ operators input + length ranges
+pub ranges_operators : (ranges : List Within) (input : Expr) → operators (with_ranges input ranges) ≡ operators input + length ranges
 ranges_operators [] input = omega arith
 ranges_operators (range ∷ more) input = let rest = ranges_operators more (RangeSel input range.slot range.interval) in let one = operators_range input range.slot range.interval in omega arith
 
@@ -49,11 +49,11 @@ joined_operators (arm ∷ arms) plan =
 
 -- how many slots
 
-equals_width : (equals : List EqualTo) (input : Expr) → expr_width (with_equals input equals) ≡ expr_width input
+pub equals_width : (equals : List EqualTo) (input : Expr) → expr_width (with_equals input equals) ≡ expr_width input
 equals_width [] input = refl
 equals_width (equal ∷ more) input = equals_width more (EqSel input equal.slot equal.constant) ∙ width_equal input equal.slot equal.constant
 
-ranges_width : (ranges : List Within) (input : Expr) → expr_width (with_ranges input ranges) ≡ expr_width input
+pub ranges_width : (ranges : List Within) (input : Expr) → expr_width (with_ranges input ranges) ≡ expr_width input
 ranges_width [] input = refl
 ranges_width (range ∷ more) input = ranges_width more (RangeSel input range.slot range.interval) ∙ width_range input range.slot range.interval
 
@@ -62,14 +62,14 @@ arm_plan-width arm = ranges_width arm.ranges (with_equals (Scan arm.source arm.s
 
 -- which slots are named
 
-equals_fit : (equals : List EqualTo) (input : Expr) → slots_fit input ≡ true → AllByRecursion (λ equal. equal.slot < expr_width input) equals → slots_fit (with_equals input equals) ≡ true
+pub equals_fit : (equals : List EqualTo) (input : Expr) → slots_fit input ≡ true → AllByRecursion (λ equal. equal.slot < expr_width input) equals → slots_fit (with_equals input equals) ≡ true
 equals_fit [] input fit all = fit
 equals_fit (equal ∷ more) input fit all =
     equals_fit more (EqSel input equal.slot equal.constant)
     (fit_equal input equal.slot equal.constant ∙ both (slots_fit input) (nat_lt equal.slot (expr_width input)) fit (below equal.slot (expr_width input) all.0))
     (subst (λ w. AllByRecursion (λ equal. equal.slot < w) more) (sym (width_equal input equal.slot equal.constant)) all.1)
 
-ranges_fit : (ranges : List Within) (input : Expr) → slots_fit input ≡ true → AllByRecursion (λ range. range.slot < expr_width input) ranges → slots_fit (with_ranges input ranges) ≡ true
+pub ranges_fit : (ranges : List Within) (input : Expr) → slots_fit input ≡ true → AllByRecursion (λ range. range.slot < expr_width input) ranges → slots_fit (with_ranges input ranges) ≡ true
 ranges_fit [] input fit all = fit
 ranges_fit (range ∷ more) input fit all =
     ranges_fit more (RangeSel input range.slot range.interval)
@@ -100,12 +100,20 @@ joined_fit (arm ∷ arms) plan fit all =
     (pairs_fit (expr_width plan) (expr_width (arm_plan arm)) arm.pairs all.0.lefts (subst (λ w. AllByRecursion (λ pair. pair.right < w) arm.pairs) (sym width) all.0.rights)))
     (subst (λ w. ArmsFit w arms) (sym wide) all.1)
 
-pub plan_is_well_formed : (query : NormalQuery) → IsWellFormed query → IsWellFormedExpr (plan_of query)
-plan_is_well_formed query fits = by query.arms fits.some fits.few fits.equals fits.ranges fits.arms
+-- an operator for each arm, for each but the first a join, and one for each demand
+pub plan_operators : (query : NormalQuery) → IsWellFormed query → operators (plan_of query) + 1 ≡ 2 * length query.arms + equals_in query.arms + ranges_in query.arms
+plan_operators query fits = by query.arms fits.some
   where
-    by : (arms : List Arm) → 1 ≤ length arms → length arms ≤ 8 → equals_in arms ≤ 96 → ranges_in arms ≤ 32 → ArmsFit 0 arms → IsWellFormedExpr (arms_plan arms)
-    by [] some few equals ranges fit = absurd (omega arith)
-    by (arm ∷ arms) some few equals ranges fit = record {
-      small = let rest = joined_operators arms (arm_plan arm) in let one = arm_operators arm in omega arith;
-      slots = joined_fit arms (arm_plan arm) (arm_fits 0 arm fit.0) (subst (λ w. ArmsFit w arms) (zero-add (arm_width arm) ∙ sym (arm_plan-width arm)) fit.1);
-    }
+    by : (arms : List Arm) → 1 ≤ length arms → operators (arms_plan arms) + 1 ≡ 2 * length arms + equals_in arms + ranges_in arms
+    by [] some = absurd (omega arith)
+    by (arm ∷ arms) some = let rest = joined_operators arms (arm_plan arm) in let one = arm_operators arm in omega arith
+
+pub plan_is_well_formed : (query : NormalQuery) → IsWellFormed query → IsWellFormedExpr (plan_of query)
+plan_is_well_formed query fits = record {
+  small = let many = plan_operators query fits in let few = fits.few in let equals = fits.equals in let ranges = fits.ranges in omega arith;
+  slots = by query.arms fits.some fits.arms;
+}
+  where
+    by : (arms : List Arm) → 1 ≤ length arms → ArmsFit 0 arms → slots_fit (arms_plan arms) ≡ true
+    by [] some fit = absurd (omega arith)
+    by (arm ∷ arms) some fit = joined_fit arms (arm_plan arm) (arm_fits 0 arm fit.0) (subst (λ w. ArmsFit w arms) (zero-add (arm_width arm) ∙ sym (arm_plan-width arm)) fit.1)

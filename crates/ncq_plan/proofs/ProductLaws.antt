@@ -114,12 +114,10 @@ no_pairs : (pairs : List Pair) → AllByRecursion (λ pair. pair.left < 0) pairs
 no_pairs [] h = refl
 no_pairs (pair ∷ pairs) h = let below = h.0 in absurd (omega arith)
 
--- the rows of the plan that pass the residual are those of the query
-pub plan_gives_the_rows : (query : NormalQuery) (world : World) → IsWellFormed query
-    → filter (passes query.residual) (rows_in (plan_of query) world) ≡ prod query world
-plan_gives_the_rows query world fits =
-    ap (filter (passes query.residual)) (by query.arms fits.some fits.arms)
-    ∙ filter-filter (λ row. arms_hold 0 row query.arms) (passes query.residual) (one_of_each (map (arm_rows world) query.arms))
+-- the rows of the plan are those concatenations that meet all arms
+pub plan_rows : (query : NormalQuery) (world : World) → IsWellFormed query
+    → rows_in (plan_of query) world ≡ filter (λ row. arms_hold 0 row query.arms) (one_of_each (map (arm_rows world) query.arms))
+plan_rows query world fits = by query.arms fits.some fits.arms
   where
     by : (arms : List Arm) → 1 ≤ length arms → ArmsFit 0 arms → rows_in (arms_plan arms) world ≡ filter (λ row. arms_hold 0 row arms) (one_of_each (map (arm_rows world) arms))
     by [] some fit = absurd (omega arith)
@@ -127,3 +125,10 @@ plan_gives_the_rows query world fits =
         arms_rows world arm arms (no_pairs arm.pairs fit.0.lefts)
         ∙ sym (same_products world (arm ∷ arms) [] fit)
         ∙ ap (filter (λ row. arms_hold 0 row (arm ∷ arms))) (map_itself (one_of_each (map (arm_rows world) (arm ∷ arms))))
+
+-- the rows of the plan that pass the residual are those of the query
+pub plan_gives_the_rows : (query : NormalQuery) (world : World) → IsWellFormed query
+    → filter (passes query.residual) (rows_in (plan_of query) world) ≡ prod query world
+plan_gives_the_rows query world fits =
+    ap (filter (passes query.residual)) (plan_rows query world fits)
+    ∙ filter-filter (λ row. arms_hold 0 row query.arms) (passes query.residual) (one_of_each (map (arm_rows world) query.arms))

@@ -9,6 +9,7 @@
 mod alike;
 mod copy;
 mod expr;
+mod late;
 mod laws;
 mod planning;
 mod query;
@@ -19,7 +20,10 @@ mod template;
 
 pub use alike::{same_template, same_tests};
 pub use expr::Expr;
-pub use laws::{deltas_count, deltas_lead, plans_give_the_rows, rows_have_the_width};
+pub use late::{bare, plan_late};
+pub use laws::{
+    deltas_count, deltas_lead, late_plans_give_the_rows, plans_give_the_rows, rows_have_the_width,
+};
 pub use ncq_base::{End, Interval, in_interval};
 pub use ncq_row::{Pair, Pairs};
 pub use planning::plan;

@@ -1,0 +1,99 @@
+//! How many live queries have each bare plan.
+ghost use Rattle.std.specs.Prelude.{◌≡◌, ◌+◌, ◌-◌, ◌<◌, ◌≤◌, ◌^◌, [], IfOk, OnOk, OnErr};
+ghost use Rattle.ncq_plan.specs.Late.{bare_of};
+ghost use Rattle.ncq_plan.specs.WellFormed.{IsWellFormed};
+ghost use Rattle.ncq_strategy.specs.Choices.{choice_of};
+ghost use Rattle.ncq_strategy.specs.Numbers.{live_with, HasNow};
+
+use crate::choice::Choice;
+use indexmap::IndexMap;
+use ncq_plan::{Expr, NormalQuery, bare};
+use std::alloc::{AllocError, Global};
+use std::hash::RandomState;
+use std::marker::Model;
+
+/// From so many live queries of one bare plan on, the next joins first.
+const SHARED: u64 = 3;
+
+/// How many live queries have each bare plan. A bare plan that none has has no entry.
+#[derive(Drop)]
+pub struct Strategy {
+    numbers: IndexMap<Expr, u64, RandomState>,
+}
+
+impl Model for Strategy {
+    ghost use Rattle.std.specs.Prelude.{ℕ};
+    ghost use Rattle.std.specs.Coded.{coded×, coded_ℕ, coded_list};
+    ghost use Rattle.ncq_plan.specs.contracts.expr.Expr.{the_row};
+    ghost use Rattle.ncq_strategy.specs.Numbers.{Numbers, AreSome};
+
+    ghost Value = { Numbers };
+
+    ghost coded = { coded_list (coded× the_row.coded coded_ℕ) };
+
+    ghost view = { λ s. s.numbers.entries };
+
+    ghost invariant = { λ s. AreSome s.numbers.entries };
+}
+
+impl Strategy {
+    /// No live queries. Bare plans are placed by the seed, so that nobody who does not know it can
+    /// choose queries that fall together. It takes no memory.
+    pub fn new(alloc: Global, seed: RandomState) -> Strategy
+        ensures { result ≡ [] }
+    {
+        Strategy {
+            numbers: IndexMap::with_hasher(alloc, seed),
+        }
+    }
+
+    /// How many live queries have the bare plan. It takes no memory.
+    pub fn live_with(&self, bare: &Expr) -> u64
+        ensures { result ≡ live_with self.now bare.now }
+    {
+        self.numbers.get(bare).copied().unwrap_or(0)
+    }
+
+    /// Whether a query that comes now joins first: where it has two or more arms and at least three
+    /// live queries have its bare plan. The query has to be well formed.
+    pub fn choose(&self, alloc: Global, query: &NormalQuery) -> Result<Choice, AllocError>
+        requires { IsWellFormed query.now }
+        ensures { IfOk result (λ choice.
+            choice ≡ choice_of query.now (live_with self.now (bare_of query.now))) }
+    {
+        if query.arms.len() < 2 {
+            return Ok(Choice::SelectFirst);
+        }
+        let bare = bare(alloc, query)?;
+        if self.live_with(&bare) < SHARED {
+            return Ok(Choice::SelectFirst);
+        }
+        Ok(Choice::JoinFirst)
+    }
+
+    /// One more live query has the bare plan. After an error all is as before.
+    pub fn note(&mut self, bare: Expr) -> Result<(), AllocError>
+        requires { live_with self.old bare < 2 ^ 63 }
+        ensures ok { OnOk result (HasNow self.old bare (live_with self.old bare + 1) self.new) }
+        ensures err { OnErr result (self.new ≡ self.old) }
+    {
+        let more = self.live_with(&bare) + 1;
+        self.numbers.insert(bare, more)?;
+        Ok(())
+    }
+
+    /// One live query less has the bare plan. It takes no memory.
+    pub fn forget(&mut self, bare: &Expr)
+        requires { 1 ≤ live_with self.old bare.now }
+        ensures { HasNow self.old bare.now (live_with self.old bare.now - 1) self.new }
+    {
+        let Some(number) = self.numbers.get_mut(bare) else {
+            unreachable!()
+        };
+        *number -= 1;
+        if *number != 0 {
+            return;
+        }
+        self.numbers.swap_remove(bare);
+    }
+}
