@@ -1,13 +1,12 @@
 //! How many live queries have each bare plan.
 ghost use Rattle.std.specs.Prelude.{◌≡◌, ◌+◌, ◌-◌, ◌<◌, ◌≤◌, ◌^◌, [], IfOk, OnOk, OnErr};
-ghost use Rattle.ncq_plan.specs.Late.{bare_of};
-ghost use Rattle.ncq_plan.specs.WellFormed.{IsWellFormed};
 ghost use Rattle.ncq_strategy.specs.Choices.{choice_of};
 ghost use Rattle.ncq_strategy.specs.Numbers.{live_with, HasNow};
 
 use crate::choice::Choice;
 use indexmap::IndexMap;
-use ncq_plan::{Expr, NormalQuery, bare};
+use ncq_base::Shared;
+use ncq_plan::{Expr, NormalQuery};
 use std::alloc::{AllocError, Global};
 use std::hash::RandomState;
 use std::marker::Model;
@@ -18,7 +17,7 @@ const SHARED: u64 = 3;
 /// How many live queries have each bare plan. A bare plan that none has has no entry.
 #[derive(Drop)]
 pub struct Strategy {
-    numbers: IndexMap<Expr, u64, RandomState>,
+    numbers: IndexMap<Shared<Expr>, u64, RandomState>,
 }
 
 impl Model for Strategy {
@@ -48,42 +47,54 @@ impl Strategy {
     }
 
     /// How many live queries have the bare plan. It takes no memory.
-    pub fn live_with(&self, bare: &Expr) -> u64
+    pub fn live_with(&self, bare: &Shared<Expr>) -> u64
         ensures { result ≡ live_with self.now bare.now }
     {
         self.numbers.get(bare).copied().unwrap_or(0)
     }
 
     /// Whether a query that comes now joins first: where it has two or more arms and at least three
-    /// live queries have its bare plan. The query has to be well formed.
-    pub fn choose(&self, alloc: Global, query: &NormalQuery) -> Result<Choice, AllocError>
-        requires { IsWellFormed query.now }
-        ensures { IfOk result (λ choice.
-            choice ≡ choice_of query.now (live_with self.now (bare_of query.now))) }
+    /// live queries have its bare plan. It takes no memory.
+    pub fn choose(&self, query: &NormalQuery, bare: &Shared<Expr>) -> Choice
+        ensures { result ≡ choice_of query.now (live_with self.now bare.now) }
     {
-        if query.arms.len() < 2 {
-            return Ok(Choice::SelectFirst);
+        if query.arms.len() < 2 || self.live_with(bare) < SHARED {
+            return Choice::SelectFirst;
         }
-        let bare = bare(alloc, query)?;
-        if self.live_with(&bare) < SHARED {
-            return Ok(Choice::SelectFirst);
-        }
-        Ok(Choice::JoinFirst)
+        Choice::JoinFirst
     }
 
-    /// One more live query has the bare plan. After an error all is as before.
-    pub fn note(&mut self, bare: Expr) -> Result<(), AllocError>
+    /// One more live query has the bare plan. The answer is the bare plan as all those that have it
+    /// share it. After an error all is as before.
+    pub fn note(&mut self, bare: Shared<Expr>) -> Result<Shared<Expr>, AllocError>
         requires { live_with self.old bare < 2 ^ 63 }
         ensures ok { OnOk result (HasNow self.old bare (live_with self.old bare + 1) self.new) }
+        ensures bare { IfOk result (λ kept. kept ≡ bare) }
         ensures err { OnErr result (self.new ≡ self.old) }
     {
-        let more = self.live_with(&bare) + 1;
+        let Some((kept, number)) = self.numbers.get_key_value(&bare) else {
+            return self.enter(bare);
+        };
+        let kept = kept.share()?;
+        let more = *number + 1;
         self.numbers.insert(bare, more)?;
-        Ok(())
+        Ok(kept)
+    }
+
+    /// The first live query has the bare plan.
+    fn enter(&mut self, bare: Shared<Expr>) -> Result<Shared<Expr>, AllocError>
+        requires { live_with self.old bare ≡ 0 }
+        ensures ok { OnOk result (HasNow self.old bare 1 self.new) }
+        ensures bare { IfOk result (λ kept. kept ≡ bare) }
+        ensures err { OnErr result (self.new ≡ self.old) }
+    {
+        let kept = bare.share()?;
+        self.numbers.insert(bare, 1)?;
+        Ok(kept)
     }
 
     /// One live query less has the bare plan. It takes no memory.
-    pub fn forget(&mut self, bare: &Expr)
+    pub fn forget(&mut self, bare: &Shared<Expr>)
         requires { 1 ≤ live_with self.old bare.now }
         ensures { HasNow self.old bare.now (live_with self.old bare.now - 1) self.new }
     {
