@@ -6,7 +6,10 @@ use Rattle.std.specs.Prelude.{Option, Some, if◌then◌else◌}
 use Rattle.std.specs.List.{find, list_any, AllByRecursion}
 use Rattle.std.specs.Str.{bytes_eq}
 use Rattle.std.specs.Coded.{Coded, code_by, coded×, coded_ℕ, coded_list}
+use Rattle.ncq_base.specs.Keys.{times}
 use Rattle.ncq_event.specs.Calendars.{Entry}
+use Rattle.ncq_plan.specs.declared.expr.Expr.{Expr}
+use Rattle.ncq_plan.specs.ExprLists.{is_expr}
 use Rattle.ncq_book.specs.declared.subscription.Subscription.{Subscription}
 use Rattle.ncq_book.specs.contracts.subscription.Subscription.{the_row as subscription_row}
 
@@ -56,6 +59,10 @@ timers_of files subscriptions = map (λ m. m.install) (filter (is_timer_of files
 -- the subscription with this number noted, if it is that of the install number
 abbrev pub with_note : ℕ → ℕ → Subscription → Subscription
 with_note install number m = if is_of install m then record m { noted = Some number } else m
+
+-- how many of the subscriptions have this bare plan
+abbrev pub alike : Expr → List Subscription → ℕ
+alike bare subscriptions = times (λ m. is_expr bare m.bare) subscriptions
 
 -- no two have one name
 abbrev pub NamesDiffer : List Subscription → Type 0

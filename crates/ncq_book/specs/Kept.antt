@@ -1,5 +1,5 @@
 -- What a book keeps beside its subscriptions. Only the crate's private clauses cite it.
-use Rattle.std.specs.Prelude.{◌≡◌, ◌==◌, ◌&&◌, ◌||◌, ◌++◌, ℕ, Bool, not, cond, List}
+use Rattle.std.specs.Prelude.{◌≡◌, ◌==◌, ◌+◌, ◌&&◌, ◌||◌, ◌++◌, ℕ, Bool, not, cond, List}
 use Rattle.std.specs.Prelude.{[], ◌∷◌, map, Option, Some, None}
 use Rattle.std.specs.Option.{option_map}
 use Rattle.std.specs.List.{find, list_any}
@@ -7,10 +7,13 @@ use Rattle.std.specs.Map.{lookup, remove_entry}
 use Rattle.std.specs.BTreeMap.{is_at}
 use Rattle.std.specs.Ordering.{nat_cmp}
 use Rattle.std.specs.Str.{bytes_eq}
+use Rattle.ncq_plan.specs.declared.expr.Expr.{Expr}
+use Rattle.ncq_plan.specs.ExprLists.{is_expr}
+use Rattle.ncq_strategy.specs.Numbers.{live_with}
 use Rattle.ncq_book.specs.declared.finders.Finders.{Finders}
 use Rattle.ncq_book.specs.declared.subscription.Subscription.{Subscription}
 use Rattle.ncq_book.specs.declared.watchers.Watch.{Watch}
-use Rattle.ncq_book.specs.Books.{is_named, timing_of, InstallsRise, NamesDiffer}
+use Rattle.ncq_book.specs.Books.{alike, is_named, timing_of, InstallsRise, NamesDiffer}
 use Rattle.ncq_book.specs.Watches.{is_watch}
 
 -- a subscription with the number that it stands under
@@ -51,8 +54,12 @@ abbrev pub AreTimedBy : Subscription → Finders → Finders → Type 0
 AreTimedBy m old new = (w : Watch)
     → list_any (is_watch w) new.timers ≡ (list_any (is_watch w) old.timers || is_timer_at w m)
 
+-- 1 where the subscription has this bare plan, and else 0
+abbrev pub has_bare : Expr → Subscription → ℕ
+has_bare bare m = cond (is_expr bare m.bare) 1 0
+
 -- the subscription is found, and all others as before
-pub record IsEnrolled (m : Subscription) (old new : Finders) : Type 0 where
+pub record IsFound (m : Subscription) (old new : Finders) : Type 0 where
   pub names : (name : List ℕ) → lookup (bytes_eq name) new.names
       ≡ cond (bytes_eq m.name name) (Some m.install) (lookup (bytes_eq name) old.names)
   pub calendar : new.calendar
@@ -60,7 +67,13 @@ pub record IsEnrolled (m : Subscription) (old new : Finders) : Type 0 where
   pub watchers : AreWatchedBy m old new
   pub timers : AreTimedBy m old new
 
--- the subscription is not found, and all others as before
+-- the subscription is found and its bare plan counted, and all others as before
+pub record IsEnrolled (m : Subscription) (old new : Finders) : Type 0 where
+  pub found : IsFound m old new
+  pub strategy : (bare : Expr)
+      → live_with new.strategy bare ≡ live_with old.strategy bare + has_bare bare m
+
+-- the subscription is not found and not counted, and all others as before
 pub record IsStruck (m : Subscription) (old new : Finders) : Type 0 where
   pub names : (name : List ℕ) → lookup (bytes_eq name) new.names
       ≡ cond (bytes_eq m.name name) None (lookup (bytes_eq name) old.names)
@@ -71,6 +84,8 @@ pub record IsStruck (m : Subscription) (old new : Finders) : Type 0 where
       ≡ (list_any (is_watch w) old.watchers && not (is_watch_of w m))
   pub timers : (w : Watch) → list_any (is_watch w) new.timers
       ≡ (list_any (is_watch w) old.timers && not (is_timer_at w m))
+  pub strategy : (bare : Expr)
+      → live_with new.strategy bare + has_bare bare m ≡ live_with old.strategy bare
 
 -- both find the same
 pub record FindsAlike (old new : Finders) : Type 0 where
@@ -79,9 +94,11 @@ pub record FindsAlike (old new : Finders) : Type 0 where
   pub calendar : new.calendar ≡ old.calendar
   pub watchers : new.watchers ≡ old.watchers
   pub timers : new.timers ≡ old.timers
+  pub strategy : (bare : Expr) → live_with new.strategy bare ≡ live_with old.strategy bare
 
 -- subscriptions stand under their install numbers, which rise; names differ, and each leads to its
--- subscription; the calendar has the timing of each, and the files are noted of each
+-- subscription; the calendar has the timing of each, the files are noted of each, and of each bare
+-- plan how many have it
 pub record IsKept (subscriptions : List Subscription) (placed : List Placed) (finders : Finders) :
     Type 0 where
   pub numbered : placed ≡ map placed_of subscriptions
@@ -93,3 +110,4 @@ pub record IsKept (subscriptions : List Subscription) (placed : List Placed) (fi
       → list_any (is_watch w) finders.watchers ≡ list_any (is_watch_of w) subscriptions
   pub timers : (w : Watch)
       → list_any (is_watch w) finders.timers ≡ list_any (is_timer_at w) subscriptions
+  pub strategy : (bare : Expr) → live_with finders.strategy bare ≡ alike bare subscriptions

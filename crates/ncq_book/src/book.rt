@@ -1,17 +1,20 @@
 //! The book: live subscriptions in the order of their creates, and what finds them.
-ghost use Rattle.std.specs.Prelude.{◌≡◌, ◌<◌, ◌≤◌, ◌++◌, ◌∷◌, [], not, map, filter};
+ghost use Rattle.std.specs.Prelude.{◌≡◌, ◌-◌, ◌<◌, ◌≤◌, ◌^◌, ◌++◌, ◌∷◌, [], not, map, filter};
 ghost use Rattle.std.specs.Prelude.{length, nat_eq, Some, false, IfOk, OnOk, OnErr, IsSome};
 ghost use Rattle.std.specs.List.{find, list_any, AllByRecursion};
 ghost use Rattle.std.specs.Option.{option_copied, option_map};
 ghost use Rattle.ncq_event.specs.Calendars.{due_firings, expired_at};
-ghost use Rattle.ncq_book.specs.Books.{is_named, is_of, subscription_of, timers_of, timing_of};
+ghost use Rattle.ncq_strategy.specs.Choices.{choice_of};
+ghost use Rattle.ncq_book.specs.Books.{alike, is_named, is_of, subscription_of, timers_of, timing_of};
 ghost use Rattle.ncq_book.specs.Books.{watchers_of, with_note, InstallsRise, NamesDiffer};
 
 use crate::finders::Finders;
 use crate::held::Held;
 use crate::subscription::Subscription;
-use ncq_base::Bytes;
+use ncq_base::{Bytes, Shared};
 use ncq_event::{Firings, Installs};
+use ncq_plan::{Expr, NormalQuery};
+use ncq_strategy::Choice;
 use std::alloc::{AllocError, Global};
 use std::collections::BTreeMap;
 use std::hash::RandomState;
@@ -143,12 +146,36 @@ impl Book {
         self.finders.calendar.expired(alloc, at)
     }
 
+    /// How many subscriptions have the bare plan. It takes no memory.
+    pub fn alike(&self, bare: &Shared<Expr>) -> u64
+        ensures { result ≡ alike bare.now self.now.subscriptions }
+    {
+        self.finders.strategy.live_with(bare)
+    }
+
+    /// What stands below in the plan of a query that comes now, given its bare plan: the join,
+    /// where the query has two or more arms and at least three subscriptions have its bare plan. It
+    /// takes no memory.
+    pub fn choose(&self, query: &NormalQuery, bare: &Shared<Expr>) -> Choice
+        ensures { result ≡ choice_of query.now (alike bare.now self.now.subscriptions) }
+    {
+        self.finders.strategy.choose(query, bare)
+    }
+
+    /// The bare plan, as subscriptions that have it share it.
+    pub fn share(&self, bare: Shared<Expr>) -> Result<Shared<Expr>, AllocError>
+        ensures { IfOk result (λ shared. shared ≡ bare) }
+    {
+        self.finders.strategy.share(bare)
+    }
+
     /// One more subscription, under an install number above all others and a name that is free.
     /// Where memory runs out, all is as before.
     pub fn add(&mut self, alloc: Global, subscription: Subscription) -> Result<(), AllocError>
         requires above { AllByRecursion (λ m. m.install < subscription.install)
             self.old.subscriptions }
         requires free { list_any (is_named subscription.name) self.old.subscriptions ≡ false }
+        requires few { length self.old.subscriptions < 2 ^ 64 - 1 }
         ensures ok { OnOk result (self.new
             ≡ record self.old { subscriptions = self.old.subscriptions ++ subscription ∷ [] }) }
         ensures err { OnErr result (self.new ≡ self.old) }

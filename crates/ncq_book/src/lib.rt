@@ -2,7 +2,8 @@
 //! Subscriptions come in one by one, in the order of their creates, and go out by name or by
 //! expiry. A name is found by its hash, and an install number, the watchers and the timers of a
 //! file, the next firings and the expiries by their order: nobody is looked at whom a question does
-//! not concern.
+//! not concern. How many have a bare plan is counted, so that the next that has it is planned by
+//! it.
 #![tactic(auto)]
 
 mod book;

@@ -1,7 +1,8 @@
 //! A live subscription.
-use ncq_base::{Bytes, FileId, Sequence};
+use ncq_base::{Bytes, FileId, Sequence, Shared};
 use ncq_event::Timing;
-use ncq_plan::NormalQuery;
+use ncq_plan::{Expr, NormalQuery};
+use ncq_strategy::Choice;
 
 /// A live subscription: what it asks, where the rows of that stand, and when it fires.
 pub struct Subscription {
@@ -11,6 +12,10 @@ pub struct Subscription {
     pub sources: Sequence<Bytes>,
     /// Its query in normal form.
     pub query: NormalQuery,
+    /// The plan of its query without equalities and ranges.
+    pub bare: Shared<Expr>,
+    /// What stands below in the plan that it has.
+    pub choice: Choice,
     /// Whether its answer has each forest once.
     pub distinct: bool,
     /// The file of its plan: a change that feeds it concerns the subscription.
@@ -34,6 +39,8 @@ impl Drop for Subscription {
             name,
             sources,
             query,
+            bare,
+            choice: _,
             distinct: _,
             file: _,
             timing: _,
@@ -45,6 +52,7 @@ impl Drop for Subscription {
         drop(name);
         drop(sources);
         drop(query);
+        drop(bare);
         drop(argument);
     }
 }

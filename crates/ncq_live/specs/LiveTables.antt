@@ -6,8 +6,8 @@ use Rattle.std.specs.Coded.{Coded, code_by, coded×}
 use Rattle.ncq_base.specs.Keys.{times}
 use Rattle.ncq_base.specs.declared.atom.FileId.{FileId}
 use Rattle.ncq_plan.specs.declared.expr.Expr.{Expr}
-use Rattle.ncq_plan.specs.Plans.{plan_of}
 use Rattle.ncq_plan.specs.WellFormed.{IsWellFormed}
+use Rattle.ncq_strategy.specs.Choices.{plan_by}
 use Rattle.ncq_shelf.specs.KeptFiles.{KeptFile}
 use Rattle.ncq_shelf.specs.Stands.{Stands}
 use Rattle.ncq_group.specs.Installs.{IsInstalled}
@@ -31,7 +31,7 @@ live_code =
 
 -- the plan of a subscription
 abbrev pub plan_in : Subscription → Expr
-plan_in m = plan_of m.query
+plan_in m = plan_by m.choice m.query
 
 -- each subscription has the file of its plan, and each file is used by exactly its subscriptions
 pub record IsLiveTable (table : TableState) (subscriptions : List Subscription) : Type 0 where

@@ -64,33 +64,25 @@ impl Strategy {
         Choice::JoinFirst
     }
 
-    /// One more live query has the bare plan. The answer is the bare plan as all those that have it
-    /// share it. After an error all is as before.
-    pub fn note(&mut self, bare: Shared<Expr>) -> Result<Shared<Expr>, AllocError>
-        requires { live_with self.old bare < 2 ^ 63 }
-        ensures ok { OnOk result (HasNow self.old bare (live_with self.old bare + 1) self.new) }
-        ensures bare { IfOk result (λ kept. kept ≡ bare) }
-        ensures err { OnErr result (self.new ≡ self.old) }
+    /// The bare plan, as live queries that have it share it.
+    pub fn share(&self, bare: Shared<Expr>) -> Result<Shared<Expr>, AllocError>
+        ensures { IfOk result (λ shared. shared ≡ bare) }
     {
-        let Some((kept, number)) = self.numbers.get_key_value(&bare) else {
-            return self.enter(bare);
-        };
-        let kept = kept.share()?;
-        let more = *number + 1;
-        self.numbers.insert(bare, more)?;
-        Ok(kept)
+        match self.numbers.get_key_value(&bare) {
+            Some((shared, _)) => shared.share(),
+            None => Ok(bare),
+        }
     }
 
-    /// The first live query has the bare plan.
-    fn enter(&mut self, bare: Shared<Expr>) -> Result<Shared<Expr>, AllocError>
-        requires { live_with self.old bare ≡ 0 }
-        ensures ok { OnOk result (HasNow self.old bare 1 self.new) }
-        ensures bare { IfOk result (λ kept. kept ≡ bare) }
+    /// One more live query has the bare plan. After an error all is as before.
+    pub fn note(&mut self, bare: Shared<Expr>) -> Result<(), AllocError>
+        requires { live_with self.old bare < 2 ^ 64 - 1 }
+        ensures ok { OnOk result (HasNow self.old bare (live_with self.old bare + 1) self.new) }
         ensures err { OnErr result (self.new ≡ self.old) }
     {
-        let kept = bare.share()?;
-        self.numbers.insert(bare, 1)?;
-        Ok(kept)
+        let more = self.live_with(&bare) + 1;
+        self.numbers.insert(bare, more)?;
+        Ok(())
     }
 
     /// One live query less has the bare plan. It takes no memory.
