@@ -1,5 +1,5 @@
 -- What a book keeps, with one subscription more, with one less, and with one changed.
-use Rattle.std.proofs.Common.{◌≡◌, ℕ, ◌<◌, ◌==◌, ◌&&◌, ◌||◌, not, Bool, false, List, [], ◌∷◌, ◌++◌, map, refl, sym, ◌∙◌, ap, cond, subst}
+use Rattle.std.proofs.Common.{◌≡◌, ℕ, ◌+◌, ◌<◌, ◌≤◌, ◌==◌, ◌&&◌, ◌||◌, not, Bool, false, List, [], ◌∷◌, ◌++◌, map, length, refl, sym, ◌∙◌, ap, arith, cond, subst}
 use Rattle.std.specs.Prelude.{Some, None, nat_eq}
 use Rattle.std.specs.List.{filter, find, list_any, AllByRecursion}
 use Rattle.std.specs.List.Sorted.{IsStrictlySortedBy}
@@ -8,12 +8,15 @@ use Rattle.std.specs.BTreeMap.{is_at, insert_entry}
 use Rattle.std.specs.Ordering.{nat_cmp}
 use Rattle.std.specs.Str.{bytes_eq}
 use Rattle.std.proofs.lemmas.Bool.{eqb-true}
+use Rattle.ncq_plan.specs.declared.expr.Expr.{Expr}
+use Rattle.ncq_strategy.specs.Numbers.{live_with}
 use Rattle.ncq_book.specs.declared.finders.Finders.{Finders}
 use Rattle.ncq_book.specs.declared.subscription.Subscription.{Subscription}
 use Rattle.ncq_book.specs.declared.watchers.Watch.{Watch}
-use Rattle.ncq_book.specs.Books.{is_named, is_of, timing_of, timers_of, watchers_of}
+use Rattle.ncq_book.specs.Books.{alike, is_named, is_of, timing_of, timers_of, watchers_of}
 use Rattle.ncq_book.specs.Watches.{is_watch, is_watched}
-use Rattle.ncq_book.specs.Kept.{Placed, subscriptions_in, placed_of, is_timer_at, is_watch_of, IsEnrolled, IsStruck, FindsAlike, IsKept}
+use Rattle.ncq_book.specs.Kept.{Placed, subscriptions_in, placed_of, has_bare, is_timer_at, is_watch_of, IsEnrolled, IsStruck, FindsAlike, IsKept}
+use Rattle.ncq_book.proofs.AlikeLaws.{has_its_own, alike_more, alike_less, alike_few, alike_some}
 use Rattle.ncq_book.proofs.Lists.{found_passes, same_rising, any_agree}
 use Rattle.ncq_book.proofs.SubscriptionLaws.{subscriptions_back, pairs_pushed, remove_pair, insert_pair, get_is, others_pushed, found_pushed, rise_more, differ_more, named_more, noted_more, rise_less, differ_less, named_less, noted_less, nobody_found, keys_below, subscriptions_rise, noted_at, has_file, installs_of, install_at}
 
@@ -32,27 +35,34 @@ pub kept_at : (placed : List Placed) (finders : Finders) (ms : List Subscription
 kept_at placed finders ms kept = subst (λ xs. IsKept xs placed finders) (sym (shown placed ms kept.numbered)) kept
 
 pub kept_alike : (placed : List Placed) (ms : List Subscription) (old new : Finders) → IsKept ms placed old → FindsAlike old new → IsKept ms placed new
-kept_alike placed ms old new kept alike = record {
+kept_alike placed ms old new kept same = record {
   numbered = kept.numbered;
   rise = kept.rise;
   differ = kept.differ;
-  named = λ name. alike.names name ∙ kept.named name;
-  timed = (λ i. (alike.calendar i).entries) ∙ kept.timed;
-  watched = λ w. ap (list_any (is_watch w)) alike.watchers ∙ kept.watched w;
-  timers = λ w. ap (list_any (is_watch w)) alike.timers ∙ kept.timers w;
+  named = λ name. same.names name ∙ kept.named name;
+  timed = (λ i. (same.calendar i).entries) ∙ kept.timed;
+  watched = λ w. ap (list_any (is_watch w)) same.watchers ∙ kept.watched w;
+  timers = λ w. ap (list_any (is_watch w)) same.timers ∙ kept.timers w;
+  strategy = λ bare. same.strategy bare ∙ kept.strategy bare;
 }
 
 module _ (placed : List Placed) (ms : List Subscription) (old new : Finders) (kept : IsKept ms placed old) (m : Subscription) where
+  -- what is left of a number without the subscription
+  counted_less : (bare : Expr) → live_with new.strategy bare + has_bare bare m ≡ live_with old.strategy bare → live_with old.strategy bare ≡ alike bare ms → {rest : ℕ} → rest + has_bare bare m ≡ alike bare ms
+      → live_with new.strategy bare ≡ rest
+  counted_less bare less all rest = omega arith
+
   pub kept_more : (after : List Placed) → AllByRecursion (λ n. n.install < m.install) ms → list_any (is_named m.name) ms ≡ false → IsEnrolled m old new → after ≡ map placed_of (ms ++ m ∷ [])
       → IsKept (ms ++ m ∷ []) after new
   kept_more after above free more numbered = record {
     numbered = numbered;
     rise = rise_more ms m kept.rise above;
     differ = differ_more ms m kept.differ free;
-    named = λ name. more.names name ∙ ap (cond (bytes_eq m.name name) (Some m.install)) (kept.named name) ∙ named_more ms m name free;
-    timed = (λ i. (more.calendar i).entries) ∙ ap (λ es. es ++ timing_of m ∷ []) kept.timed ∙ sym (pairs_pushed (λ n. n.timing) ms m);
-    watched = λ w. more.watchers w ∙ ap (λ b. b || is_watch_of w m) (kept.watched w) ∙ sym (noted_more at_changes ms m w);
-    timers = λ w. more.timers w ∙ ap (λ b. b || is_timer_at w m) (kept.timers w) ∙ sym (noted_more at_instants ms m w);
+    named = λ name. more.found.names name ∙ ap (cond (bytes_eq m.name name) (Some m.install)) (kept.named name) ∙ named_more ms m name free;
+    timed = (λ i. (more.found.calendar i).entries) ∙ ap (λ es. es ++ timing_of m ∷ []) kept.timed ∙ sym (pairs_pushed (λ n. n.timing) ms m);
+    watched = λ w. more.found.watchers w ∙ ap (λ b. b || is_watch_of w m) (kept.watched w) ∙ sym (noted_more at_changes ms m w);
+    timers = λ w. more.found.timers w ∙ ap (λ b. b || is_timer_at w m) (kept.timers w) ∙ sym (noted_more at_instants ms m w);
+    strategy = λ bare. more.strategy bare ∙ ap (λ n. n + has_bare bare m) (kept.strategy bare) ∙ sym (alike_more bare ms m);
   }
 
   pub kept_less : (i : ℕ) (after : List Placed) → find (is_of i) ms ≡ Some m → IsStruck m old new → after ≡ map placed_of (filter (λ n. not (is_of i n)) ms)
@@ -67,6 +77,7 @@ module _ (placed : List Placed) (ms : List Subscription) (old new : Finders) (ke
         timed = (λ j. (less.calendar j).entries) ∙ (λ j. remove_entry (is_at (nat_cmp (same j))) (kept.timed j)) ∙ remove_pair (λ n. n.timing) i ms kept.rise;
         watched = λ w. less.watchers w ∙ ap (λ b. b && not (is_watch_of w m)) (kept.watched w) ∙ noted_less at_changes i ms m w kept.rise found;
         timers = λ w. less.timers w ∙ ap (λ b. b && not (is_timer_at w m)) (kept.timers w) ∙ noted_less at_instants i ms m w kept.rise found;
+        strategy = λ bare. counted_less bare (less.strategy bare) (kept.strategy bare) (alike_less bare i ms m kept.rise found);
       }
 
 -- the subscription of a number is taken
@@ -79,6 +90,9 @@ module _ (placed after : List Placed) (old : Finders) (kept : IsKept (subscripti
 
   pub taken_shown : subscriptions_in after ≡ filter (λ n. not (is_of i n)) (subscriptions_in placed)
   taken_shown = shown after rest taken_numbered
+
+  pub taken_counted : (m : Subscription) → lookup (is_at (nat_cmp i)) placed ≡ Some m → 1 ≤ live_with old.strategy m.bare
+  taken_counted m found = subst (λ n. 1 ≤ n) (sym (kept.strategy m.bare)) (alike_some i (subscriptions_in placed) m kept.rise (sym (get_is placed (subscriptions_in placed) i kept.numbered) ∙ found))
 
   pub taken : (new : Finders) (m : Subscription) → lookup (is_at (nat_cmp i)) placed ≡ Some m → IsStruck m old new → IsKept (subscriptions_in after) after new
   taken new m found struck =
@@ -99,6 +113,9 @@ module _ (placed : List Placed) (old mid : Finders) (kept : IsKept (subscription
     pub put : IsKept (subscriptions_in after) after mid
     put = kept_at after mid joined (kept_more placed (subscriptions_in placed) old mid kept m after above free enrolled put_numbered)
 
+  pub put_counted : 1 ≤ live_with mid.strategy m.bare
+  put_counted = let more = enrolled.strategy m.bare in let one = has_its_own m in omega arith
+
   pub put_back : (after : List Placed) (new : Finders) → IsStruck m mid new → after ≡ placed → IsKept (subscriptions_in after) after new
   put_back after new struck same =
       let one = kept_more placed (subscriptions_in placed) old mid kept m (map placed_of joined) above free enrolled refl in
@@ -114,6 +131,9 @@ module _ (placed : List Placed) (ms : List Subscription) (finders : Finders) (ke
 
   pub free_name : (name : List ℕ) → list_any (is_named name) ms ≡ false → lookup (bytes_eq name) finders.names ≡ None
   free_name name free = kept.named name ∙ nobody_found name ms free
+
+  pub few_have : (bare : Expr) (n : ℕ) → length ms < n → live_with finders.strategy bare < n
+  few_have bare n few = let all = kept.strategy bare in let most = alike_few bare ms in omega arith
 
   -- those of a kind that have one of these files
   installs_are : (kind : Subscription → Bool) (noted : List Watch) → ((w : Watch) → list_any (is_watch w) noted ≡ list_any (noted_at kind w) ms)

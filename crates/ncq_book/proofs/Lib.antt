@@ -1,3 +1,4 @@
+pub mod AlikeLaws
 pub mod FinderLaws
 pub mod KeptLaws
 pub mod Lists

@@ -13,13 +13,14 @@ use Rattle.ncq_book.specs.declared.subscription.Subscription.{Subscription}
 use Rattle.ncq_book.specs.declared.watchers.Watch.{Watch}
 use Rattle.ncq_book.specs.Books.{is_named, is_of, timing_of, with_note, InstallsRise, NamesDiffer}
 use Rattle.ncq_book.specs.Kept.{Placed, subscriptions_in, placed_of, install_of, IsKept}
+use Rattle.ncq_book.proofs.AlikeLaws.{alike_mapped}
 use Rattle.ncq_book.proofs.Lists.{number_at}
 use Rattle.ncq_book.proofs.SubscriptionLaws.{NoneOf, none_above, get_is, noted_at}
 use Rattle.ncq_book.proofs.KeptLaws.{shown, kept_at}
 use Rattle.std.proofs.Common.{arith}
 
 -- subscriptions that a map gives another note at most
-module _ (g : Subscription → Subscription) (names : (m : Subscription) → (g m).name ≡ m.name) (installs : (m : Subscription) → (g m).install ≡ m.install) (timings : (m : Subscription) → (g m).timing ≡ m.timing) (files : (m : Subscription) → (g m).file ≡ m.file) where
+module _ (g : Subscription → Subscription) (names : (m : Subscription) → (g m).name ≡ m.name) (installs : (m : Subscription) → (g m).install ≡ m.install) (timings : (m : Subscription) → (g m).timing ≡ m.timing) (files : (m : Subscription) → (g m).file ≡ m.file) (bares : (m : Subscription) → (g m).bare ≡ m.bare) where
   above_mapped : (m : Subscription) (ms : List Subscription) → AllByRecursion (λ n. m.install < n.install) ms → AllByRecursion (λ n. (g m).install < n.install) (map g ms)
   above_mapped m [] above = tt
   above_mapped m (n ∷ ms) above = (subst (λ k. k < (g n).install) (sym (installs m)) (subst (λ k. m.install < k) (sym (installs n)) above.0), above_mapped m ms above.1)
@@ -63,6 +64,7 @@ module _ (g : Subscription → Subscription) (names : (m : Subscription) → (g 
     timed = kept.timed ∙ timed_mapped ms;
     watched = λ w. kept.watched w ∙ noted_mapped (λ t. t.every == 0) w ms;
     timers = λ w. kept.timers w ∙ noted_mapped (λ t. not (t.every == 0)) w ms;
+    strategy = λ bare. kept.strategy bare ∙ alike_mapped bare g bares ms;
   }
 
 -- a number is noted for the subscription of an install number
@@ -116,7 +118,7 @@ module _ (i number : ℕ) where
       pub noted_kept : IsKept (subscriptions_in after) after finders
       noted_kept =
           kept_at after finders (map changed (subscriptions_in placed))
-          (kept_mapped changed (left (λ m. m.name) (λ m. refl)) (left (λ m. m.install) (λ m. refl)) (left (λ m. m.timing) (λ m. refl)) (left (λ m. m.file) (λ m. refl))
+          (kept_mapped changed (left (λ m. m.name) (λ m. refl)) (left (λ m. m.install) (λ m. refl)) (left (λ m. m.timing) (λ m. refl)) (left (λ m. m.file) (λ m. refl)) (left (λ m. m.bare) (λ m. refl))
           placed after (subscriptions_in placed) finders kept noted_numbered)
 
     pub noted_nobody : lookup (is_at (nat_cmp i)) placed ≡ None → subscriptions_in placed ≡ map changed (subscriptions_in placed)

@@ -1,14 +1,15 @@
-use Rattle.std.proofs.Common.{◌≡◌, ◌<◌, false, ◌∙◌, ap, sym, subst, ◌++◌, ◌∷◌, []}
+use Rattle.std.proofs.Common.{◌≡◌, ◌-◌, ◌<◌, ◌≤◌, ◌^◌, length, false, ◌∙◌, ap, sym, subst, ◌++◌, ◌∷◌, []}
 use Rattle.std.specs.List.{list_any, AllByRecursion}
 use Rattle.std.specs.Map.{lookup}
 use Rattle.std.specs.Prelude.{None}
 use Rattle.std.specs.Str.{bytes_eq}
 use Rattle.std.specs.BTreeMap.{insert_entry}
 use Rattle.std.specs.Ordering.{nat_cmp}
+use Rattle.ncq_strategy.specs.Numbers.{live_with}
 use Rattle.ncq_book.specs.declared.subscription.Subscription.{Subscription}
 use Rattle.ncq_book.specs.Books.{BookState, is_named}
 use Rattle.ncq_book.specs.Kept.{IsEnrolled, IsStruck}
-use Rattle.ncq_book.proofs.KeptLaws.{above_all, free_name, kept_alike, put, put_shown, put_back}
+use Rattle.ncq_book.proofs.KeptLaws.{above_all, few_have, free_name, kept_alike, put, put_back, put_counted, put_shown}
 use Rattle.ncq_book.proofs.book.Book.add.Goals as goal
 
 above_in : (inside now : BookState) (m : Subscription) → inside ≡ now → AllByRecursion (λ n. n.install < m.install) now.subscriptions → AllByRecursion (λ n. n.install < m.install) inside.subscriptions
@@ -26,6 +27,12 @@ pub enroll-requires-clause-free : goal.enroll-requires-clause-free
 enroll-requires-clause-free c =
     subst (λ (m : Subscription). lookup (bytes_eq m.name) c.self.inside.finders.names ≡ None) (sym (c.get.ensures ∙ c.in_ok-held.ensures))
     (free_name c.self.inside.subscriptions.entries _ c.self.inside.finders c.self.invariant c.args.subscription.name (free_in _ _ c.args.subscription c.self.view_is c.requires.free))
+
+pub enroll-requires-clause-few : goal.enroll-requires-clause-few
+enroll-requires-clause-few c =
+    subst (λ (m : Subscription). live_with c.self.inside.finders.strategy m.bare < 2 ^ 64 - 1) (sym (c.get.ensures ∙ c.in_ok-held.ensures))
+    (few_have c.self.inside.subscriptions.entries _ c.self.inside.finders c.self.invariant c.args.subscription.bare (2 ^ 64 - 1)
+    (subst (λ (b : BookState). length b.subscriptions < 2 ^ 64 - 1) (sym c.self.view_is) c.requires.few))
 
 pub invariant_of-self : goal.invariant_of-self
 invariant_of-self c =
@@ -46,8 +53,15 @@ returns-in-Ok-clause-ok c =
     (above_in _ _ c.args.subscription c.self.view_is c.requires.above) (free_in _ _ c.args.subscription c.self.view_is c.requires.free)
     enrolled c.insert.new.self.entries
     (c.in-Ok.ensures.entries ∙ ap (insert_entry nat_cmp c.self.inside.subscriptions.entries c.args.subscription.install) c.in_ok-held.ensures) in
-    (λ i. record { subscriptions = is i; instant = (enrolled.calendar i).instant })
+    (λ i. record { subscriptions = is i; instant = (enrolled.found.calendar i).instant })
     ∙ ap (λ (b : BookState). record b { subscriptions = b.subscriptions ++ c.args.subscription ∷ [] }) c.self.view_is
+
+pub strike-requires : goal.strike-requires
+strike-requires c =
+    subst (λ (m : Subscription). 1 ≤ live_with c.enroll.new.self.strategy m.bare) (sym (c.get-in-Err.ensures ∙ ap (λ p. p.1) c.in-Err.ensures.value_returned ∙ c.in_ok-held.ensures))
+    (put_counted c.self.inside.subscriptions.entries c.self.inside.finders c.enroll.new.self c.self.invariant c.args.subscription
+    (above_in _ _ c.args.subscription c.self.view_is c.requires.above) (free_in _ _ c.args.subscription c.self.view_is c.requires.free)
+    (subst (λ m. IsEnrolled m c.self.inside.finders c.enroll.new.self) (c.get.ensures ∙ c.in_ok-held.ensures) c.in_ok-enroll.ensures.ok))
 
 pub invariant_of-self-in-Err : goal.invariant_of-self-in-Err
 invariant_of-self-in-Err c =

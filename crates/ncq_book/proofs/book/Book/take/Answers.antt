@@ -1,11 +1,18 @@
-use Rattle.std.proofs.Common.{◌∙◌, ap, sym, subst, not}
+use Rattle.std.proofs.Common.{◌∙◌, ◌≤◌, ap, sym, subst, not}
 use Rattle.std.specs.Prelude.{Some}
 use Rattle.std.specs.List.{filter}
+use Rattle.ncq_strategy.specs.Numbers.{live_with}
+use Rattle.ncq_book.specs.declared.subscription.Subscription.{Subscription}
 use Rattle.ncq_book.specs.Books.{BookState, is_of, subscription_of}
 use Rattle.ncq_book.specs.Kept.{IsStruck}
 use Rattle.ncq_book.proofs.SubscriptionLaws.{get_is}
-use Rattle.ncq_book.proofs.KeptLaws.{taken, taken_shown}
+use Rattle.ncq_book.proofs.KeptLaws.{taken, taken_counted, taken_shown}
 use Rattle.ncq_book.proofs.book.Book.take.Goals as goal
+
+pub strike-requires : goal.strike-requires
+strike-requires c =
+    subst (λ (m : Subscription). 1 ≤ live_with c.self.inside.finders.strategy m.bare) (sym c.get.ensures)
+    (taken_counted c.self.inside.subscriptions.entries c.remove.new.self.entries c.self.inside.finders c.self.invariant c.args.install c.remove.ensures.entries c.in_ok-held.held (sym c.in_ok-held.ensures.value))
 
 pub invariant_of-self-2 : goal.invariant_of-self-2
 invariant_of-self-2 c =

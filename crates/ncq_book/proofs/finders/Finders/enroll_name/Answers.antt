@@ -4,10 +4,11 @@ use Rattle.std.specs.Map.{lookup, remove_entry}
 use Rattle.std.specs.BTreeMap.{is_at}
 use Rattle.std.specs.Ordering.{nat_cmp}
 use Rattle.std.specs.Str.{bytes_eq}
+use Rattle.ncq_strategy.specs.Numbers.{live_with}
 use Rattle.ncq_book.specs.declared.finders.Finders.{Finders}
 use Rattle.ncq_book.proofs.Lists.{at_ok, at_err}
 use Rattle.ncq_book.proofs.FinderLaws.{name_freed, entry_gone}
-use Rattle.ncq_book.proofs.finders.Finders.enroll.Goals as goal
+use Rattle.ncq_book.proofs.finders.Finders.enroll_name.Goals as goal
 
 pub returns-then-is_err-2-clause-err : goal.returns-then-is_err-2-clause-err
 returns-then-is_err-2-clause-err c =
@@ -25,4 +26,5 @@ returns-then-is_err-2-clause-err c =
           ∙ (λ i. record old.calendar { entries = entry_gone m.install m.timing old.calendar.entries c.requires.above i });
       watchers = ap (λ (f : Finders). f.watchers) back;
       timers = ap (λ (f : Finders). f.timers) back;
+      strategy = λ bare. ap (λ (f : Finders). live_with f.strategy bare) back;
     }
