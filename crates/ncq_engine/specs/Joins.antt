@@ -9,7 +9,6 @@ use Rattle.ncq_event.specs.declared.timing.Timing.{Timing}
 use Rattle.ncq_event.specs.Instants.{is_expired}
 use Rattle.ncq_plan.specs.Late.{bare_of}
 use Rattle.ncq_plan.specs.WellFormed.{IsWellFormed}
-use Rattle.ncq_strategy.specs.Choices.{choice_of}
 use Rattle.ncq_xmlql.specs.declared.model.Statement.{Statement}
 use Rattle.ncq_xmlql.specs.WellFormed.{IsWellFormed as IsWhole}
 use Rattle.ncq_engine.specs.Applies.{kind_at}
@@ -38,10 +37,9 @@ pub record IsSubscriptionOf (e : EngineState) (statement : Statement) (m : Kept)
   pub fitting : is_at_odds (kind_in statement.action e.labels) statement.argument ≡ false
   pub free : list_any (λ n. bytes_eq statement.name n.name) e.subscriptions ≡ false
   pub timely : is_expired (timed statement e.clock) (timed statement e.clock).start ≡ false
-  pub choice : m.choice ≡ choice_of m.query (alike (bare_of m.query) e.subscriptions)
   pub made : m
-      ≡ new_subscription statement m.query m.choice (timed statement e.clock) m.action e.creates
-      m.file
+      ≡ new_subscription statement m.query (alike (bare_of m.query) e.subscriptions)
+      (timed statement e.clock) m.action e.creates m.file
 
 -- it holds of each statement that the subscription is of
 abbrev pub OfStatement : EngineState → Kept → (Statement → Type 0) → Type 0

@@ -136,7 +136,6 @@ pub record Keeps (labels : List Label) (history : History) (s : Subscription) (m
   pub action : name_at labels m.action ≡ Some s.statement.action
   pub argument : m.argument ≡ unwrap_or s.statement.argument []
   pub install : m.install ≡ s.install
-  pub installed : s.install ≤ creates history
   pub marked : m.noted ≡ noted s history
 
 -- each file has, at each change from its base on, the rows that its expression had then

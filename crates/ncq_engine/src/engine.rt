@@ -30,7 +30,6 @@ ghost use Rattle.ncq_engine.specs.Output.{is_at_odds, first_refusal, accepted_te
 ghost use Rattle.ncq_book.specs.Books.{alike};
 ghost use Rattle.ncq_plan.specs.Late.{bare_of};
 ghost use Rattle.ncq_plan.specs.WellFormed.{IsWellFormed};
-ghost use Rattle.ncq_strategy.specs.Choices.{choice_of};
 ghost use Rattle.ncq_script.specs.Proper.{IsProperCommand};
 ghost use Rattle.ncq_shelf.specs.KeptFiles.{AtFile};
 ghost use Rattle.ncq_shelf.specs.RowCounts.{CountsRows};
@@ -725,10 +724,8 @@ impl Engine {
     ) -> Result<Subscription, AllocError>
         requires formed { IsWellFormed query }
         requires few { self.now.creates < 2 ^ 48 }
-        ensures made { IfOk result (λ m. m ≡ new_subscription statement.now query m.choice timing
-            action self.now.creates m.file) }
-        ensures choice { IfOk result (λ m.
-            m.choice ≡ choice_of query (alike (bare_of query) self.now.subscriptions)) }
+        ensures { IfOk result (λ m. m ≡ new_subscription statement.now query
+            (alike (bare_of query) self.now.subscriptions) timing action self.now.creates m.file) }
     {
         let book = self.live_table.book();
         let bare = book.share(Shared::new(alloc, bare(alloc, &query)?)?)?;
