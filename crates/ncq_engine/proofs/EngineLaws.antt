@@ -18,6 +18,7 @@ use Rattle.ncq_engine.specs.Applies.{Applies, GivesUp, ok_text}
 use Rattle.ncq_engine.specs.Engines.{Pairwise}
 use Rattle.ncq_engine.specs.Firing.{fires}
 use Rattle.ncq_engine.specs.History.{History, Subscription, live, moved, now}
+use Rattle.ncq_engine.proofs.HistoryLaws.{Installed, installed, installed_more}
 use Rattle.ncq_engine.specs.Marks.{IsRising}
 use Rattle.ncq_engine.specs.Languages.{language_of}
 use Rattle.ncq_engine.specs.Notices.{fired_at, firings_in_order}
