@@ -14,12 +14,13 @@ use Rattle.ncq_engine.specs.Applies.{Applies, IfAnswered}
 use Rattle.ncq_engine.specs.Cached.{AreToldRight}
 use Rattle.ncq_engine.specs.Compactions.{AreCompacted, KeepBases}
 use Rattle.ncq_engine.specs.Engines.{KeepsCounts}
-use Rattle.ncq_engine.specs.History.{History}
+use Rattle.ncq_engine.specs.History.{History, live}
 use Rattle.ncq_engine.specs.Stands.{EngineState, Follows, IsBounded, Stands}
 use Rattle.ncq_engine.specs.Works.{IsWithinWork}
 use Rattle.ncq_engine.specs.declared.engine.ApplyError.{ApplyError}
 use Rattle.ncq_engine.specs.declared.engine.ApplyError.TheVariants.{Refused, OutOfMemory}
 use Rattle.ncq_engine.specs.declared.telling.Answered.{Answered}
+use Rattle.ncq_engine.proofs.PlanningLaws.{kept_alike}
 
 -- what holds, holds where the command was answered
 pub answered_so : {T A : Type 0} (r : Result T ApplyError) → A → IfAnswered r A
@@ -66,7 +67,7 @@ pub stands_still : (old mid : EngineState) → ((h : History) → Follows old h 
 stands_still old mid follows bounded shares counts (inl same) h s = subst (λ (e : EngineState). Stands e h) (sym same) s
 stands_still old mid follows bounded shares counts (inr nothing) h s =
     let f = follows h s.follows in
-    record { follows = f; bounded = bounded h f; shares = shares; cached = subst (AreToldRight h mid.table) (sym nothing) tt; counts = counts }
+    record { follows = f; bounded = bounded h f; shares = shares; cached = subst (AreToldRight h mid.table) (sym nothing) tt; counts = counts; alike = λ bare. kept_alike mid.labels h bare (live h) mid.subscriptions f.subscriptions }
 
 -- a change keeps the bases
 pub bases_fed : (store : StoreState) (change : List Portion) (old new : EngineState) → AreFed store change old.table.files new.table.files → KeepBases old new

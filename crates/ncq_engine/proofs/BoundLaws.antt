@@ -21,6 +21,7 @@ use Rattle.ncq_engine.proofs.CachedLaws.{Goes, cached_right}
 use Rattle.ncq_engine.proofs.EngineLaws.{follows_cached, follows_still}
 use Rattle.ncq_engine.proofs.InvariantLaws.{Invariant}
 use Rattle.ncq_engine.proofs.Keeping.{mark_is}
+use Rattle.ncq_engine.proofs.PlanningLaws.{kept_alike}
 
 module _ (labels : List Label) (h : History) (store : StoreState) (table : TableState) (last : (name : List ℕ) → last_in store name ≡ last_change name h) (rising : IsRising h) where
   marked_one : (s : Subscription) (m : Kept) → Keeps labels h s m → CanTell labels store table m → IsMarked table.files h s m
@@ -50,7 +51,8 @@ bounded e holds facts h s = record {
 
 -- so an engine that follows a history, shares its files, keeps of what was told what is right, and counts of those with DISTINCT alone stands for it
 pub stands_of : (e : EngineState) (h : History) → Follows e h → IsBounded e h → Shares e.subscriptions e.table → AreToldRight h e.table e.cache → KeepsCounts e.subscriptions e.distinct → Stands e h
-stands_of e h follows bounded shares cached counts = record { follows = follows; bounded = bounded; shares = shares; cached = cached; counts = counts }
+stands_of e h follows bounded shares cached counts =
+    record { follows = follows; bounded = bounded; shares = shares; cached = cached; counts = counts; alike = λ bare. kept_alike e.labels h bare (live h) e.subscriptions follows.subscriptions }
 
 -- behind a command that keeps what is kept an engine stands for what it follows
 pub stands_behind : (old e : EngineState) {earlier later : History} → Goes earlier later → Stands old earlier → Follows e later → IsBounded e later → Shares e.subscriptions e.table → AllServe e.table e.cache → KeepsCounts e.subscriptions e.distinct → KeepsCache old e → Stands e later
@@ -66,6 +68,7 @@ stands_with e e' places is h s = subst (λ (x : EngineState). Stands x h) (sym i
   shares = s.shares;
   cached = s.cached;
   counts = s.counts;
+  alike = s.alike;
 })
 
 -- nor does it matter that what is kept of what was told is given back
@@ -76,4 +79,5 @@ stands_shed e e' is h s = subst (λ (x : EngineState). Stands x h) (sym is) (rec
   shares = s.shares;
   cached = tt;
   counts = s.counts;
+  alike = s.alike;
 })

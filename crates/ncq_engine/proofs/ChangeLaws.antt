@@ -86,12 +86,12 @@ some_if true n = refl
 some_if false n = refl
 
 -- a change writes nothing down
-keep_noted : (labels : List Label) (h : History) (changed : List Section) (subs : List Subscription) (ms : List Kept) → Pairwise (Keeps labels h) subs ms → AllByRecursion (FiresFirst h) subs
+keep_noted : (labels : List Label) (h : History) (changed : List Section) (subs : List Subscription) (ms : List Kept) → Installed (Delta changed ∷ h) subs → Pairwise (Keeps labels h) subs ms → AllByRecursion (FiresFirst h) subs
     → Pairwise (Keeps labels (Delta changed ∷ h)) subs ms
-keep_noted labels h changed [] [] p f = tt
-keep_noted labels h changed [] (m ∷ ms) p f = absurd p
-keep_noted labels h changed (s ∷ subs) [] p f = absurd p
-keep_noted labels h changed (s ∷ subs) (m ∷ ms) p f = (keeps_noted labels h (Delta changed) s m p.0 (delta_notes s h changed f.0), keep_noted labels h changed subs ms p.1 f.1)
+keep_noted labels h changed [] [] i p f = tt
+keep_noted labels h changed [] (m ∷ ms) i p f = absurd p
+keep_noted labels h changed (s ∷ subs) [] i p f = absurd p
+keep_noted labels h changed (s ∷ subs) (m ∷ ms) i p f = (keeps_noted labels h (Delta changed) s m i.0 p.0 (delta_notes s h changed f.0), keep_noted labels h changed subs ms i.1 p.1 f.1)
 
 fires_now : (h : History) (changed : List Section) (s : Subscription) (d : ℕ) → fires s h (Delta changed) ≡ Some d → d ≡ now h
 fires_now h changed s d e = by (is_installed s h && is_told_of changed s h) e
@@ -165,7 +165,7 @@ module _ (engine : EngineState) (ready after_store : StoreState) (fed : TableSta
       changes = changes_are;
       clock = s.clock;
       creates = s.creates ∙ sym (zero-add (creates_of h));
-      subscriptions = keep_noted engine.labels h changed (live h) engine.subscriptions s.subscriptions (all_fired h);
+      subscriptions = keep_noted engine.labels h changed (live h) engine.subscriptions (installed (Delta changed ∷ h)) s.subscriptions (all_fired h);
       contents = contents;
       counted = counted;
       rising = rises_quietly h (Delta changed) refl s.rising;

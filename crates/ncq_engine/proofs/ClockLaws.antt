@@ -27,7 +27,7 @@ use Rattle.ncq_engine.specs.Notices.{firings}
 use Rattle.ncq_engine.specs.Output.{expired_line, expired_text, notices, refused_if}
 use Rattle.ncq_engine.specs.Stands.{AreContents, EngineState, Follows, Keeps}
 use Rattle.ncq_engine.proofs.EngineLaws.{accepts, pairwise_filter, pairwise_texts}
-use Rattle.ncq_engine.proofs.HistoryLaws.{Installed, installed}
+use Rattle.ncq_engine.proofs.HistoryLaws.{Installed, installed, installed_more}
 use Rattle.ncq_engine.proofs.ContentLaws.{contents_left, contents_stay}
 use Rattle.ncq_engine.proofs.Keeping.{Agrees, IsFirst, keep_all, mark_is}
 use Rattle.ncq_engine.proofs.MarkLaws.{clock_quiet}
@@ -108,6 +108,7 @@ module _ (engine : EngineState) (instant : ℕ) where
     kept : Pairwise (Keeps engine.labels (Clock instant ∷ h)) (live h) moved_subscriptions
     kept =
         keep_all engine.labels h (Clock instant) engine.store changes_are (λ m. is_some (moved_instant engine.store engine.clock instant m)) (live h) engine.subscriptions
+        (installed_more (Clock instant) h (live h) (installed h))
         (moved_agree engine.labels h engine.store s.last s.rising engine.clock instant s.clock (live h) engine.subscriptions firing)
 
     -- so do those that are left

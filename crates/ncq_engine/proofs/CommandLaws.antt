@@ -74,7 +74,7 @@ module _ (engine : EngineState) (out : List ℕ) (applied : Answered) (out' : Li
           changes = declares.changes ∙ s.changes ∙ sym (zero-add (changes h));
           clock = s.clock;
           creates = s.creates ∙ sym (zero-add (creates_of h));
-          subscriptions = keep_quiet engine.labels h (Declare name root key) (λ _. refl) (live h) engine.subscriptions s.subscriptions;
+          subscriptions = keep_quiet engine.labels h (Declare name root key) (λ _. refl) engine.subscriptions s.subscriptions;
           contents = contents_stay engine.table.files h (Declare name root key) (zero-add (changes h)) s.contents;
           counted = counted_quietly h (Declare name root key) (λ _. refl) engine.distinct (live h) s.counted;
           rising = rises_quietly h (Declare name root key) refl s.rising;
@@ -122,7 +122,7 @@ module _ (engine : EngineState) (out : List ℕ) (applied : Answered) (out' : Li
       left_kept : (h : History) → Follows engine h → Pairwise (Keeps engine.labels (Delete name ∷ h)) (live (Delete name ∷ h)) left
       left_kept h s = subst (λ (ms : List Kept). Pairwise (Keeps engine.labels (Delete name ∷ h)) (live (Delete name ∷ h)) ms) (sym gone)
           (pairwise_filter (Keeps engine.labels (Delete name ∷ h)) (λ s. not (is_named name s)) (λ m. not (bytes_eq name m.name)) (λ s m k. ap (λ t. not (bytes_eq name t)) (sym k.name)) (live h) engine.subscriptions
-          (keep_quiet engine.labels h (Delete name) (λ _. refl) (live h) engine.subscriptions s.subscriptions))
+          (keep_quiet engine.labels h (Delete name) (λ _. refl) engine.subscriptions s.subscriptions))
 
 module _ (engine : EngineState) (out : List ℕ) (result : Result Answered ApplyError) (new : EngineState) (out' : List ℕ)
     (same : new ≡ record engine { count = engine.count + 1 }) (untouched : out' ≡ out) where

@@ -8,7 +8,7 @@ use Rattle.std.specs.Str.{bytes_eq}
 use Rattle.ncq_base.specs.declared.atom.FileId.{FileId}
 use Rattle.ncq_bind.specs.Bindings.{Binds, roots_in}
 use Rattle.ncq_book.specs.declared.subscription.Subscription.{Subscription as Kept}
-use Rattle.ncq_book.specs.Books.{InstallsRise, is_of, subscription_of}
+use Rattle.ncq_book.specs.Books.{alike, InstallsRise, is_of, subscription_of}
 use Rattle.ncq_book.proofs.Lists.{each_leads}
 use Rattle.ncq_cache.specs.Cached.{Cached}
 use Rattle.ncq_callback.specs.Labels.{Label}
@@ -23,10 +23,12 @@ use Rattle.ncq_group.specs.Tables.{Facts, TableState, mark_of}
 use Rattle.ncq_group.specs.declared.mark.GroupMark.{GroupMark}
 use Rattle.ncq_plan.specs.declared.expr.Expr.{Expr}
 use Rattle.ncq_plan.specs.declared.query.NormalQuery.{NormalQuery}
+use Rattle.ncq_plan.specs.Late.{bare_of}
 use Rattle.ncq_plan.specs.Plans.{plan_of}
+use Rattle.ncq_strategy.specs.Choices.{choice_of, plan_by}
 use Rattle.ncq_plan.specs.WellFormed.{IsWellFormed}
-use Rattle.ncq_plan.proofs.PlanFits.{plan_is_well_formed}
-use Rattle.ncq_live.specs.LiveTables.{HasJoined, LiveState}
+use Rattle.ncq_strategy.proofs.ChoiceLaws.{either_formed}
+use Rattle.ncq_live.specs.LiveTables.{HasJoined, LiveState, plan_in}
 use Rattle.ncq_script.specs.declared.command.Command.TheVariants.{Create}
 use Rattle.ncq_shelf.specs.Contents.{AreUpTo, Fits}
 use Rattle.ncq_shelf.specs.Contents.{cut_to}
@@ -58,14 +60,15 @@ use Rattle.ncq_engine.proofs.InvariantLaws.{Invariant, invariant_added, invarian
 use Rattle.ncq_engine.proofs.KeptCounts.{counts_settled}
 use Rattle.ncq_engine.proofs.Lists.{each_more, each_push}
 use Rattle.ncq_engine.proofs.NotedLaws.{any_flip}
-use Rattle.ncq_engine.proofs.ScanLaws.{asked_is}
+use Rattle.ncq_engine.proofs.PlanningLaws.{plan_new}
+use Rattle.ncq_engine.proofs.ScanLaws.{asked_is, either_scans}
 use Rattle.ncq_engine.proofs.TableLaws.{can_new}
 use Rattle.ncq_engine.proofs.UndoLaws.{at_mark_again, subscriptions_back, table_again}
 
 -- the subscription came in, with the file of its plan
 pub record IsIn (inside : EngineState) (query : NormalQuery) (made : FileId → Kept) (live_table : LiveState) : Type 0 where
   pub file : FileId
-  pub installed : IsInstalled (plan_of query) inside.table live_table.table file.0
+  pub installed : IsInstalled (plan_new inside query) inside.table live_table.table file.0
   pub subscriptions : live_table.subscriptions ≡ inside.subscriptions ++ made file ∷ []
   pub fits : Fits inside.table.number (world_in inside.store) live_table.table.files
   pub instant : live_table.instant ≡ inside.clock
@@ -98,7 +101,7 @@ pub record IsRead (e : EngineState) (statement : Statement) (query : NormalQuery
 
 -- the subscription that comes of them, with this file
 abbrev pub made : EngineState → Statement → NormalQuery → ℕ → FileId → Kept
-made e statement query action file = new_subscription statement query (timed statement e.clock) action e.creates file
+made e statement query action file = new_subscription statement query (alike (bare_of query) e.subscriptions) (timed statement e.clock) action e.creates file
 
 module _ (e : EngineState) (statement : Statement) (query : NormalQuery) (action : ℕ) (holds : Invariant e) (read : IsRead e statement query action) where
   abbrev own : FileId → Kept
@@ -120,10 +123,13 @@ module _ (e : EngineState) (statement : Statement) (query : NormalQuery) (action
     own_can : CanTell e.labels e.store live_table.table (own inn.file)
     own_can =
         can_new e.labels e.store live_table.table (world_in e.store) fits_now (own inn.file) read.formed read.within refl inn.installed.stands
-        (λ any. asked_is statement read.whole any ∙ ap (λ (q : NormalQuery). latest_in any (scanned_by (plan_of q))) (sym read.binds.answer))
+        (λ any. asked_is statement read.whole any ∙ ap (λ (q : NormalQuery). latest_in any (scanned_by (plan_of q))) (sym read.binds.answer)
+        ∙ ap (latest_in any) (sym (either_scans (choice_of query (alike (bare_of query) e.subscriptions)) query read.formed.some)))
 
     added : Invariant (record e { count = e.count + 1; creates = e.creates + 1; subscriptions = all; table = live_table.table })
-    added = invariant_added (counted_engine e) (plan_of query) live_table.table inn.file.0 (own inn.file) (invariant_counted e holds) inn.installed fits_now (plan_is_well_formed query read.formed).small own_can refl few
+    added =
+        invariant_added (counted_engine e) (plan_new e query) live_table.table inn.file.0 (own inn.file) (invariant_counted e holds) inn.installed fits_now
+        (either_formed (choice_of query (alike (bare_of query) e.subscriptions)) query read.formed).small own_can refl few
 
     rise : InstallsRise all
     rise = added.rise
@@ -190,6 +196,10 @@ read_in e statement m i = record {
   timely = i.timely;
 }
 
+-- its plan is that of a query that comes now
+pub planned_now : (e : EngineState) (statement : Statement) (m : Kept) → IsSubscriptionOf e statement m → plan_in m ≡ plan_new e m.query
+planned_now e statement m its = ap (λ (k : Kept). plan_by k.choice m.query) its.made
+
 pub free_is : (e : EngineState) (statement : Statement) (m : Kept) → IsSubscriptionOf e statement m → list_any (λ n. bytes_eq m.name n.name) e.subscriptions ≡ false
 free_is e statement m i = ap (λ (k : Kept). list_any (λ (n : Kept). bytes_eq k.name n.name) e.subscriptions) i.made ∙ i.free
 
@@ -198,7 +208,7 @@ above_is e statement m i holds = above_all e.creates e.subscriptions m.install h
 
 -- it is one, as the calls of a create tell
 pub subscription_of_it : (e : EngineState) (known : List Label) → e.labels ≡ known → (statement : Statement) (query : NormalQuery) (action : ℕ) (timing : Timing) (subscription : Kept) → timing ≡ timed statement e.clock
-    → subscription ≡ new_subscription statement query timing action e.creates subscription.file
+    → subscription ≡ new_subscription statement query (alike (bare_of query) e.subscriptions) timing action e.creates subscription.file
     → IsWhole statement → Binds statement.query (roots_in e.store) (Ok query) → IsWellFormed query → action < length known → kind_at known action ≡ kind_in statement.action known → name_at known action ≡ Some statement.action
     → is_at_odds (kind_at known action) statement.argument ≡ false → list_any (λ m. bytes_eq statement.name m.name) e.subscriptions ≡ false → is_expired timing timing.start ≡ false
     → IsSubscriptionOf e statement subscription
@@ -216,8 +226,8 @@ subscription_of_it e known handled statement query action timing subscription no
       made = refl;
     })
   where
-    subscription_is : subscription ≡ new_subscription statement query (timed statement e.clock) action e.creates subscription.file
-    subscription_is = one ∙ ap (λ t. new_subscription statement query t action e.creates subscription.file) now
+    subscription_is : subscription ≡ new_subscription statement query (alike (bare_of query) e.subscriptions) (timed statement e.clock) action e.creates subscription.file
+    subscription_is = one ∙ ap (λ t. new_subscription statement query (alike (bare_of query) e.subscriptions) t action e.creates subscription.file) now
 
 -- the engine with this live table behind a create, what is kept of what was told, and the counts
 abbrev pub created_engine : EngineState → LiveState → List Cached → DistinctTable → EngineState
@@ -228,7 +238,7 @@ created_engine e after cache distinct =
 pub record HasCome (e : EngineState) (statement : Statement) (m : Kept) (plan : Expr) (live_table : LiveState) : Type 0 where
   pub holds : Invariant e
   pub its : IsSubscriptionOf e statement m
-  pub planned : plan ≡ plan_of m.query
+  pub planned : plan ≡ plan_in m
   pub joined : HasJoined plan m (live_of e) live_table
   pub fits : Fits e.table.number (world_in e.store) live_table.table.files
   pub instant : live_table.instant ≡ e.clock
@@ -245,7 +255,7 @@ module _ {e : EngineState} {statement : Statement} {m : Kept} {plan : Expr} {liv
   inn : IsIn (counted_engine e) m.query made_with live_table
   inn = record {
     file = c.joined.file;
-    installed = subst (λ p. IsInstalled p e.table live_table.table c.joined.file.0) c.planned c.joined.installed;
+    installed = subst (λ p. IsInstalled p e.table live_table.table c.joined.file.0) (c.planned ∙ planned_now e statement m c.its) c.joined.installed;
     subscriptions = c.joined.subscriptions ∙ ap (λ (k : Kept). e.subscriptions ++ record k { file = c.joined.file } ∷ []) c.its.made;
     fits = c.fits;
     instant = c.instant;
@@ -263,7 +273,7 @@ module _ {e : EngineState} {statement : Statement} {m : Kept} {plan : Expr} {liv
 
   -- what is kept of what was told serves
   pub come_serve : AllServe live_table.table e.cache
-  come_serve = serve_installed (plan_of m.query) e.table live_table.table inn.file.0 inn.installed inn.installed.order e.cache c.holds.serve
+  come_serve = serve_installed (plan_new e m.query) e.table live_table.table inn.file.0 inn.installed inn.installed.order e.cache c.holds.serve
 
   module _ (firings : List Firing) (started : firings ≡ flat_map (started_at live_table.instant live_table.subscriptions) ((e.creates + 1) ∷ []))
       (after : LiveState) (noted : after ≡ record live_table { subscriptions = noted_by e.store.changes firings live_table.subscriptions }) where
@@ -289,7 +299,7 @@ module _ {e : EngineState} {statement : Statement} {m : Kept} {plan : Expr} {liv
     pub come_keeps : (cache : List Cached) → Grows live_table.table e.cache cache → KeepsPairs e.table e.cache after.table cache
     come_keeps cache grows =
         subst (λ (l : LiveState). KeepsPairs e.table e.cache l.table cache) (sym after_is)
-        (keeps_grown e.table live_table.table e.cache cache c.holds.serve (of_old_installed (plan_of m.query) e.table live_table.table inn.file.0 inn.installed inn.installed.order) grows)
+        (keeps_grown e.table live_table.table e.cache cache c.holds.serve (of_old_installed (plan_new e m.query) e.table live_table.table inn.file.0 inn.installed inn.installed.order) grows)
 
     -- the answer to the create, by what was told of the files as they are then
     pub come_answers : (known : List Label) → e.labels ≡ known → (out out' : List ℕ) (answered : Answered) (cache : List Cached) (distinct : DistinctTable) → HasSettled e.store live_table firings e.distinct distinct

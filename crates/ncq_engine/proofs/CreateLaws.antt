@@ -25,7 +25,10 @@ use Rattle.ncq_event.specs.Orders.{ordered_by}
 use Rattle.ncq_group.specs.Installs.{IsInstalled}
 use Rattle.ncq_group.specs.Tables.{TableState}
 use Rattle.ncq_plan.specs.declared.query.NormalQuery.{NormalQuery}
-use Rattle.ncq_plan.specs.Plans.{plan_of}
+use Rattle.ncq_plan.specs.Late.{bare_of}
+use Rattle.ncq_strategy.specs.Choices.{choice_of}
+use Rattle.ncq_book.specs.Books.{alike}
+use Rattle.ncq_engine.proofs.PlanningLaws.{new_alike, plan_new}
 use Rattle.ncq_shelf.specs.Contents.{AreUpTo, Fits}
 use Rattle.ncq_script.specs.declared.command.Command.{Command}
 use Rattle.ncq_script.specs.declared.command.Command.TheVariants.{Create}
@@ -177,13 +180,15 @@ none_above most (m ∷ ms) few =
 -- the new subscription is kept, as it has not fired
 keeps_new : (engine : EngineState) (statement : Statement) (query : NormalQuery) (action : ℕ) (file : FileId)
     → IsWhole statement → Binds statement.query (roots_in engine.store) (Ok query) → kind_at engine.labels action ≡ kind_in statement.action engine.labels → name_at engine.labels action ≡ Some statement.action
-    → (h : History) → Follows engine h → Keeps engine.labels h (created statement h) (new_subscription statement query (timed statement engine.clock) action engine.creates file)
+    → (h : History) → Follows engine h → Keeps engine.labels h (created statement h) (new_subscription statement query (alike (bare_of query) engine.subscriptions) (timed statement engine.clock) action engine.creates file)
 keeps_new engine statement query action file whole binds kind named h s = record {
   name = refl;
   sources = refl;
   whole = whole;
   bound = binds.bound;
   query = binds.answer;
+  bare = refl;
+  choice = ap (choice_of query) (new_alike engine h s statement query binds.answer);
   distinct = refl;
   timing = λ i. timed statement (s.clock i);
   kind = kind;
@@ -205,9 +210,9 @@ keeps_new engine statement query action file whole binds kind named h s = record
 
 module _ (engine : EngineState) (table : TableState) (statement : Statement) (query : NormalQuery) (action : ℕ) (file : FileId)
     (whole : IsWhole statement) (binds : Binds statement.query (roots_in engine.store) (Ok query)) (kind : kind_at engine.labels action ≡ kind_in statement.action engine.labels) (named : name_at engine.labels action ≡ Some statement.action)
-    (done : IsInstalled (plan_of query) engine.table table file.0) (number : engine.table.number ≡ engine.store.changes) (fits : Fits engine.table.number (world_in engine.store) table.files) (upto : AreUpTo engine.store.changes table.files) where
+    (done : IsInstalled (plan_new engine query) engine.table table file.0) (number : engine.table.number ≡ engine.store.changes) (fits : Fits engine.table.number (world_in engine.store) table.files) (upto : AreUpTo engine.store.changes table.files) where
   abbrev made : Kept
-  made = new_subscription statement query (timed statement engine.clock) action engine.creates file
+  made = new_subscription statement query (alike (bare_of query) engine.subscriptions) (timed statement engine.clock) action engine.creates file
 
   abbrev all : List Kept
   all = engine.subscriptions ++ made ∷ []
@@ -217,10 +222,10 @@ module _ (engine : EngineState) (table : TableState) (statement : Statement) (qu
 
   -- the subscriptions behind the create
   abbrev pub created_subscriptions : List Kept
-  created_subscriptions = map (λ m. fired_if (is_some (created_instant engine.clock (engine.creates + 1) m)) engine.store m) (engine.subscriptions ++ new_subscription statement query (timed statement engine.clock) action engine.creates file ∷ [])
+  created_subscriptions = map (λ m. fired_if (is_some (created_instant engine.clock (engine.creates + 1) m)) engine.store m) (engine.subscriptions ++ new_subscription statement query (alike (bare_of query) engine.subscriptions) (timed statement engine.clock) action engine.creates file ∷ [])
 
   abbrev pub created_list : List NoticeText
-  created_list = told_of engine.labels engine.store table.files engine.distinct (created_instant engine.clock (engine.creates + 1)) (engine.subscriptions ++ new_subscription statement query (timed statement engine.clock) action engine.creates file ∷ [])
+  created_list = told_of engine.labels engine.store table.files engine.distinct (created_instant engine.clock (engine.creates + 1)) (engine.subscriptions ++ new_subscription statement query (alike (bare_of query) engine.subscriptions) (timed statement engine.clock) action engine.creates file ∷ [])
 
   -- the counts behind the create are right
   abbrev pub AreCountedBehind : DistinctTable → Type 0
@@ -264,7 +269,7 @@ module _ (engine : EngineState) (table : TableState) (statement : Statement) (qu
     own_keeps = keeps_new engine statement query action file whole binds kind named h s
 
     pub firing : Pairwise (λ s m. Keeps engine.labels h s m × (created_instant engine.clock (engine.creates + 1) m ≡ fires s h (Create statement))) (live h ++ created statement h ∷ [])
-        (engine.subscriptions ++ new_subscription statement query (timed statement engine.clock) action engine.creates file ∷ [])
+        (engine.subscriptions ++ new_subscription statement query (alike (bare_of query) engine.subscriptions) (timed statement engine.clock) action engine.creates file ∷ [])
     firing = pairwise_push (λ s m. Keeps engine.labels h s m × (instant m ≡ fires s h (Create statement))) (live h) engine.subscriptions own made (olds_fire (live h) engine.subscriptions s.subscriptions (installed h) below) (own_keeps, own_fires)
 
     olds_agree : (subs : List Subscription) (ms : List Kept) → Pairwise (Keeps engine.labels h) subs ms → Installed h subs → AllByRecursion (λ n. n.install < made.install) ms
@@ -275,7 +280,7 @@ module _ (engine : EngineState) (table : TableState) (statement : Statement) (qu
     olds_agree (x ∷ subs) (m ∷ ms) p i b = ((p.0, (ap is_some (quiet_one engine.clock made.install m b.0 ∙ sym (old_quiet statement h x i.0)), old_first x i.0)), olds_agree subs ms p.1 i.1 b.1)
 
     kept : Pairwise (Keeps engine.labels (Create statement ∷ h)) (live h ++ own ∷ []) created_subscriptions
-    kept = keep_all engine.labels h (Create statement) engine.store same_changes (λ m. is_some (instant m)) (live h ++ own ∷ []) all
+    kept = keep_all engine.labels h (Create statement) engine.store same_changes (λ m. is_some (instant m)) (live h ++ own ∷ []) all (installed (Create statement ∷ h))
         (pairwise_push (λ s m. Keeps engine.labels h s m × (Agrees (is_some (instant m)) (fires s h (Create statement)) × IsFirst s h (Create statement))) (live h) engine.subscriptions own made
         (olds_agree (live h) engine.subscriptions s.subscriptions (installed h) below) (own_keeps, (ap is_some own_fires, own_first)))
 
@@ -291,7 +296,7 @@ module _ (engine : EngineState) (table : TableState) (statement : Statement) (qu
     upto_now = subst (λ n. AreUpTo n table.files) same_changes upto
 
     contents_are : AreContents table.files (Create statement ∷ h)
-    contents_are = contents_installed (plan_of query) engine.table table file.0 h (Create statement) done (number ∙ s.changes) (zero-add (changes h))
+    contents_are = contents_installed (plan_new engine query) engine.table table file.0 h (Create statement) done (number ∙ s.changes) (zero-add (changes h))
         (subst (λ n. Fits n (world (sources (Create statement ∷ h))) table.files) (number ∙ s.changes) (subst (λ w. Fits engine.table.number w table.files) (sym (world_is engine.store (sources h) s.sources)) fits)) s.contents
 
     -- the engine with the new subscription behind the others, and its counts

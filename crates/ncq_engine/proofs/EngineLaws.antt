@@ -18,6 +18,7 @@ use Rattle.ncq_engine.specs.Applies.{Applies, GivesUp, ok_text}
 use Rattle.ncq_engine.specs.Engines.{Pairwise}
 use Rattle.ncq_engine.specs.Firing.{fires}
 use Rattle.ncq_engine.specs.History.{History, Subscription, live, moved, now}
+use Rattle.ncq_engine.proofs.HistoryLaws.{Installed, installed, installed_more}
 use Rattle.ncq_engine.specs.Marks.{IsRising}
 use Rattle.ncq_engine.specs.Languages.{language_of}
 use Rattle.ncq_engine.specs.Notices.{fired_at, firings_in_order}
@@ -187,11 +188,14 @@ pub told_nobody : (h : History) (command : Command) → ((s : Subscription) → 
 told_nobody h command quiet = ap (ordered_by (λ f. f.0)) (nobody h command quiet _)
 
 module _ (labels : List Label) (h : History) (command : Command) (quiet : (s : Subscription) → fires s h command ≡ None) where
-  pub keep_quiet : (subs : List Subscription) (ms : List Kept) → Pairwise (Keeps labels h) subs ms → Pairwise (Keeps labels (command ∷ h)) subs ms
-  keep_quiet [] [] p = tt
-  keep_quiet [] (m ∷ ms) p = absurd p
-  keep_quiet (s ∷ subs) [] p = absurd p
-  keep_quiet (s ∷ subs) (m ∷ ms) p = (keeps_quiet labels h command s m p.0 (quiet s), keep_quiet subs ms p.1)
+  keep_each : (subs : List Subscription) (ms : List Kept) → Installed (command ∷ h) subs → Pairwise (Keeps labels h) subs ms → Pairwise (Keeps labels (command ∷ h)) subs ms
+  keep_each [] [] i p = tt
+  keep_each [] (m ∷ ms) i p = absurd p
+  keep_each (s ∷ subs) [] i p = absurd p
+  keep_each (s ∷ subs) (m ∷ ms) i p = (keeps_quiet labels h command s m i.0 p.0 (quiet s), keep_each subs ms i.1 p.1)
+
+  pub keep_quiet : (ms : List Kept) → Pairwise (Keeps labels h) (live h) ms → Pairwise (Keeps labels (command ∷ h)) (live h) ms
+  keep_quiet ms = keep_each (live h) ms (installed_more command h (live h) (installed h))
 
 -- what tests alike is kept alike
 module _ {A B : Type 0} (R : A → B → Type 0) (f : A → Bool) (g : B → Bool) (alike : (x : A) (y : B) → R x y → f x ≡ g y) where

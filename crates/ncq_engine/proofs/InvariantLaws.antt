@@ -13,8 +13,7 @@ use Rattle.ncq_plan.specs.Exprs.{World, operators, rows_in}
 use Rattle.ncq_midfile.specs.Content.{IsContent}
 use Rattle.ncq_midfile.specs.Files.{FileState}
 use Rattle.ncq_shelf.specs.KeptFiles.{Files}
-use Rattle.ncq_plan.specs.Plans.{plan_of}
-use Rattle.ncq_live.specs.LiveTables.{IsLiveTable, LiveState}
+use Rattle.ncq_live.specs.LiveTables.{IsLiveTable, LiveState, plan_in}
 use Rattle.ncq_shelf.specs.Contents.{AreUpTo, Fits}
 use Rattle.ncq_shelf.specs.Stands.{Stands as HasFile}
 use Rattle.ncq_source.specs.declared.change.Portion.{Portion}
@@ -304,7 +303,7 @@ rise_filter keep (m ∷ ms) r =
       | false ↦ rise_filter keep ms r.1
     ]
 
-can_all : (e : EngineState) (table : TableState) → AreOf e.table.files table.files → table.number ≡ e.table.number → (ms : List Kept) → AllByRecursion (λ m. HasFile table.files (plan_of m.query) m.file.0) ms
+can_all : (e : EngineState) (table : TableState) → AreOf e.table.files table.files → table.number ≡ e.table.number → (ms : List Kept) → AllByRecursion (λ m. HasFile table.files (plan_in m) m.file.0) ms
     → AllByRecursion (CanTell e.labels e.store e.table) ms → AllByRecursion (CanTell e.labels e.store table) ms
 can_all e table left same [] f c = tt
 can_all e table left same (m ∷ ms) f c = (can_left e.labels e.store e.table table left same m f.0 c.0, can_all e table left same ms f.1 c.1)

@@ -8,10 +8,13 @@ use Rattle.ncq_source.specs.StoreStates.{StoreState}
 use Rattle.ncq_book.specs.declared.subscription.Subscription.{Subscription as Kept}
 use Rattle.ncq_engine.specs.Engines.{Pairwise, fired_if, last_in, latest_in, mark_in}
 use Rattle.ncq_engine.specs.Firing.{fires, mark, marked, sources_of}
-use Rattle.ncq_engine.specs.History.{History, Subscription, changes, last_change}
+use Rattle.ncq_engine.specs.History.{History, Subscription, changes, creates, last_change}
 use Rattle.ncq_engine.specs.Marks.{IsRising, first_mark, first_marked, latest_change, noted}
 use Rattle.ncq_engine.specs.Stands.{Keeps}
+use Rattle.ncq_engine.proofs.HistoryLaws.{Installed}
 use Rattle.ncq_engine.proofs.MarkLaws.{marks_follow}
+use Rattle.ncq_engine.proofs.PlanningLaws.{alike_stays}
+use Rattle.ncq_strategy.specs.Choices.{choice_of}
 
 changes_grow : (command : Command) (before : History) → changes before ≤ changes (command ∷ before)
 changes_grow command before = omega arith
@@ -37,14 +40,17 @@ mark_is labels h s m k rising store last =
     ∙ (λ i. if s.statement.every == 0 then option_map (λ first. max first (latest_is store h last (sources_of s.statement) i)) (noted s h) else noted s h)
     ∙ sym (marks_follow s h rising)
 
--- a subscription whose mark is written down as it is behind the command is kept
-pub keeps_as : (labels : List Label) (h : History) (command : Command) (s : Subscription) (m : Kept) → Keeps labels h s m → (written : Option ℕ) → written ≡ noted s (command ∷ h) → Keeps labels (command ∷ h) s (record m { noted = written })
-keeps_as labels h command s m k written e = record {
+-- a subscription that was created up to the command, and whose mark is written down as it is behind it, is kept
+pub keeps_as : (labels : List Label) (h : History) (command : Command) (s : Subscription) (m : Kept) → s.install ≤ creates (command ∷ h) → Keeps labels h s m → (written : Option ℕ) → written ≡ noted s (command ∷ h)
+    → Keeps labels (command ∷ h) s (record m { noted = written })
+keeps_as labels h command s m there k written e = record {
   name = k.name;
   sources = k.sources;
   whole = k.whole;
   bound = k.bound;
   query = k.query;
+  bare = k.bare;
+  choice = k.choice ∙ ap (choice_of m.query) (sym (alike_stays labels s command h there));
   distinct = k.distinct;
   timing = k.timing;
   kind = k.kind;
@@ -55,8 +61,8 @@ keeps_as labels h command s m k written e = record {
 }
 
 -- a command that writes nothing down keeps it as it is
-pub keeps_noted : (labels : List Label) (h : History) (command : Command) (s : Subscription) (m : Kept) → Keeps labels h s m → noted s (command ∷ h) ≡ noted s h → Keeps labels (command ∷ h) s m
-keeps_noted labels h command s m k e = keeps_as labels h command s m k m.noted (k.marked ∙ sym e)
+pub keeps_noted : (labels : List Label) (h : History) (command : Command) (s : Subscription) (m : Kept) → s.install ≤ creates (command ∷ h) → Keeps labels h s m → noted s (command ∷ h) ≡ noted s h → Keeps labels (command ∷ h) s m
+keeps_noted labels h command s m there k e = keeps_as labels h command s m there k m.noted (k.marked ∙ sym e)
 
 -- nothing is written down of what does not fire
 pub quiet_note : (s : Subscription) (h : History) (command : Command) → fires s h command ≡ None → noted s (command ∷ h) ≡ noted s h
@@ -70,8 +76,8 @@ quiet_note s h command quiet =
     unmarked None = refl
     unmarked (Some number) = refl
 
-pub keeps_quiet : (labels : List Label) (h : History) (command : Command) (s : Subscription) (m : Kept) → Keeps labels h s m → fires s h command ≡ None → Keeps labels (command ∷ h) s m
-keeps_quiet labels h command s m k quiet = keeps_noted labels h command s m k (quiet_note s h command quiet)
+pub keeps_quiet : (labels : List Label) (h : History) (command : Command) (s : Subscription) (m : Kept) → s.install ≤ creates (command ∷ h) → Keeps labels h s m → fires s h command ≡ None → Keeps labels (command ∷ h) s m
+keeps_quiet labels h command s m there k quiet = keeps_noted labels h command s m there k (quiet_note s h command quiet)
 
 -- what is written down of what fires: of a timer the number of now, and of one that fires at changes that too where it is its first firing
 pub fired_note : (s : Subscription) (h : History) (command : Command) (instant : ℕ) → fires s h command ≡ Some instant → (s.statement.every == 0 ≡ true → first_mark s h ≡ None) → Some (changes (command ∷ h)) ≡ noted s (command ∷ h)
@@ -94,20 +100,20 @@ abbrev pub IsFirst : Subscription → History → Command → Type 0
 IsFirst s h command = (instant : ℕ) → fires s h command ≡ Some instant → s.statement.every == 0 ≡ true → first_mark s h ≡ None
 
 module _ (labels : List Label) (h : History) (command : Command) (store : StoreState) (count : store.changes ≡ changes (command ∷ h)) where
-  pub keeps_one : (s : Subscription) (m : Kept) (test : Bool) → Agrees test (fires s h command) → Keeps labels h s m → IsFirst s h command → Keeps labels (command ∷ h) s (fired_if test store m)
-  keeps_one s m test agrees k first = by_firing (fires s h command) refl test agrees
+  pub keeps_one : (s : Subscription) (m : Kept) (test : Bool) → s.install ≤ creates (command ∷ h) → Agrees test (fires s h command) → Keeps labels h s m → IsFirst s h command → Keeps labels (command ∷ h) s (fired_if test store m)
+  keeps_one s m test there agrees k first = by_firing (fires s h command) refl test agrees
     where
       by_firing : (o : Option ℕ) → fires s h command ≡ o → (test : Bool) → Agrees test o → Keeps labels (command ∷ h) s (fired_if test store m)
       by_firing None e true a = absurd (true≢false a)
-      by_firing None e false a = keeps_quiet labels h command s m k e
-      by_firing (Some instant) e true a = keeps_as labels h command s m k (Some store.changes) (ap Some count ∙ fired_note s h command instant e (first instant e))
+      by_firing None e false a = keeps_quiet labels h command s m there k e
+      by_firing (Some instant) e true a = keeps_as labels h command s m there k (Some store.changes) (ap Some count ∙ fired_note s h command instant e (first instant e))
       by_firing (Some instant) e false a = absurd (true≢false (sym a))
 
   -- so it is of all that are live
-  pub keep_all : (test : Kept → Bool) (subs : List Subscription) (ms : List Kept)
+  pub keep_all : (test : Kept → Bool) (subs : List Subscription) (ms : List Kept) → Installed (command ∷ h) subs
       → Pairwise (λ s m. Keeps labels h s m × (Agrees (test m) (fires s h command) × IsFirst s h command)) subs ms
       → Pairwise (Keeps labels (command ∷ h)) subs (map (λ m. fired_if (test m) store m) ms)
-  keep_all test [] [] p = tt
-  keep_all test [] (m ∷ ms) p = absurd p
-  keep_all test (s ∷ subs) [] p = absurd p
-  keep_all test (s ∷ subs) (m ∷ ms) p = (keeps_one s m (test m) p.0.1.0 p.0.0 p.0.1.1, keep_all test subs ms p.1)
+  keep_all test [] [] i p = tt
+  keep_all test [] (m ∷ ms) i p = absurd p
+  keep_all test (s ∷ subs) [] i p = absurd p
+  keep_all test (s ∷ subs) (m ∷ ms) i p = (keeps_one s m (test m) i.0 p.0.1.0 p.0.0 p.0.1.1, keep_all test subs ms i.1 p.1)

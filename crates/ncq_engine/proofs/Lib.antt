@@ -7,6 +7,7 @@ pub mod AskedLaws
 pub mod NoticeLaws
 pub mod KeptCounts
 pub mod CountedLaws
+pub mod PlanningLaws
 pub mod Keeping
 pub mod ToldLaws
 pub mod Places

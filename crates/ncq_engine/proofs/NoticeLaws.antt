@@ -21,6 +21,10 @@ use Rattle.ncq_news.proofs.CallerLemmas.{all_tell, since_tell}
 use Rattle.ncq_plan.specs.declared.query.NormalQuery.{NormalQuery}
 use Rattle.ncq_plan.specs.Exprs.{World, rows_in}
 use Rattle.ncq_plan.specs.Plans.{plan_of}
+use Rattle.ncq_plan.specs.WellFormed.{IsWellFormed as IsPlannable}
+use Rattle.ncq_plan.specs.declared.expr.Expr.{Expr}
+use Rattle.ncq_strategy.proofs.ChoiceLaws.{either_rows}
+use Rattle.ncq_live.specs.LiveTables.{plan_in}
 use Rattle.ncq_plan.specs.Residuals.{passes}
 use Rattle.ncq_plan.specs.Templates.{constructed}
 use Rattle.ncq_pyx.specs.Canonical.{pyx}
@@ -57,6 +61,10 @@ answer_is statement query whole bound is w =
     each_bytes query (filter (passes query.residual) (rows_in (plan_of query) w))
     ∙ ap (map pyx) (bound_answers statement query whole bound is w)
 
+-- its file has the rows of the plan that selects first, by either choice
+pub own_rows : (m : Kept) (expr : Expr) → expr ≡ plan_in m → IsPlannable m.query → (w : World) → rows_in expr w ≡ rows_in (plan_of m.query) w
+own_rows m expr own formed w = ap (λ e. rows_in e w) own ∙ either_rows m.choice m.query w formed
+
 -- so it is of what is kept, from the rows of the plan then
 at_mark : (labels : List Label) (h : History) (s : Subscription) (m : Kept) → Keeps labels h s m → (w : World) → answers_in m.query (rows_in (plan_of m.query) w) ≡ map pyx (all s.statement.query w)
 at_mark labels h s m k w = answer_is s.statement m.query k.whole k.bound k.query w
@@ -88,7 +96,7 @@ module _ (labels : List Label) (h : History) (command : Command) (store : StoreS
     then_rows number = rows_in (plan_of m.query) (world (sources (up_to number (command ∷ h))))
 
     content_then : (number : ℕ) → can.file.content.base ≤ number → number ≤ changes (command ∷ h) → IsContent number rows (then_rows number)
-    content_then number low high = subst (λ e. IsContent number rows (rows_in e (world (sources (up_to number (command ∷ h)))))) can.own (contents m.file.0 can.file number can.at low high)
+    content_then number low high = subst (IsContent number rows) (own_rows m can.file.expr can.own can.formed (world (sources (up_to number (command ∷ h))))) (contents m.file.0 can.file number can.at low high)
 
     whole : up_to (changes (command ∷ h)) (command ∷ h) ≡ command ∷ h
     whole = up_to_whole (changes (command ∷ h)) (command ∷ h) (let w : nat_le (changes (command ∷ h)) (changes (command ∷ h)) ≡ true = grind (arith, nat_tests) in w)

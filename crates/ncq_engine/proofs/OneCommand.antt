@@ -1,14 +1,17 @@
 -- A batch is answered as a delta of its sections: the two are one command but for their name.
 use Rattle.std.proofs.Common.{◌≡◌, ◌∙◌, ℕ, true, false, List, [], ◌∷◌, ◌++◌, map, refl, ap, subst}
-use Rattle.std.specs.Prelude.{Option, Some, None, Result, Ok, Err, nat_le, if◌then◌else◌}
+use Rattle.std.specs.Prelude.{Option, Some, None, Result, Ok, Err, nat_le, nat_lt, if◌then◌else◌}
 use Rattle.std.specs.List.{AllByRecursion}
 use Rattle.ncq_bag.specs.Bags.{count_in}
 use Rattle.ncq_bind.specs.Answers.{all}
+use Rattle.ncq_bind.specs.NormalQueries.{normal_query}
 use Rattle.ncq_book.specs.declared.subscription.Subscription.{Subscription as Kept}
 use Rattle.ncq_callback.specs.Labels.{Label}
 use Rattle.ncq_distinct.specs.DistinctTables.{DistinctTable}
 use Rattle.ncq_midfile.specs.Content.{IsContent}
 use Rattle.ncq_plan.specs.Exprs.{World, rows_in}
+use Rattle.ncq_plan.specs.Late.{bare_of}
+use Rattle.ncq_strategy.specs.Choices.{choice_of}
 use Rattle.ncq_pyx.specs.Canonical.{pyx}
 use Rattle.ncq_script.specs.declared.command.Command.TheVariants.{Delta, Batch}
 use Rattle.ncq_shelf.specs.KeptFiles.{Files}
@@ -18,9 +21,11 @@ use Rattle.ncq_engine.specs.Applies.{Applies}
 use Rattle.ncq_engine.specs.DistinctCounts.{all_at, IsCounted}
 use Rattle.ncq_engine.specs.Engines.{Pairwise}
 use Rattle.ncq_engine.specs.Firing.{mark}
-use Rattle.ncq_engine.specs.History.{History, Source, Subscription, changes, live, sources, up_to, with_items, with_sections, world}
+use Rattle.ncq_engine.specs.History.{History, Source, Subscription, changes, creates, live, sources, up_to, with_items, with_sections, world}
+use Rattle.ncq_engine.specs.Languages.{language_of}
 use Rattle.ncq_engine.specs.Notices.{Language}
 use Rattle.ncq_engine.specs.Output.{output}
+use Rattle.ncq_engine.specs.Plannings.{alike_before, alike_in, before_create}
 use Rattle.ncq_engine.specs.Stands.{AreContents, EngineState, Follows, Keeps}
 use Rattle.ncq_engine.specs.Works.{IsWithinWork}
 use Rattle.ncq_engine.specs.declared.telling.Answered.{Answered}
@@ -39,6 +44,14 @@ module _ (changed : List Section) (h : History) where
   contents_too : (files : Files) → AreContents files (Delta changed ∷ h) → AreContents files (Batch changed ∷ h)
   contents_too files contents number file change at low few = subst (λ (w : World). IsContent change file.content.rows (rows_in file.expr w)) (same_up_to change) (contents number file change at low few)
 
+  alike_too : (labels : List Label) (s : Subscription) → alike_before (language_of labels) (Delta changed ∷ h) s ≡ alike_before (language_of labels) (Batch changed ∷ h) s
+  alike_too labels s =
+      let among = alike_in (language_of labels) (bare_of (normal_query s.statement.query)) in
+      elim (nat_lt (creates h) s.install) as (λ t. among (live (if t then Delta changed ∷ h else before_create s.install h)) ≡ among (live (if t then Batch changed ∷ h else before_create s.install h))) [
+        | true ↦ refl
+        | false ↦ refl
+      ]
+
   keeps_too : (labels : List Label) (subs : List Subscription) (ms : List Kept) → Pairwise (Keeps labels (Delta changed ∷ h)) subs ms → Pairwise (Keeps labels (Batch changed ∷ h)) subs ms
   keeps_too labels [] [] p = tt
   keeps_too labels [] (m ∷ ms) p = absurd p
@@ -51,6 +64,8 @@ module _ (changed : List Section) (h : History) where
           whole = k.whole;
           bound = k.bound;
           query = k.query;
+          bare = k.bare;
+          choice = k.choice ∙ ap (choice_of m.query) (alike_too labels s);
           distinct = k.distinct;
           timing = k.timing;
           kind = k.kind;

@@ -11,7 +11,6 @@ use Rattle.ncq_live.specs.LiveTables.{plan_in}
 use Rattle.ncq_plan.specs.declared.expr.Expr.{Expr}
 use Rattle.ncq_plan.specs.declared.expr.Expr.TheVariants.{Scan, EqSel, RangeSel, Join}
 use Rattle.ncq_plan.specs.ExprLists.{AreApart, IsIn, is_expr}
-use Rattle.ncq_plan.specs.Plans.{plan_of}
 use Rattle.ncq_plan.proofs.ExprCases.{expr_cases, expr_induction, para_scan, para_equal, para_range, para_join}
 use Rattle.ncq_plan.proofs.ExprListLaws.{any_in, in_any, in_behind, in_either, in_front}
 use Rattle.ncq_report.specs.Lines.{AreTheSame}
@@ -23,8 +22,10 @@ use Rattle.ncq_engine.specs.Engines.{Pairwise}
 use Rattle.ncq_engine.specs.History.{History, Subscription}
 use Rattle.ncq_engine.specs.Languages.{language_of}
 use Rattle.ncq_engine.specs.Notices.{Language}
-use Rattle.ncq_engine.specs.Reports.{closure, distinct, live_plans, parts, parts_step, plan_for, with_expr}
+use Rattle.ncq_engine.specs.Plannings.{live_plans, plan_at}
+use Rattle.ncq_engine.specs.Reports.{closure, distinct, parts, parts_step, with_expr}
 use Rattle.ncq_engine.specs.Stands.{Keeps}
+use Rattle.ncq_engine.proofs.PlanningLaws.{plan_is}
 
 -- an expression is the first of its parts
 first_part : (whole : Expr) → IsIn whole (parts whole)
@@ -152,8 +153,8 @@ apart_closure language h = distinct_apart (flat_map parts (live_plans language h
 
 -- the plans of what is kept of the subscriptions are the plans of the subscriptions
 pub plans_are : (labels : List Label) (h : History) (subs : List Subscription) (ms : List Kept) → Pairwise (Keeps labels h) subs ms
-    → map plan_in ms ≡ map (plan_for (language_of labels)) subs
+    → map plan_in ms ≡ map (plan_at (language_of labels) h) subs
 plans_are labels h [] [] p = refl
 plans_are labels h [] (m ∷ ms) p = absurd p
 plans_are labels h (s ∷ subs) [] p = absurd p
-plans_are labels h (s ∷ subs) (m ∷ ms) p = λ i. plan_of (p.0.query i) ∷ plans_are labels h subs ms p.1 i
+plans_are labels h (s ∷ subs) (m ∷ ms) p = λ i. plan_is labels h s m p.0 i ∷ plans_are labels h subs ms p.1 i

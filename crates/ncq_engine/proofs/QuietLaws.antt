@@ -33,7 +33,7 @@ use Rattle.ncq_engine.proofs.AskedLaws.{other_stays, same_all, same_bag, stays_s
 use Rattle.ncq_engine.proofs.HistoryLaws.{key_is}
 use Rattle.ncq_engine.proofs.Keeping.{mark_few, mark_is}
 use Rattle.ncq_engine.proofs.MarkLaws.{any_named, last_few, marks_follow}
-use Rattle.ncq_engine.proofs.NoticeLaws.{answer_is, news_is}
+use Rattle.ncq_engine.proofs.NoticeLaws.{own_rows, answer_is, news_is}
 use Rattle.ncq_engine.proofs.StartedLaws.{FiresFirst}
 use Rattle.ncq_engine.proofs.Worlds.{world_at_mark}
 
@@ -146,7 +146,7 @@ module _ (labels : List Label) (h : History) (changed : List Section) (store : S
         content_then : (number : ℕ) → can.file.content.base ≤ number → number ≤ changes h → IsContent number can.file.content.rows (then_rows number)
         content_then number low few =
             let within : number ≤ changes (Delta changed ∷ h) = omega (arith, few) in
-            subst (λ (e : Expr). IsContent number can.file.content.rows (rows_in e (world (sources (up_to number h))))) can.own
+            subst (IsContent number can.file.content.rows) (own_rows m can.file.expr can.own can.formed (world (sources (up_to number h))))
             (subst (λ (w : World). IsContent number can.file.content.rows (rows_in can.file.expr w)) (world_at_mark number (Delta changed) h few)
             (contents m.file.0 can.file number can.at low within))
 

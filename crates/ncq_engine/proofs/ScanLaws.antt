@@ -10,13 +10,18 @@ use Rattle.ncq_bind.specs.NormalQueries.{normal_query}
 use Rattle.ncq_bind.specs.Places.{places}
 use Rattle.ncq_bind.specs.declared.constraint.Constraint.{Constraint}
 use Rattle.ncq_plan.proofs.CallerLemmas.{fold_scan, fold_equal, fold_range, fold_join}
+use Rattle.ncq_plan.specs.Late.{bare_arm, bare_of, equals_from, ranges_from}
 use Rattle.ncq_plan.specs.Plans.{arm_plan, arms_plan, plan_of, with_arms, with_equals, with_ranges}
 use Rattle.ncq_plan.specs.declared.expr.Expr.{Expr}
 use Rattle.ncq_plan.specs.declared.expr.Expr.TheVariants.{Scan, EqSel, RangeSel, Join}
 use Rattle.ncq_plan.specs.declared.query.Arm.{Arm}
 use Rattle.ncq_plan.specs.declared.query.EqualTo.{EqualTo}
+use Rattle.ncq_plan.specs.declared.query.NormalQuery.{NormalQuery}
 use Rattle.ncq_plan.specs.declared.query.Within.{Within}
 use Rattle.ncq_source.specs.StoreStates.{StoreState}
+use Rattle.ncq_strategy.specs.Choices.{plan_by}
+use Rattle.ncq_strategy.specs.declared.choice.Choice.{Choice}
+use Rattle.ncq_strategy.specs.declared.choice.Choice.TheVariants.{SelectFirst, JoinFirst}
 use Rattle.ncq_xmlql.specs.ItemReading.{has_arm}
 use Rattle.ncq_xmlql.specs.WellFormed.{IsWellFormed, begins_with_match, item_is_whole}
 use Rattle.ncq_xmlql.specs.declared.model.Pattern.{Pattern}
@@ -53,6 +58,24 @@ joined_scans (arm ∷ arms) plan =
 pub scans_are : (arms : List Arm) → 1 ≤ length arms → scanned_by (arms_plan arms) ≡ map (λ arm. arm.source) arms
 scans_are [] some = absurd (omega arith)
 scans_are (arm ∷ arms) some = joined_scans arms (arm_plan arm) ∙ ap (λ scanned. scanned ++ map (λ arm. arm.source) arms) (arm_scans arm)
+
+-- so it is by either choice
+bare_sources : (arms : List Arm) → map (λ arm. arm.source) (map bare_arm arms) ≡ map (λ arm. arm.source) arms
+bare_sources [] = refl
+bare_sources (arm ∷ arms) = ap (λ names. arm.source ∷ names) (bare_sources arms)
+
+some_bare : (arms : List Arm) → 1 ≤ length arms → 1 ≤ length (map bare_arm arms)
+some_bare [] some = absurd (omega arith)
+some_bare (arm ∷ arms) some = omega arith
+
+pub either_scans : (choice : Choice) (query : NormalQuery) → 1 ≤ length query.arms → scanned_by (plan_by choice query) ≡ scanned_by (plan_of query)
+either_scans SelectFirst query some = refl
+either_scans JoinFirst query some =
+    ranges_scans (ranges_from 0 query.arms) (with_equals (bare_of query) (equals_from 0 query.arms))
+    ∙ equals_scans (equals_from 0 query.arms) (bare_of query)
+    ∙ scans_are (map bare_arm query.arms) (some_bare query.arms some)
+    ∙ bare_sources query.arms
+    ∙ sym (scans_are query.arms some)
 
 -- ---- the sources of a normal query's arms
 

@@ -16,7 +16,7 @@ use Rattle.ncq_midfile.specs.Files.{FileState}
 use Rattle.ncq_midfile.specs.Content.{IsSoundAt}
 use Rattle.ncq_plan.specs.declared.expr.Expr.{Expr}
 use Rattle.ncq_plan.specs.Exprs.{World, rows_in}
-use Rattle.ncq_plan.specs.Plans.{plan_of}
+use Rattle.ncq_live.specs.LiveTables.{plan_in}
 use Rattle.ncq_plan.specs.WellFormed.{IsWellFormed}
 use Rattle.ncq_shelf.specs.KeptFiles.{KeptFile, Files}
 use Rattle.ncq_shelf.specs.Stands.{Stands as HasFile}
@@ -131,7 +131,7 @@ installed_still expr old new at w done fits number file here =
     ]
 
 -- a subscription whose file is left
-pub can_left : (labels : List Label) (store : StoreState) (old new : TableState) → AreOf old.files new.files → new.number ≡ old.number → (m : Kept) → HasFile new.files (plan_of m.query) m.file.0 → CanTell labels store old m → CanTell labels store new m
+pub can_left : (labels : List Label) (store : StoreState) (old new : TableState) → AreOf old.files new.files → new.number ≡ old.number → (m : Kept) → HasFile new.files (plan_in m) m.file.0 → CanTell labels store old m → CanTell labels store new m
 can_left labels store old new left same m has can =
     let was = left m.file.0 has.file has.at in
     let one : Some was.0 ≡ Some can.file = sym was.1 ∙ can.at in
@@ -150,8 +150,8 @@ can_left labels store old new left same m has can =
     }
 
 -- a subscription that is new has not fired
-pub can_new : (labels : List Label) (store : StoreState) (table : TableState) (w : World) → Fits table.number w table.files → (m : Kept) → IsWellFormed m.query → m.action < length labels → m.noted ≡ None → HasFile table.files (plan_of m.query) m.file.0
-    → ((any : StoreState) → latest_in any m.sources ≡ latest_in any (scanned_by (plan_of m.query))) → CanTell labels store table m
+pub can_new : (labels : List Label) (store : StoreState) (table : TableState) (w : World) → Fits table.number w table.files → (m : Kept) → IsWellFormed m.query → m.action < length labels → m.noted ≡ None → HasFile table.files (plan_in m) m.file.0
+    → ((any : StoreState) → latest_in any m.sources ≡ latest_in any (scanned_by (plan_in m))) → CanTell labels store table m
 can_new labels store table w fits m formed action none has asked = record {
   formed = formed;
   action = action;

@@ -1,5 +1,5 @@
 -- What a command costs is at most its work.
-use Rattle.std.proofs.Common.{◌≡◌, ◌≢◌, ℕ, zero, suc, ◌+◌, ◌≤◌, true, false, cond, List, [], ◌∷◌, length, map, ◌⊎◌, inl, inr, refl, sym, ◌∙◌, ap, subst, arith, true≢false}
+use Rattle.std.proofs.Common.{◌≡◌, ◌≢◌, ℕ, zero, suc, ◌+◌, ◌≤◌, true, false, cond, List, [], ◌∷◌, ◌++◌, length, map, ◌⊎◌, inl, inr, refl, sym, ◌∙◌, ap, subst, arith, true≢false}
 use Rattle.std.specs.Prelude.{Option, Some, None, Ok, slice_get}
 use Rattle.std.specs.FinMap.{get, entries, entries_sorted, get-entries, find, is_sorted}
 use Rattle.std.specs.FinMap.Entries.{below_all}
@@ -22,7 +22,6 @@ use Rattle.ncq_plan.specs.declared.expr.Expr.{Expr}
 use Rattle.ncq_plan.specs.declared.query.NormalQuery.{NormalQuery}
 use Rattle.ncq_plan.specs.Deltas.{delta_of}
 use Rattle.ncq_plan.specs.Exprs.{World}
-use Rattle.ncq_plan.specs.Plans.{plan_of}
 use Rattle.ncq_live.specs.Shares.{Shares}
 use Rattle.ncq_script.specs.declared.command.Command.TheVariants.{Delta, Create}
 use Rattle.ncq_shelf.specs.KeptFiles.{KeptFile, Files}
@@ -38,9 +37,10 @@ use Rattle.ncq_source.specs.StoreStates.{ArePortionsOf, FollowsPortion, IsAlike,
 use Rattle.ncq_source.specs.declared.change.Entry.{Entry}
 use Rattle.ncq_source.specs.declared.change.Portion.{Portion}
 use Rattle.ncq_source.specs.declared.change.Section.{Section}
-use Rattle.ncq_engine.specs.History.{History, live, sources, with_sections, world}
+use Rattle.ncq_engine.specs.History.{History, Subscription, created, live, sources, with_sections, world}
 use Rattle.ncq_engine.specs.Languages.{language_of}
 use Rattle.ncq_engine.specs.Output.{first_refusal, sections_refusal, unless_refused}
+use Rattle.ncq_engine.specs.Plannings.{plan_at}
 use Rattle.ncq_engine.specs.Stands.{EngineState, Follows, content_of}
 use Rattle.ncq_engine.specs.Works.{IsWorkUpTo, delta_rows, entries_for, made_rows}
 use Rattle.ncq_engine.proofs.ChangeAnswers.{mid_engine}
@@ -51,6 +51,7 @@ use Rattle.ncq_engine.proofs.CreateLaws.{binds_freely, create_refusal}
 use Rattle.ncq_engine.proofs.InvariantLaws.{world_alike}
 use Rattle.ncq_engine.proofs.Moved.{entries_are, moved, portions_alike, same_holdings, world_committed}
 use Rattle.ncq_engine.proofs.PartLaws.{plans_are}
+use Rattle.ncq_engine.proofs.PlanningLaws.{new_plan_is, plan_new}
 use Rattle.ncq_engine.proofs.Places.{room_is_no_content}
 use Rattle.ncq_engine.proofs.Worlds.{world_is}
 use Rattle.ncq_xmlql.specs.declared.model.Statement.{Statement}
@@ -220,16 +221,21 @@ module _ (e : EngineState) (ready : StoreState) (changed : List Section) (change
         let few : feed_work inside.store change inside.table.files ≤ bound = subst (λ (x : EngineState). feed_work x.store change x.table.files ≤ bound) (sym is) (change_cost shares bound work) in
         omega (arith, few, steps)
 
+-- a part of the last one's plan is a part of one
+part_of_last : (plan : Subscription → Expr) (part : Expr) (last : Subscription) (subs : List Subscription) → IsPart part (plan last) → IsPartOfOne part (map plan (subs ++ last ∷ []))
+part_of_last plan part last [] is = inl is
+part_of_last plan part last (s ∷ subs) is = inr (part_of_last plan part last subs is)
+
 -- To install the plan of an accepted create costs at most the work of the create: there is a list
 -- of expressions that names each part of the plan without a file, and its rows are within the
 -- work. A part without a file is no part of a live subscription's plan.
 pub create_cost : (e : EngineState) (h : History) → Follows e h → Shares e.subscriptions e.table → (statement : Statement) (query : NormalQuery) → Binds statement.query (roots_in e.store) (Ok query)
     → first_refusal (language_of e.labels) h (Create statement) ≡ None → (bound : ℕ) → IsWorkUpTo (language_of e.labels) h (Create statement) bound
-    → (exprs : List Expr) × NamesTheMissing e.table.files (plan_of query) exprs × (rows_of_all (world_in e.store) exprs ≤ bound)
+    → (exprs : List Expr) × NamesTheMissing e.table.files (plan_new e query) exprs × (rows_of_all (world_in e.store) exprs ≤ bound)
 create_cost e h s shares statement query binds none bound work = (
   work.0,
   λ part is missing. work.1 part (
-    subst (λ (n : NormalQuery). IsPart part (plan_of n)) binds.answer is,
+    part_of_last (plan_at (language_of e.labels) (Create statement ∷ h)) part (created statement h) (live h) (subst (IsPart part) (new_plan_is e h s statement query binds.answer) is),
     λ one. missing ((shares.kept part).1 (subst (IsPartOfOne part) (sym (plans_are e.labels h (live h) e.subscriptions s.subscriptions)) one)),
   ),
   (let same : rows_of_all (world_in e.store) work.0 ≡ made_rows h (Create statement) work.0 = ap (λ (w : World). rows_of_all w work.0) (sym (world_is e.store (sources h) s.sources)) in
@@ -246,7 +252,7 @@ create_allowed e h s statement query action read =
 -- The same by the names of the code: the steps that adding the new subscription may take are within the
 -- work of the create.
 pub create_steps : (e inside : EngineState) → inside ≡ counted_engine e → (h : History) → Follows e h → Shares e.subscriptions e.table
-    → (statement : Statement) (query : NormalQuery) (action : ℕ) → IsRead e statement query action → (plan : Expr) → plan ≡ plan_of query
+    → (statement : Statement) (query : NormalQuery) (action : ℕ) → IsRead e statement query action → (plan : Expr) → plan ≡ plan_new e query
     → (bound : ℕ) → IsWorkUpTo (language_of e.labels) h (Create statement) bound
     → (old new : ℕ) → ((missing : List Expr) → NamesTheMissing inside.table.files plan missing → new ≤ old + rows_of_all (world_in inside.store) missing) → new ≤ old + bound
 create_steps e inside is h s shares statement query action read plan planned bound work old new steps =

@@ -18,7 +18,9 @@ use Rattle.ncq_event.specs.Instants.{due}
 use Rattle.ncq_event.specs.declared.firing.Firing.{Firing}
 use Rattle.ncq_event.specs.declared.timing.Timing.{Timing}
 use Rattle.ncq_plan.specs.declared.query.NormalQuery.{NormalQuery}
+use Rattle.ncq_plan.specs.Late.{bare_of}
 use Rattle.ncq_plan.specs.WellFormed.{IsWellFormed}
+use Rattle.ncq_strategy.specs.Choices.{choice_of}
 use Rattle.ncq_midfile.specs.Content.{IsSoundAt}
 use Rattle.ncq_midfile.specs.declared.signed.SignedRow.{SignedRow}
 use Rattle.ncq_shelf.specs.KeptFiles.{EachFile, KeptFile, Files}
@@ -154,12 +156,15 @@ notice_texts labels store files distinct m (Some instant) =
 abbrev pub InstallsAreUpTo : ℕ → List Kept → Type 0
 InstallsAreUpTo most subscriptions = AllByRecursion (λ m. m.install ≤ most) subscriptions
 
--- the subscription that a create makes, before its first firing
-abbrev pub new_subscription : Statement → NormalQuery → Timing → ℕ → ℕ → FileId → Kept
-new_subscription statement query timing action creates file = record {
+-- the subscription that a create makes where so many live ones have its bare plan, before its first
+-- firing
+abbrev pub new_subscription : Statement → NormalQuery → ℕ → Timing → ℕ → ℕ → FileId → Kept
+new_subscription statement query live timing action creates file = record {
   name = statement.name;
   sources = sources_of statement;
   query = query;
+  bare = bare_of query;
+  choice = choice_of query live;
   distinct = statement.query.distinct;
   file = file;
   timing = timing;

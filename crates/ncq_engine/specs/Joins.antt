@@ -4,8 +4,10 @@ use Rattle.std.specs.List.{list_any}
 use Rattle.std.specs.Str.{bytes_eq}
 use Rattle.ncq_bind.specs.Bindings.{Binds, roots_in}
 use Rattle.ncq_book.specs.declared.subscription.Subscription.{Subscription as Kept}
+use Rattle.ncq_book.specs.Books.{alike}
 use Rattle.ncq_event.specs.declared.timing.Timing.{Timing}
 use Rattle.ncq_event.specs.Instants.{is_expired}
+use Rattle.ncq_plan.specs.Late.{bare_of}
 use Rattle.ncq_plan.specs.WellFormed.{IsWellFormed}
 use Rattle.ncq_xmlql.specs.declared.model.Statement.{Statement}
 use Rattle.ncq_xmlql.specs.WellFormed.{IsWellFormed as IsWhole}
@@ -36,7 +38,8 @@ pub record IsSubscriptionOf (e : EngineState) (statement : Statement) (m : Kept)
   pub free : list_any (λ n. bytes_eq statement.name n.name) e.subscriptions ≡ false
   pub timely : is_expired (timed statement e.clock) (timed statement e.clock).start ≡ false
   pub made : m
-      ≡ new_subscription statement m.query (timed statement e.clock) m.action e.creates m.file
+      ≡ new_subscription statement m.query (alike (bare_of m.query) e.subscriptions)
+      (timed statement e.clock) m.action e.creates m.file
 
 -- it holds of each statement that the subscription is of
 abbrev pub OfStatement : EngineState → Kept → (Statement → Type 0) → Type 0

@@ -1,5 +1,5 @@
--- The language of this engine: what queries answer, which of them bind, their plans, and its
--- handlers.
+-- The language of this engine: what queries answer, which of them bind, how they are planned, and
+-- its handlers.
 use Rattle.std.specs.Prelude.{if◌then◌else◌, List, Option, Some, None}
 use Rattle.std.specs.Option.{option_map}
 use Rattle.ncq_bind.specs.Answers.{answer}
@@ -7,9 +7,10 @@ use Rattle.ncq_bind.specs.Bindings.{Roots, are_declared, have_roots}
 use Rattle.ncq_bind.specs.Bound.{query_is_bound}
 use Rattle.ncq_bind.specs.NormalQueries.{normal_query}
 use Rattle.ncq_callback.specs.Labels.{Label}
-use Rattle.ncq_plan.specs.Plans.{plan_of}
+use Rattle.ncq_plan.specs.Late.{bare_of}
 use Rattle.ncq_script.specs.declared.refusal.Refusal.{Refusal}
 use Rattle.ncq_script.specs.declared.refusal.Refusal.TheVariants as refusal
+use Rattle.ncq_strategy.specs.Choices.{plan_among}
 use Rattle.ncq_xmlql.specs.declared.model.Query.{Query}
 use Rattle.ncq_engine.specs.History.{Source, source_in}
 use Rattle.ncq_engine.specs.Notices.{Language}
@@ -32,6 +33,7 @@ abbrev pub language_of : List Label → Language
 language_of labels = record {
   answer = answer;
   binding = λ query sources. binding_refusal query (roots_of sources);
-  plan = λ query. plan_of (normal_query query);
+  bare = λ query. bare_of (normal_query query);
+  plan = λ query live. plan_among (normal_query query) live;
   handlers = labels;
 }

@@ -5,6 +5,7 @@ pub mod Notices
 pub mod Spans
 pub mod Reports
 pub mod Output
+pub mod Plannings
 pub mod Alone
 pub mod Marks
 pub mod Languages

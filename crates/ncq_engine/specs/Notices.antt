@@ -23,12 +23,13 @@ use Rattle.ncq_engine.specs.History.{live}
 use Rattle.ncq_engine.specs.Firing.{mark, fires}
 
 -- what the history leaves to the crates below: the answer of a query over a world, the refusal of
--- binding a query to the declared sources, the plan of a query that binds, and the kind of the
--- handler of each name
+-- binding a query to the declared sources, the bare plan of a query that binds, its plan where so
+-- many live queries have its bare plan, and the kind of the handler of each name
 pub record Language : Type 0 where
   pub answer : Query → World → List (List Node)
   pub binding : Query → List Source → Option Refusal
-  pub plan : Query → Expr
+  pub bare : Query → Expr
+  pub plan : Query → ℕ → Expr
   pub handlers : List (List ℕ × Kind)
 
 -- the kind of the handler of this name

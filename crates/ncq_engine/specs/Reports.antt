@@ -1,6 +1,6 @@
 -- What a report tells of a history: how much there is, and the groups of the parts of the live
 -- plans.
-use Rattle.std.specs.Prelude.{◌++◌, List, [], ◌∷◌, length, map, if◌then◌else◌}
+use Rattle.std.specs.Prelude.{◌++◌, List, [], ◌∷◌, length, if◌then◌else◌}
 use Rattle.std.specs.List.{flat_map, list_any}
 use Rattle.ncq_plan.specs.ExprLists.{is_expr}
 use Rattle.ncq_plan.specs.declared.expr.Expr.{Expr}
@@ -13,8 +13,9 @@ use Rattle.ncq_plan.specs.declared.expr.Expr.TheOpen.Expr-F.{Join as JoinLayer}
 use Rattle.ncq_plan.specs.declared.expr.Expr.TheVariants.{Scan, EqSel, RangeSel, Join}
 use Rattle.ncq_report.specs.Lines.{group_lines}
 use Rattle.ncq_report.specs.declared.report.Summary.{Summary}
-use Rattle.ncq_engine.specs.History.{History, Subscription, changes, live, sources}
+use Rattle.ncq_engine.specs.History.{History, changes, live, sources}
 use Rattle.ncq_engine.specs.Notices.{Language}
+use Rattle.ncq_engine.specs.Plannings.{live_plans}
 
 -- an expression and the parts of its inputs
 abbrev pub parts_step : Expr-F (Expr × List Expr) → List Expr
@@ -36,17 +37,9 @@ distinct [] = []
 distinct (expr ∷ more) = with_expr expr (distinct more)
 
 module _ (language : Language) where
-  -- the plan of a subscription
-  abbrev pub plan_for : Subscription → Expr
-  plan_for s = language.plan s.statement.query
-
-  -- the plans of the live subscriptions
-  abbrev pub live_plans : History → List Expr
-  live_plans history = map plan_for (live history)
-
   -- the parts of the live plans, each once
   abbrev pub closure : History → List Expr
-  closure history = distinct (flat_map parts (live_plans history))
+  closure history = distinct (flat_map parts (live_plans language history))
 
   -- what a report tells
   abbrev pub summary : History → Summary

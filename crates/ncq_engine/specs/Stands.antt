@@ -12,8 +12,12 @@ use Rattle.ncq_distinct.specs.DistinctTables.{distinct_code, DistinctTable}
 use Rattle.ncq_callback.specs.contracts.notice.Kind.{the_row as kind_row}
 use Rattle.ncq_book.specs.contracts.subscription.Subscription.{the_row as subscription_row}
 use Rattle.ncq_book.specs.declared.subscription.Subscription.{Subscription as Kept}
+use Rattle.ncq_book.specs.Books.{alike}
 use Rattle.ncq_midfile.specs.Content.{IsContent}
+use Rattle.ncq_plan.specs.declared.expr.Expr.{Expr}
 use Rattle.ncq_plan.specs.Exprs.{rows_in}
+use Rattle.ncq_plan.specs.Late.{bare_of}
+use Rattle.ncq_strategy.specs.Choices.{choice_of}
 use Rattle.ncq_shelf.specs.KeptFiles.{KeptFile, Files}
 use Rattle.ncq_shelf.specs.Contents.{AreUpTo}
 use Rattle.ncq_group.specs.Tables.{TableState, table_code}
@@ -29,8 +33,10 @@ use Rattle.ncq_engine.specs.Engines.{KeepsCounts, Pairwise, last_in}
 use Rattle.ncq_engine.specs.Firing.{mark, sources_of}
 use Rattle.ncq_engine.specs.History.{History, Source, Subscription, changes, creates, last_change}
 use Rattle.ncq_engine.specs.History.{live, now, sources, timing_of, up_to, world}
+use Rattle.ncq_engine.specs.Languages.{language_of}
 use Rattle.ncq_engine.specs.Marks.{IsRising, noted}
 use Rattle.ncq_engine.specs.Notices.{kind_in, name_at}
+use Rattle.ncq_engine.specs.Plannings.{alike_before, alike_in}
 
 -- what contracts see of an engine: the store, the clock, how many commands were answered and how
 -- many creates accepted, the names and kinds of its handlers, the live subscriptions in the order
@@ -112,7 +118,8 @@ content_of declared = record {
 }
 
 -- what is kept of a subscription is its own: its query is the normal query of its statement, which
--- is bound, and what is written down of its mark is what its mark follows from
+-- is bound, it is planned by those that were live just before its create, and what is written down
+-- of its mark is what its mark follows from
 pub record Keeps (labels : List Label) (history : History) (s : Subscription) (m : Kept)
     : Type 0 where
   pub name : m.name ≡ s.statement.name
@@ -120,6 +127,8 @@ pub record Keeps (labels : List Label) (history : History) (s : Subscription) (m
   pub whole : IsWellFormed s.statement
   pub bound : query_is_bound s.statement.query ≡ true
   pub query : m.query ≡ normal_query s.statement.query
+  pub bare : m.bare ≡ bare_of m.query
+  pub choice : m.choice ≡ choice_of m.query (alike_before (language_of labels) history s)
   pub distinct : m.distinct ≡ s.statement.query.distinct
   pub timing : m.timing ≡ timing_of s
   pub kind : option_map (λ label. label.1) (slice_get labels m.action)
@@ -150,6 +159,11 @@ pub record Follows (engine : EngineState) (history : History) : Type 0 where
   pub counted : AreCounted history engine.distinct
   pub rising : IsRising history
 
+-- of each bare plan there are as many kept subscriptions as live queries
+abbrev pub AreAlike : List Label → History → List Kept → Type 0
+AreAlike labels history subscriptions = (bare : Expr)
+    → alike bare subscriptions ≡ alike_in (language_of labels) bare (live history)
+
 -- the file that it has was made at its mark or before
 abbrev pub IsMarked : Files → History → Subscription → Kept → Type 0
 IsMarked files history s m =
@@ -168,10 +182,12 @@ pub record IsBounded (engine : EngineState) (history : History) : Type 0 where
   pub few_files : engine.table.next_file ≤ 256 * creates history
 
 -- the engine stands for the history, its subscriptions share their files, it is bounded, what it
--- keeps of what was told is right, and it keeps counts of live subscriptions with DISTINCT alone
+-- keeps of what was told is right, it keeps counts of live subscriptions with DISTINCT alone, and
+-- the next create is planned by the live queries
 pub record Stands (engine : EngineState) (history : History) : Type 0 where
   pub follows : Follows engine history
   pub bounded : IsBounded engine history
   pub shares : Shares engine.subscriptions engine.table
   pub cached : AreToldRight history engine.table engine.cache
   pub counts : KeepsCounts engine.subscriptions engine.distinct
+  pub alike : AreAlike engine.labels history engine.subscriptions

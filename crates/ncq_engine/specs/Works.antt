@@ -10,19 +10,18 @@ use Rattle.ncq_plan.specs.Totals.{SignedRow}
 use Rattle.ncq_pyx.specs.declared.item.Item.{Item}
 use Rattle.ncq_script.specs.declared.command.Command.{Command}
 use Rattle.ncq_script.specs.declared.command.Command.TheVariants.{Delta, Batch, Create}
-use Rattle.ncq_shelf.specs.Parts.{IsPart, IsPartOfOne}
+use Rattle.ncq_shelf.specs.Parts.{IsPartOfOne}
 use Rattle.ncq_source.specs.Sections.{items_for}
 use Rattle.ncq_source.specs.declared.change.Section.{Section}
 use Rattle.ncq_source.specs.Changes.{Trial, prepared}
 use Rattle.ncq_source.specs.Changes.Trial.{Good}
 use Rattle.ncq_source.specs.declared.change.Entry.{Entry}
-use Rattle.ncq_engine.specs.History.{History, Source, created, source_in, sources, with_sections}
-use Rattle.ncq_engine.specs.History.{world}
+use Rattle.ncq_engine.specs.History.{History, Source, source_in, sources, with_sections, world}
 use Rattle.ncq_engine.specs.Applies.{OfEach}
 use Rattle.ncq_engine.specs.Languages.{language_of}
 use Rattle.ncq_engine.specs.Notices.{Language}
 use Rattle.ncq_engine.specs.Output.{after, first_refusal, unless_refused}
-use Rattle.ncq_engine.specs.Reports.{live_plans, plan_for}
+use Rattle.ncq_engine.specs.Plannings.{live_plans}
 use Rattle.ncq_engine.specs.Stands.{EngineState}
 
 -- the entries of a trial that is good
@@ -46,12 +45,12 @@ delta_rows history changed expr =
     (scans_of (entries_for changed (sources history))) expr
 
 -- the expressions for which an accepted command makes rows: for a change the parts of the live
--- plans; for a create those of its plan that no live plan has
+-- plans; for a create the parts of the live plans behind it that no live plan before it has
 abbrev pub IsMade : Language → History → Command → Expr → Type 0
 IsMade language history (Delta changed) expr = IsPartOfOne expr (live_plans language history)
 IsMade language history (Batch changed) expr = IsPartOfOne expr (live_plans language history)
 IsMade language history (Create statement) expr =
-    IsPart expr (plan_for language (created statement history))
+    IsPartOfOne expr (live_plans language (Create statement ∷ history))
     × (IsPartOfOne expr (live_plans language history) → ⊥)
 IsMade language history command expr = ⊥
 

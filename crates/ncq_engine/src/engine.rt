@@ -27,6 +27,8 @@ ghost use Rattle.ncq_engine.specs.Joins.{IsSubscriptionOf, OfStatement};
 ghost use Rattle.ncq_engine.specs.Languages.{language_of};
 ghost use Rattle.ncq_engine.specs.Notices.{kind_in, name_at};
 ghost use Rattle.ncq_engine.specs.Output.{is_at_odds, first_refusal, accepted_text};
+ghost use Rattle.ncq_book.specs.Books.{alike};
+ghost use Rattle.ncq_plan.specs.Late.{bare_of};
 ghost use Rattle.ncq_plan.specs.WellFormed.{IsWellFormed};
 ghost use Rattle.ncq_script.specs.Proper.{IsProperCommand};
 ghost use Rattle.ncq_shelf.specs.KeptFiles.{AtFile};
@@ -42,7 +44,7 @@ use crate::expiry::{take_all, write_expired};
 use crate::span::{Span, Spans};
 use crate::telling::{Answered, answer_change, answer_create, note_all, tell, write_accepted};
 use crate::who::with_news;
-use ncq_base::{Bytes, Copied, FileId, Sequence, Steps};
+use ncq_base::{Bytes, Copied, FileId, Sequence, Shared, Steps};
 use ncq_bind::{BindError, bind};
 use ncq_book::Subscription;
 use ncq_cache::NoticeCache;
@@ -50,10 +52,11 @@ use ncq_callback::{Handlers, Kind};
 use ncq_distinct::DistinctTable;
 use ncq_event::{Timing, is_expired};
 use ncq_live::LiveTable;
-use ncq_plan::{NormalQuery, plan};
+use ncq_plan::{NormalQuery, bare};
 use ncq_report::{Summary, write_report};
 use ncq_script::{Command, Refusal};
 use ncq_source::{ChangeError, DeclareError, Key, Sections, Store};
+use ncq_strategy::plan_by;
 use ncq_xmlql::{QueryItem, Statement};
 use std::alloc::{AllocError, Global};
 use std::hash::RandomState;
@@ -674,7 +677,7 @@ impl Engine {
             IsWithinWork self.old (Command.Create statement) steps.old steps.new) }
     {
         self.live_table.facts();
-        let plan = plan(alloc, &subscription.query)?;
+        let plan = plan_by(alloc, subscription.choice, &subscription.query)?;
         let mark = self.live_table.mark();
         let install = self.creates + 1;
         self.live_table
@@ -721,15 +724,20 @@ impl Engine {
     ) -> Result<Subscription, AllocError>
         requires formed { IsWellFormed query }
         requires few { self.now.creates < 2 ^ 48 }
-        ensures { IfOk result (λ m.
-            m ≡ new_subscription statement.now query timing action self.now.creates m.file) }
+        ensures { IfOk result (λ m. m ≡ new_subscription statement.now query
+            (alike (bare_of query) self.now.subscriptions) timing action self.now.creates m.file) }
     {
+        let book = self.live_table.book();
+        let bare = book.share(Shared::new(alloc, bare(alloc, &query)?)?)?;
+        let choice = book.choose(&query, &bare);
         let sources = asked_by(alloc, statement.query.items.as_slice())?;
         let argument = argument_of(alloc, statement)?;
         Ok(Subscription {
             name: statement.name.copy(alloc)?,
             sources,
             query,
+            bare,
+            choice,
             distinct: statement.query.distinct,
             file: FileId(0),
             timing,

@@ -12,7 +12,8 @@ ghost use Rattle.ncq_engine.specs.History.{History, Subscription, sources};
 ghost use Rattle.ncq_engine.specs.Marks.{IsRising, mark_from, noted};
 ghost use Rattle.ncq_engine.specs.Notices.{Language};
 ghost use Rattle.ncq_engine.specs.Output.{output};
-ghost use Rattle.ncq_engine.specs.Reports.{closure, live_plans};
+ghost use Rattle.ncq_engine.specs.Plannings.{live_plans};
+ghost use Rattle.ncq_engine.specs.Reports.{closure};
 
 /// The notices of one name are what they are without the creates and deletes of all others.
 pub fn subscribers_are_apart()

@@ -70,8 +70,8 @@ gone g c statement come_in = record {
   instant = c.roll_back.ensures.instant ∙ c.remove.ensures.instant ∙ c.add.ensures.instant;
 }
 
-pub plan-requires : goal.plan-requires
-plan-requires g c = c.requires.some.1.formed
+pub plan_by-requires : goal.plan_by-requires
+plan_by-requires g c = c.requires.some.1.formed
 
 pub add-requires-clause-formed : goal.add-requires-clause-formed
 add-requires-clause-formed g c = c.requires.some.1.formed
