@@ -48,9 +48,9 @@ kept_alike placed ms old new kept same = record {
 
 module _ (placed : List Placed) (ms : List Subscription) (old new : Finders) (kept : IsKept ms placed old) (m : Subscription) where
   -- what is left of a number without the subscription
-  counted_less : (bare : Expr) → live_with new.strategy bare + has_bare bare m ≡ live_with old.strategy bare → live_with old.strategy bare ≡ alike bare ms → {rest : ℕ} → rest + has_bare bare m ≡ alike bare ms
+  less_left : (bare : Expr) → live_with new.strategy bare + has_bare bare m ≡ live_with old.strategy bare → live_with old.strategy bare ≡ alike bare ms → {rest : ℕ} → rest + has_bare bare m ≡ alike bare ms
       → live_with new.strategy bare ≡ rest
-  counted_less bare less all rest = omega arith
+  less_left bare less all rest = omega arith
 
   pub kept_more : (after : List Placed) → AllByRecursion (λ n. n.install < m.install) ms → list_any (is_named m.name) ms ≡ false → IsEnrolled m old new → after ≡ map placed_of (ms ++ m ∷ [])
       → IsKept (ms ++ m ∷ []) after new
@@ -77,7 +77,7 @@ module _ (placed : List Placed) (ms : List Subscription) (old new : Finders) (ke
         timed = (λ j. (less.calendar j).entries) ∙ (λ j. remove_entry (is_at (nat_cmp (same j))) (kept.timed j)) ∙ remove_pair (λ n. n.timing) i ms kept.rise;
         watched = λ w. less.watchers w ∙ ap (λ b. b && not (is_watch_of w m)) (kept.watched w) ∙ noted_less at_changes i ms m w kept.rise found;
         timers = λ w. less.timers w ∙ ap (λ b. b && not (is_timer_at w m)) (kept.timers w) ∙ noted_less at_instants i ms m w kept.rise found;
-        strategy = λ bare. counted_less bare (less.strategy bare) (kept.strategy bare) (alike_less bare i ms m kept.rise found);
+        strategy = λ bare. less_left bare (less.strategy bare) (kept.strategy bare) (alike_less bare i ms m kept.rise found);
       }
 
 -- the subscription of a number is taken

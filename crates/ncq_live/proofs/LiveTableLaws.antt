@@ -7,8 +7,9 @@ use Rattle.std.proofs.lemmas.Bool.{cases_eq, cases_lt}
 use Rattle.ncq_base.specs.declared.atom.FileId.{FileId}
 use Rattle.ncq_plan.specs.declared.expr.Expr.{Expr}
 use Rattle.ncq_plan.specs.declared.query.NormalQuery.{NormalQuery}
-use Rattle.ncq_plan.specs.Plans.{plan_of}
 use Rattle.ncq_plan.specs.WellFormed.{IsWellFormed}
+use Rattle.ncq_strategy.specs.declared.choice.Choice.{Choice}
+use Rattle.ncq_strategy.specs.Choices.{plan_by}
 use Rattle.ncq_source.specs.declared.change.Portion.{Portion}
 use Rattle.ncq_source.specs.StoreStates.{StoreState}
 use Rattle.ncq_shelf.specs.Contents.{AreFolded, KeepsContents}
@@ -267,19 +268,20 @@ module _ (old new : TableState) (subscriptions : List Subscription) (live_table 
     uses = uses_put;
   }
 
--- subscriptions were changed, but for their queries and files
-module _ (table : TableState) (change : Subscription → Subscription) (queries : (m : Subscription) → (change m).query ≡ m.query) (files : (m : Subscription) → (change m).file ≡ m.file) where
-  each_changed : (P : NormalQuery → FileId → Type 0) (subscriptions : List Subscription) → AllByRecursion (λ m. P m.query m.file) subscriptions → AllByRecursion (λ m. P m.query m.file) (map change subscriptions)
+-- subscriptions were changed, but for their choices, queries and files
+module _ (table : TableState) (change : Subscription → Subscription) (choices : (m : Subscription) → (change m).choice ≡ m.choice) (queries : (m : Subscription) → (change m).query ≡ m.query) (files : (m : Subscription) → (change m).file ≡ m.file) where
+  each_changed : (P : Choice → NormalQuery → FileId → Type 0) (subscriptions : List Subscription) → AllByRecursion (λ m. P m.choice m.query m.file) subscriptions
+      → AllByRecursion (λ m. P m.choice m.query m.file) (map change subscriptions)
   each_changed P [] all = tt
   each_changed P (m ∷ subscriptions) all = (
-    subst (λ q. P q (change m).file) (sym (queries m)) (subst (λ f. P m.query f) (sym (files m)) all.0),
+    subst (λ c. P c (change m).query (change m).file) (sym (choices m)) (subst (λ q. P m.choice q (change m).file) (sym (queries m)) (subst (λ f. P m.choice m.query f) (sym (files m)) all.0)),
     each_changed P subscriptions all.1,
   )
 
   table_changed : (subscriptions : List Subscription) → IsLiveTable table subscriptions → IsLiveTable table (map change subscriptions)
   table_changed subscriptions live_table = record {
-    formed = each_changed (λ q f. IsWellFormed q) subscriptions live_table.formed;
-    files = each_changed (λ q f. Stands table.files (plan_of q) f.0) subscriptions live_table.files;
+    formed = each_changed (λ c q f. IsWellFormed q) subscriptions live_table.formed;
+    files = each_changed (λ c q f. Stands table.files (plan_by c q) f.0) subscriptions live_table.files;
     uses = λ number file at. live_table.uses number file at ∙ sym (users_map number change files subscriptions);
   }
 
@@ -289,4 +291,5 @@ left field install number same m = elim (is_of install m) as (λ t. field (cond 
 
 pub table_noted : (table : TableState) (subscriptions : List Subscription) (install number : ℕ) → IsLiveTable table subscriptions → IsLiveTable table (map (with_note install number) subscriptions)
 table_noted table subscriptions install number =
-    table_changed table (with_note install number) (left (λ m. m.query) install number (λ m. refl)) (left (λ m. m.file) install number (λ m. refl)) subscriptions
+    table_changed table (with_note install number) (left (λ m. m.choice) install number (λ m. refl)) (left (λ m. m.query) install number (λ m. refl)) (left (λ m. m.file) install number (λ m. refl))
+    subscriptions

@@ -1,7 +1,7 @@
 use Rattle.std.proofs.Common.{◌≡◌, ◌∙◌, ◌<◌, ◌-◌, ◌^◌, ap, subst, sym, length}
 use Rattle.std.specs.List.{AllByRecursion}
 use Rattle.ncq_plan.specs.WellFormed.{IsWellFormedExpr}
-use Rattle.ncq_plan.proofs.PlanFits.{plan_is_well_formed}
+use Rattle.ncq_strategy.proofs.ChoiceLaws.{either_formed}
 use Rattle.ncq_book.specs.Books.{BookState}
 use Rattle.ncq_book.specs.declared.subscription.Subscription.{Subscription}
 use Rattle.ncq_change.specs.Stores.{world_in}
@@ -17,7 +17,7 @@ use Rattle.ncq_live.proofs.live_table.LiveTable.add.Given.{Over}
 use Rattle.ncq_live.proofs.live_table.LiveTable.add.Goals as goal
 
 pub install-requires-clause-formed : goal.install-requires-clause-formed
-install-requires-clause-formed g c = subst IsWellFormedExpr (sym c.requires.plan) (plan_is_well_formed c.args.subscription.query c.requires.formed)
+install-requires-clause-formed g c = subst IsWellFormedExpr (sym c.requires.plan) (either_formed c.args.subscription.choice c.args.subscription.query c.requires.formed)
 
 pub install-requires-clause-uses : goal.install-requires-clause-uses
 install-requires-clause-uses g c =
@@ -29,6 +29,9 @@ returns-in_err-file-clause-cost g c = λ missing names.
 
 pub add-requires-clause-above : goal.add-requires-clause-above
 add-requires-clause-above g c = subst (λ (r : LiveState). AllByRecursion (λ (m : Subscription). m.install < c.args.subscription.install) r.subscriptions) (sym c.self.view_is) c.requires.above
+
+pub add-requires-clause-few : goal.add-requires-clause-few
+add-requires-clause-few g c = subst (λ (r : LiveState). length r.subscriptions < 2 ^ 64 - 1) (sym c.self.view_is) c.requires.few
 
 pub invariant_of-self-in-Ok : goal.invariant_of-self-in-Ok
 invariant_of-self-in-Ok g c =
