@@ -130,7 +130,8 @@ impl Finders {
         requires { 1 ≤ live_with self.old.strategy subscription.now.bare }
         ensures { IsStruck subscription.now self.old self.new }
     {
-        self.strategy.forget(&subscription.bare);
+        let bare = &subscription.bare;
+        self.strategy.forget(bare);
         self.names.free(&subscription.name);
         self.calendar.remove(subscription.install);
         let file = subscription.file.0;

@@ -27,7 +27,7 @@ use Rattle.std.specs.FinMap.{empty, get}
 use Rattle.ncq_plan.specs.declared.expr.Expr.{Expr}
 use Rattle.ncq_plan.specs.Exprs.{expr_width}
 use Rattle.ncq_plan.specs.WellFormed.{arms_width}
-use Rattle.ncq_plan.proofs.CallerLemmas.{plan_is_wide}
+use Rattle.ncq_strategy.proofs.ChoiceLaws.{either_wide}
 use Rattle.ncq_shelf.specs.KeptFiles.{Files, KeptFile}
 use Rattle.ncq_source.specs.StoreStates.{StoreState}
 use Rattle.ncq_engine.specs.Cached.{AllServe, Grows, IsFresh, key_of}
@@ -102,7 +102,7 @@ module _ (labels : List Label) (m : Kept) (within : m.action < length labels) (i
 module _ (labels : List Label) (store : StoreState) (table : TableState) (m : Kept) (can : CanTell labels store table m) (facts : Facts table) (content : FileState) (is : content ≡ can.file.content) where
   pub wide_rows : (rows : List SignedRow) → AllByRecursion (λ (r : SignedRow). length r.row ≡ expr_width can.file.expr) rows → AllByRecursion (λ r. length r.row ≡ arms_width m.query.arms) rows
   wide_rows rows =
-      let w : expr_width can.file.expr ≡ arms_width m.query.arms = ap expr_width can.own ∙ plan_is_wide m.query can.formed in
+      let w : expr_width can.file.expr ≡ arms_width m.query.arms = ap expr_width can.own ∙ either_wide m.choice m.query can.formed in
       subst (λ n. AllByRecursion (λ (r : SignedRow). length r.row ≡ n) rows) w
 
   pub last_rows : AllByRecursion (λ r. r.number ≤ table.number) content.rows
