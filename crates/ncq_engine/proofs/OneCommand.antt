@@ -47,7 +47,7 @@ module _ (changed : List Section) (h : History) where
   alike_too : (labels : List Label) (s : Subscription) → alike_before (language_of labels) (Delta changed ∷ h) s ≡ alike_before (language_of labels) (Batch changed ∷ h) s
   alike_too labels s =
       let among = alike_in (language_of labels) (bare_of (normal_query s.statement.query)) in
-      elim (nat_lt (creates h) s.install) as (λ t. among (live (if t then Delta changed ∷ h else before_create s.install h)) ≡ among (live (if t then Batch changed ∷ h else before_create s.install h))) [
+      elim (nat_lt (creates (Delta changed ∷ h)) s.install) as (λ t. among (live (if t then Delta changed ∷ h else before_create s.install h)) ≡ among (live (if t then Batch changed ∷ h else before_create s.install h))) [
         | true ↦ refl
         | false ↦ refl
       ]
