@@ -109,7 +109,7 @@ fn script(alloc: Global) -> Result<Vec<u8>, AllocError> {
 }
 
 /// What the program writes for the script with these words.
-fn written(
+pub(super) fn written(
     rt: &impl Abort,
     host: &HostRuntime,
     words: &[&str],
@@ -125,7 +125,7 @@ fn written(
 }
 
 /// The lines from each that begins with `first` to the next `end`.
-fn told(alloc: Global, output: &[u8], first: &[u8]) -> Result<Vec<u8>, AllocError> {
+pub(super) fn told(alloc: Global, output: &[u8], first: &[u8]) -> Result<Vec<u8>, AllocError> {
     let mut own = Vec::new(alloc);
     let mut inside = false;
     for line in output.split(|byte| *byte == b'\n') {
@@ -140,7 +140,7 @@ fn told(alloc: Global, output: &[u8], first: &[u8]) -> Result<Vec<u8>, AllocErro
 }
 
 /// Whether a line is a refusal.
-fn is_refused(line: &[u8]) -> bool {
+pub(super) fn is_refused(line: &[u8]) -> bool {
     line.windows(9).any(|part| part == b" refused ".as_slice())
 }
 
