@@ -2,14 +2,19 @@
 ghost use Rattle.std.specs.Prelude.{◌≡◌, ◌<◌, ◌+◌, [], IfOk, OnOk};
 ghost use Rattle.std.specs.List.{AllByRecursion};
 
-use ncq_base::{Bytes, FileId, Sequence, bytes_of};
+use super::plans::{paired_quotes, priced_quotes};
+use ncq_base::{Bytes, FileId, Sequence, Shared, bytes_of};
 use ncq_book::{Book, Subscription};
 use ncq_event::{Firings, Timing};
-use ncq_plan::{Arms, NormalQuery, SlotTemplate, Tests};
+use ncq_plan::{Arms, Expr, NormalQuery, SlotTemplate, Tests, bare};
+use ncq_strategy::Choice;
 use std::alloc::{AllocError, Global};
 use std::hash::RandomState;
 use std::process::Abort;
 use std::test::Fail;
+
+/// More subscriptions than that are in no book.
+const ROOM: usize = 9;
 
 /// What subscriptions differ in: name; start, every, expiry; the number of the file.
 type Row = (&'static str, (u64, u64, Option<u64>), u64);
@@ -104,7 +109,20 @@ fn any_query(alloc: Global) -> NormalQuery {
     }
 }
 
-/// A subscription of this name and install number, and else of the row.
+/// The bare plan of two quotes of one price.
+fn paired(alloc: Global) -> Result<Shared<Expr>, AllocError> {
+    let query = paired_quotes(alloc)?;
+    Shared::new(alloc, bare(alloc, &query)?)
+}
+
+/// The bare plan of quotes.
+fn lone(alloc: Global) -> Result<Shared<Expr>, AllocError> {
+    let query = priced_quotes(alloc)?;
+    Shared::new(alloc, bare(alloc, &query)?)
+}
+
+/// A subscription of this name and install number, and else of the row. Its bare plan is that of
+/// two quotes of one price.
 fn subscription(
     alloc: Global,
     install: u64,
@@ -119,6 +137,8 @@ fn subscription(
         name,
         sources: Sequence::new(alloc),
         query: any_query(alloc),
+        bare: paired(alloc)?,
+        choice: Choice::SelectFirst,
         file: FileId(file),
         timing: Timing {
             start,
@@ -133,13 +153,13 @@ fn subscription(
     })
 }
 
-/// Whether the subscription came in: its name was free.
+/// Whether the subscription came in: its name was free, and there was room.
 fn put(alloc: Global, book: &mut Book, install: u64, row: &Row) -> Result<bool, AllocError>
     requires { AllByRecursion (λ m. m.install < install) book.old.subscriptions }
     ensures { AllByRecursion (λ m. m.install < install + 1) book.new.subscriptions }
 {
     let name = bytes_of(alloc, row.0.as_bytes())?;
-    if book.has(&name) {
+    if book.has(&name) || book.len() > ROOM {
         return Ok(false);
     }
     let subscription = subscription(alloc, install, name, row)?;
@@ -369,6 +389,54 @@ fn expect_fewer(rt: &impl Abort, alloc: Global, book: &mut Book) -> Result<(), A
 {
     expect_removed(rt, alloc, book)?;
     expect_left(rt, alloc, book)
+}
+
+/// Whether so many subscriptions have the bare plan of two quotes of one price, and none that of
+/// quotes.
+fn are_alike(alloc: Global, book: &Book, want: u64) -> Result<bool, AllocError> {
+    let paired = paired(alloc)?;
+    let lone = lone(alloc)?;
+    Ok(book.alike(&paired) == want && book.alike(&lone) == 0)
+}
+
+/// What stands below in the plan of this query, where its bare plan is that of two quotes of one
+/// price.
+fn choice(alloc: Global, book: &Book, query: &NormalQuery) -> Result<Choice, AllocError> {
+    let paired = book.share(paired(alloc)?)?;
+    Ok(book.choose(query, &paired))
+}
+
+fn expect_choice(
+    rt: &impl Abort,
+    alloc: Global,
+    book: &Book,
+    query: &NormalQuery,
+    want: Choice,
+) -> Result<(), AllocError> {
+    let told = choice(alloc, book, query)?;
+    assert!(rt; told == want);
+    Ok(())
+}
+
+/// All three have one bare plan, so the next query of two arms joins first, and one of one arm not.
+/// When one of them is gone, nobody joins first.
+fn expect_alike(rt: &impl Abort, alloc: Global, book: &mut Book) -> Result<(), AllocError> {
+    let pairs = paired_quotes(alloc)?;
+    let quotes = priced_quotes(alloc)?;
+    assert!(rt; are_alike(alloc, book, 3)?);
+    expect_choice(rt, alloc, book, &pairs, Choice::JoinFirst)?;
+    expect_choice(rt, alloc, book, &quotes, Choice::SelectFirst)?;
+    assert!(rt; is_taken(book, 2));
+    assert!(rt; are_alike(alloc, book, 2)?);
+    expect_choice(rt, alloc, book, &pairs, Choice::SelectFirst)
+}
+
+#[test]
+fn subscriptions_of_one_bare_plan_are_counted(rt: HostRuntime) -> Result<(), Fail> {
+    let seed = RandomState::new(&rt)?;
+    let mut book = three(rt.alloc(), seed)?;
+    expect_alike(&rt, rt.alloc(), &mut book)?;
+    Ok(())
 }
 
 #[test]

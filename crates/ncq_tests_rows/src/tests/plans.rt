@@ -1,4 +1,4 @@
-//! The plans of three statements, and their texts worked out by hand.
+//! The plans of four statements, and their texts worked out by hand.
 ghost use Rattle.std.specs.Prelude.{◌≡◌, ◌≤◌, ◌+◌, ◌∷◌, [], length, IfOk};
 ghost use Rattle.std.specs.List.{sum_by};
 ghost use Rattle.ncq_row.specs.Widths.{width, suffix_width};
@@ -11,7 +11,7 @@ use super::signatures::text;
 use ncq_base::{Atom, bytes_of, write_atom};
 use ncq_plan::{
     Arm, Arms, EqualTo, EqualTos, Expr, NormalQuery, Pair, Pairs, SlotTemplate, Tests, Withins,
-    plan,
+    bare, plan, plan_late,
 };
 use ncq_row::{Names, ShapeSuffix, Shapes};
 use std::alloc::{AllocError, Global};
@@ -99,8 +99,29 @@ fn priced(alloc: Global) -> Result<Arm, AllocError>
     quotes(alloc, parts, ShapeSuffix::Plain)
 }
 
+/// The query of quotes with a symbol and a price.
+pub(super) fn priced_quotes(alloc: Global) -> Result<NormalQuery, AllocError>
+    ensures { IfOk result IsWellFormed }
+{
+    let arms = lone_arm(alloc, priced(alloc)?)?;
+    query(alloc, arms)
+}
+
+/// The query of two quotes of one price, of which the second has this symbol.
+fn paired_with(alloc: Global, constant: Atom) -> Result<NormalQuery, AllocError>
+    ensures { IfOk result IsWellFormed }
+{
+    let mut arms = Arms::new(alloc);
+    arms.push(priced(alloc)?)?;
+    let mut arm = priced(alloc)?;
+    arm.pairs.push(Pair { left: 1, right: 1 })?;
+    arm.equals.push(EqualTo { slot: 0, constant })?;
+    arms.push(arm)?;
+    query(alloc, arms)
+}
+
 /// The query of two quotes of one price.
-fn paired_quotes(alloc: Global) -> Result<NormalQuery, AllocError>
+pub(super) fn paired_quotes(alloc: Global) -> Result<NormalQuery, AllocError>
     ensures { IfOk result IsWellFormed }
 {
     let mut arms = Arms::new(alloc);
@@ -180,5 +201,52 @@ fn a_join_by_one_pair(rt: HostRuntime) -> Result<(), Fail> {
     let query = paired_quotes(rt.alloc())?;
     let want = "join(scan(quotes,Quote(Symbol=,Price=)),scan(quotes,Quote(Symbol=,Price=)),1=1)";
     expect_plan(&rt, rt.alloc(), query, want)?;
+    Ok(())
+}
+
+/// The texts of the two plans of a query and of its bare plan.
+const PLANS: [&str; 3] = [
+    "join(scan(quotes,Quote(Symbol=,Price=)),eq(scan(quotes,Quote(Symbol=,Price=)),0,\"INTC\"),1=1)",
+    "eq(join(scan(quotes,Quote(Symbol=,Price=)),scan(quotes,Quote(Symbol=,Price=)),1=1),2,\"INTC\")",
+    "join(scan(quotes,Quote(Symbol=,Price=)),scan(quotes,Quote(Symbol=,Price=)),1=1)",
+];
+
+/// Compares the text of the plan of a query that joins first.
+fn expect_late(
+    rt: &impl Abort,
+    alloc: Global,
+    query: &NormalQuery,
+    want: &str,
+) -> Result<(), AllocError>
+    requires { IsWellFormed query.now }
+{
+    let whole = plan_late(alloc, query)?;
+    let text = whole_text(alloc, &whole)?;
+    assert!(rt; text.as_slice() == want.as_bytes(), "{want}");
+    Ok(())
+}
+
+/// Compares the text of the bare plan of a query.
+fn expect_bare(
+    rt: &impl Abort,
+    alloc: Global,
+    query: &NormalQuery,
+    want: &str,
+) -> Result<(), AllocError>
+    requires { IsWellFormed query.now }
+{
+    let whole = bare(alloc, query)?;
+    let text = whole_text(alloc, &whole)?;
+    assert!(rt; text.as_slice() == want.as_bytes(), "{want}");
+    Ok(())
+}
+
+#[test]
+fn an_equality_below_a_join_or_above(rt: HostRuntime) -> Result<(), Fail> {
+    let intc = Atom::Text(bytes_of(rt.alloc(), b"INTC")?);
+    let query = paired_with(rt.alloc(), intc)?;
+    expect_late(&rt, rt.alloc(), &query, PLANS[1])?;
+    expect_bare(&rt, rt.alloc(), &query, PLANS[2])?;
+    expect_plan(&rt, rt.alloc(), query, PLANS[0])?;
     Ok(())
 }
