@@ -5,8 +5,8 @@ ghost use Rattle.std.specs.List.{find, list_any, AllByRecursion};
 ghost use Rattle.std.specs.Option.{option_copied, option_map};
 ghost use Rattle.ncq_event.specs.Calendars.{due_firings, expired_at};
 ghost use Rattle.ncq_strategy.specs.Choices.{choice_of};
-ghost use Rattle.ncq_book.specs.Books.{alike, is_named, is_of, subscription_of, timers_of, timing_of};
-ghost use Rattle.ncq_book.specs.Books.{watchers_of, with_note, InstallsRise, NamesDiffer};
+ghost use Rattle.ncq_book.specs.Books.{alike, is_named, is_of, subscription_of, timers_of};
+ghost use Rattle.ncq_book.specs.Books.{timing_of, watchers_of, with_note, InstallsRise, NamesDiffer};
 
 use crate::finders::Finders;
 use crate::held::Held;
@@ -154,19 +154,18 @@ impl Book {
     }
 
     /// What stands below in the plan of a query that comes now, given its bare plan: the join,
-    /// where the query has two or more arms and at least three subscriptions have its bare plan. It
-    /// takes no memory.
-    pub fn choose(&self, query: &NormalQuery, bare: &Shared<Expr>) -> Choice
-        ensures { result ≡ choice_of query.now (alike bare.now self.now.subscriptions) }
+    /// where the query has two or more arms and at least three subscriptions have its bare plan.
+    /// Beside it the bare plan, as those that have it share it.
+    pub fn choose(
+        &self,
+        query: &NormalQuery,
+        bare: Shared<Expr>,
+    ) -> Result<(Choice, Shared<Expr>), AllocError>
+        ensures choice { IfOk result
+            (λ r. r.0 ≡ choice_of query.now (alike bare self.now.subscriptions)) }
+        ensures bare { IfOk result (λ r. r.1 ≡ bare) }
     {
         self.finders.strategy.choose(query, bare)
-    }
-
-    /// The bare plan, as subscriptions that have it share it.
-    pub fn share(&self, bare: Shared<Expr>) -> Result<Shared<Expr>, AllocError>
-        ensures { IfOk result (λ shared. shared ≡ bare) }
-    {
-        self.finders.strategy.share(bare)
     }
 
     /// One more subscription, under an install number above all others and a name that is free.

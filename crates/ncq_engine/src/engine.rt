@@ -728,8 +728,8 @@ impl Engine {
             (alike (bare_of query) self.now.subscriptions) timing action self.now.creates m.file) }
     {
         let book = self.live_table.book();
-        let bare = book.share(Shared::new(alloc, bare(alloc, &query)?)?)?;
-        let choice = book.choose(&query, &bare);
+        let bare = Shared::new(alloc, bare(alloc, &query)?)?;
+        let (choice, bare) = book.choose(&query, bare)?;
         let sources = asked_by(alloc, statement.query.items.as_slice())?;
         let argument = argument_of(alloc, statement)?;
         Ok(Subscription {

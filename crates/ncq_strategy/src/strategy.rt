@@ -53,25 +53,24 @@ impl Strategy {
         self.numbers.get(bare).copied().unwrap_or(0)
     }
 
-    /// Whether a query that comes now joins first: where it has two or more arms and at least three
-    /// live queries have its bare plan. It takes no memory.
-    pub fn choose(&self, query: &NormalQuery, bare: &Shared<Expr>) -> Choice
-        ensures { result ≡ choice_of query.now (live_with self.now bare.now) }
+    /// Which plan a query that comes now has, given its bare plan: it joins first where it has two
+    /// or more arms and at least three live queries have its bare plan. Beside it the bare plan, as
+    /// those that have it share it.
+    pub fn choose(
+        &self,
+        query: &NormalQuery,
+        bare: Shared<Expr>,
+    ) -> Result<(Choice, Shared<Expr>), AllocError>
+        ensures choice { IfOk result (λ r. r.0 ≡ choice_of query.now (live_with self.now bare)) }
+        ensures bare { IfOk result (λ r. r.1 ≡ bare) }
     {
-        if query.arms.len() < 2 || self.live_with(bare) < SHARED {
-            return Choice::SelectFirst;
+        let Some((shared, live)) = self.numbers.get_key_value(&bare) else {
+            return Ok((Choice::SelectFirst, bare));
+        };
+        if *live < SHARED || query.arms.len() < 2 {
+            return Ok((Choice::SelectFirst, shared.share()?));
         }
-        Choice::JoinFirst
-    }
-
-    /// The bare plan, as live queries that have it share it.
-    pub fn share(&self, bare: Shared<Expr>) -> Result<Shared<Expr>, AllocError>
-        ensures { IfOk result (λ shared. shared ≡ bare) }
-    {
-        match self.numbers.get_key_value(&bare) {
-            Some((shared, _)) => shared.share(),
-            None => Ok(bare),
-        }
+        Ok((Choice::JoinFirst, shared.share()?))
     }
 
     /// One more live query has the bare plan. After an error all is as before.
@@ -80,8 +79,11 @@ impl Strategy {
         ensures ok { OnOk result (HasNow self.old bare (live_with self.old bare + 1) self.new) }
         ensures err { OnErr result (self.new ≡ self.old) }
     {
-        let more = self.live_with(&bare) + 1;
-        self.numbers.insert(bare, more)?;
+        if let Some(number) = self.numbers.get_mut(&bare) {
+            *number += 1;
+            return Ok(());
+        }
+        self.numbers.insert(bare, 1)?;
         Ok(())
     }
 

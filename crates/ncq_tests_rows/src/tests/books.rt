@@ -402,8 +402,8 @@ fn are_alike(alloc: Global, book: &Book, want: u64) -> Result<bool, AllocError> 
 /// What stands below in the plan of this query, where its bare plan is that of two quotes of one
 /// price.
 fn choice(alloc: Global, book: &Book, query: &NormalQuery) -> Result<Choice, AllocError> {
-    let paired = book.share(paired(alloc)?)?;
-    Ok(book.choose(query, &paired))
+    let (choice, _) = book.choose(query, paired(alloc)?)?;
+    Ok(choice)
 }
 
 fn expect_choice(
