@@ -56,7 +56,7 @@ use std::marker::Model;
 use std::sync::ledger::Ledger;
 
 /// So many joins over a file are told without a look at what its rows meet.
-const FEW_JOINS: usize = 4;
+const FEW_JOINS: usize = 3;
 
 /// Files by their numbers.
 pub struct Shelf {
