@@ -1,0 +1,11 @@
+pub mod After
+pub mod Compiled
+pub mod Deciding
+pub mod Expressions
+pub mod Formed
+pub mod Kinds
+pub mod Links
+pub mod Paths
+pub mod PositionLaws
+pub mod Positions
+pub mod Texts
