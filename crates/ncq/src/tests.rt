@@ -37,6 +37,7 @@ mod limits;
 mod lines;
 mod many;
 mod notices;
+mod paths;
 mod ranges;
 mod refused;
 mod reports;

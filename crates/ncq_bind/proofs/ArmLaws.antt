@@ -10,7 +10,8 @@ use Rattle.ncq_tree.specs.declared.model.Node.TheVariants.{Element as element_no
 use Rattle.ncq_row.specs.declared.shape.Shape.{Shape}
 use Rattle.ncq_row.specs.declared.value.Value.{Value}
 use Rattle.ncq_row.specs.declared.value.Value.TheVariants.{Text}
-use Rattle.ncq_row.specs.Embeddings.{Rows, one_of_each, reached, attribute_rows, suffix_rows, value_rows, rows_at, content_rows, rows_among, rows_of}
+use Rattle.ncq_row.specs.Embeddings.{Rows, one_of_each, attribute_rows, suffix_rows, value_rows, rows_at, content_rows, rows_among, rows_from, rows_of}
+use Rattle.ncq_row.specs.Reached.{reached, reached_from}
 use Rattle.ncq_row.proofs.CallerLemmas.{rows_of_shape, rows_of_value, rows_of_parts}
 use Rattle.std.specs.List.{AllByRecursion}
 use Rattle.ncq_bind.proofs.ListLaws.{each_of_all, each_implied, filters_agree}
@@ -27,7 +28,7 @@ use Rattle.ncq_xmlql.specs.declared.model.Pattern.{Pattern}
 use Rattle.ncq_xmlql.specs.declared.model.Suffix.{Suffix}
 use Rattle.ncq_xmlql.specs.declared.model.Suffix.TheVariants.{Plain, ElementAs, ContentAs}
 use Rattle.ncq_bind.specs.Places.{suffix_places, places, content_places, suffix_shape, shape_of, content_shape}
-use Rattle.ncq_bind.specs.Embeddings.{is_taken, rows_taken_by, attribute_embeddings, suffix_embeddings, embeddings_at, content_embeddings, embeddings_in, embeddings, has_literals}
+use Rattle.ncq_bind.specs.Embeddings.{is_taken, rows_taken_by, attribute_embeddings, suffix_embeddings, embeddings_at, content_embeddings, embeddings_in, embeddings_from, embeddings, has_literals}
 use Rattle.ncq_bind.specs.Laws.{ArmLaw, OpenLaw}
 use Rattle.ncq_bind.proofs.Splits.{HasWidth, Splits, splits_along, splits_paired, splits_each, splits_flat_map}
 use Rattle.ncq_bind.proofs.Patterns.{places_of_pattern, places_of_value, places_of_parts, shape_of_pattern, shape_of_value, shape_of_parts, embeddings_of_pattern, embeddings_of_value, embeddings_of_parts, patterns_induction}
@@ -79,6 +80,11 @@ splits_in p h nodes =
     splits_along refl refl (ap (λ (s : Shape). flat_map (rows_at (shape_of p)) (reached s.tag nodes)) (shape_of_pattern p))
     (splits_flat_map (places p) (embeddings_at p) (rows_at (shape_of p)) (reached p.tag nodes) h)
 
+splits_from : (p : Pattern) → PatternSplits p → (e : Element) → Splits (places p) (embeddings_from p e) (rows_from (shape_of p) e)
+splits_from p h e =
+    splits_along refl refl (ap (λ (s : Shape). flat_map (rows_at (shape_of p)) (reached_from s.tag e)) (shape_of_pattern p))
+    (splits_flat_map (places p) (embeddings_at p) (rows_at (shape_of p)) (reached_from p.tag e) h)
+
 value_splits : (o : Operand) → ContentSplits (OneValue o)
 value_splits o e =
     splits_along (places_of_value o) (embeddings_of_value o e) (ap (λ c. content_rows c e) (shape_of_value o) ∙ rows_of_value e) (splits_taken o (value_rows e) (refl, tt))
@@ -87,14 +93,14 @@ parts_split : (below : List ((p : Pattern) × PatternSplits p)) → ContentSplit
 parts_split below e =
     splits_along
     (places_of_parts (map (λ b. b.0) below) ∙ flat_map-map places (λ (b : (p : Pattern) × PatternSplits p). b.0) below)
-    (embeddings_of_parts (map (λ b. b.0) below) e ∙ ap one_of_each (map-map (λ (p : Pattern). embeddings_in p e.children) (λ (b : (p : Pattern) × PatternSplits p). b.0) below))
+    (embeddings_of_parts (map (λ b. b.0) below) e ∙ ap one_of_each (map-map (λ (p : Pattern). embeddings_from p e) (λ (b : (p : Pattern) × PatternSplits p). b.0) below))
     (ap (λ c. content_rows c e) (shape_of_parts (map (λ b. b.0) below))
     ∙ rows_of_parts (map shape_of (map (λ b. b.0) below)) e
-    ∙ ap one_of_each (map-map (λ (s : Shape). rows_among s e.children) shape_of (map (λ b. b.0) below)
-    ∙ map-map (λ (p : Pattern). rows_among (shape_of p) e.children) (λ (b : (p : Pattern) × PatternSplits p). b.0) below))
-    (splits_each (λ (b : (p : Pattern) × PatternSplits p). places b.0) (λ b. embeddings_in b.0 e.children) (λ b. rows_among (shape_of b.0) e.children) below
-    (each_of_all (λ (b : (p : Pattern) × PatternSplits p). Splits (places b.0) (embeddings_in b.0 e.children) (rows_among (shape_of b.0) e.children))
-    (λ b. splits_in b.0 b.1 e.children) below))
+    ∙ ap one_of_each (map-map (λ (s : Shape). rows_from s e) shape_of (map (λ b. b.0) below)
+    ∙ map-map (λ (p : Pattern). rows_from (shape_of p) e) (λ (b : (p : Pattern) × PatternSplits p). b.0) below))
+    (splits_each (λ (b : (p : Pattern) × PatternSplits p). places b.0) (λ b. embeddings_from b.0 e) (λ b. rows_from (shape_of b.0) e) below
+    (each_of_all (λ (b : (p : Pattern) × PatternSplits p). Splits (places b.0) (embeddings_from b.0 e) (rows_from (shape_of b.0) e))
+    (λ b. splits_from b.0 b.1 e) below))
 
 whole_splits : (p : Pattern) → ContentSplits p.content → PatternSplits p
 whole_splits p h e =

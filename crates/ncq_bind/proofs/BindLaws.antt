@@ -27,7 +27,7 @@ bound_none false m e = refl
 pub statement_formed : (st : Statement) (n : NormalQuery) → IsWellFormed st → query_is_bound st.query ≡ true → n ≡ normal_query st.query → formed.IsWellFormed n
 statement_formed st n whole bound is =
     let both = both_true (list_all (item_is_bound (places_of (arms_of st.query.items))) st.query.items) (template_is_bound (places_of (arms_of st.query.items)) st.query.template) bound in
-    subst formed.IsWellFormed (sym is) (query_formed st.query whole.begins whole.items whole.within both.0 both.1)
+    subst formed.IsWellFormed (sym is) (query_formed st.query whole.begins whole.items whole.within whole.paths both.0 both.1)
 
 clash : {A : Type 0} (b : Bool) → b ≡ true → b ≡ false → A
 clash b e f = absurd (let c : true ≡ false = sym e ∙ f in cc)

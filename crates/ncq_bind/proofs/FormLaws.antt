@@ -32,6 +32,8 @@ use Rattle.ncq_xmlql.specs.declared.model.Template.{Template}
 use Rattle.ncq_xmlql.specs.declared.model.TemplateAttribute.{TemplateAttribute}
 use Rattle.ncq_xmlql.specs.Counts as counted
 use Rattle.ncq_xmlql.specs.Counts.{suffix_slots, pattern_slots, content_slots, item_slots, slots, item_conditions, conditions}
+use Rattle.ncq_path.specs.Formed.{is_formed}
+use Rattle.ncq_xmlql.specs.PatternPaths.{all_paths}
 use Rattle.ncq_xmlql.specs.Statements.{AreWithin}
 use Rattle.ncq_xmlql.specs.WellFormed.{begins_with_match, item_is_whole}
 use Rattle.ncq_xmlql.specs.ItemReading.{has_arm}
@@ -62,6 +64,7 @@ use Rattle.ncq_bind.proofs.Patterns.{places_of_pattern, places_of_value, places_
 use Rattle.ncq_bind.proofs.TemplateLaws.{templates_induction, slotted_variable, slotted_literal, slotted_element, bound_variable, bound_element}
 use Rattle.ncq_bind.proofs.Widths.{width_of, sum-cons}
 use Rattle.ncq_bind.proofs.SharingLaws.{first_or_later}
+use Rattle.ncq_bind.proofs.ShapeFormed.{arms_are_formed}
 
 -- ---- slots of arms
 
@@ -497,10 +500,10 @@ module _ (ps : List Operand) where
 
 -- ---- all
 
-pub query_formed : (query : Query) → begins_with_match query.items ≡ true → list_all item_is_whole query.items ≡ true → AreWithin query.items
+pub query_formed : (query : Query) → begins_with_match query.items ≡ true → list_all item_is_whole query.items ≡ true → AreWithin query.items → all_paths is_formed query.items ≡ true
     → list_all (item_is_bound (places_of (arms_of query.items))) query.items ≡ true → template_is_bound (places_of (arms_of query.items)) query.template ≡ true
     → formed.IsWellFormed (normal_query query)
-query_formed query begins whole within bound template =
+query_formed query begins whole within paths bound template =
     let items = query.items in
     let ps = places_of (arms_of items) in
     let cs = constraints_of ps items in
@@ -531,6 +534,7 @@ query_formed query begins whole within bound template =
       equals = omega arith;
       ranges = omega arith;
       arms = arms_fit cs 0 (arms_of items);
+      paths = arms_are_formed cs items ∙ paths;
       residual = ap (λ n. list_all (test_is_within n) (residual_of (open_arms 0 (arms_of items)) cs)) same ∙ residual_bound (length ps) (open_arms 0 (arms_of items)) cs (constraints_in ps items bound);
       template = ap (λ n. template_is_within n (slot_template (first_slot ps) query.template)) same ∙ template_bound ps query.template template;
     }

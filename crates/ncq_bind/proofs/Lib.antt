@@ -12,6 +12,7 @@ pub mod SharingLaws
 pub mod TemplateLaws
 pub mod JoiningLaws
 pub mod Firsts
+pub mod ShapeFormed
 pub mod FormLaws
 pub mod Gathering
 pub mod QueryLaws

@@ -1,11 +1,13 @@
 -- The places, the shape and the embeddings of a pattern, by its parts; and induction over patterns.
-use Rattle.std.proofs.Common.{◌≡◌, ℕ, List, [], ◌∷◌, ◌++◌, map, sym, ap, ◌∙◌, subst}
+use Rattle.std.proofs.Common.{◌≡◌, List, [], ◌∷◌, ◌++◌, map, sym, ap, ◌∙◌, subst}
 use Rattle.std.specs.List.{flat_map}
 use Rattle.ncq_tree.specs.declared.model.Element.{Element}
 use Rattle.ncq_row.specs.declared.shape.Shape.{Shape}
 use Rattle.ncq_row.specs.declared.shape.ShapeContent.{ShapeContent}
 use Rattle.ncq_row.specs.declared.shape.ShapeContent.TheVariants as shape
-use Rattle.ncq_row.specs.Embeddings.{Rows, paired, one_of_each, reached, value_rows}
+use Rattle.ncq_path.specs.declared.path.Path.{Path}
+use Rattle.ncq_row.specs.Embeddings.{Rows, paired, one_of_each, value_rows}
+use Rattle.ncq_row.specs.Reached.{reached_from}
 use Rattle.ncq_plan.proofs.Lists.{map-map}
 use Rattle.std.proofs.lemmas.List.Folds.{flat_map-map}
 use Rattle.ncq_xmlql.specs.declared.model.Operand.{Operand}
@@ -19,7 +21,7 @@ use Rattle.ncq_xmlql.specs.declared.model.Content.TheFolds.{para-Content, para-P
 use Rattle.ncq_xmlql.specs.declared.model.Pattern.{Pattern}
 use Rattle.ncq_xmlql.specs.declared.model.Suffix.{Suffix}
 use Rattle.ncq_bind.specs.Places.{suffix_places, content_places_layer, places_layer, places, content_places, suffix_shape, content_shape_layer, shape_layer, shape_of, content_shape}
-use Rattle.ncq_bind.specs.Embeddings.{rows_taken_by, attribute_embeddings, suffix_embeddings, content_layer, pattern_layer, embeddings_at, content_embeddings, embeddings_in}
+use Rattle.ncq_bind.specs.Embeddings.{rows_taken_by, attribute_embeddings, suffix_embeddings, content_layer, pattern_layer, embeddings_at, content_embeddings, embeddings_from}
 
 abbrev Given : Type 0
 Given = Element → Rows
@@ -88,19 +90,19 @@ embeddings_of_value o e =
     ap (λ c. para-Content Given Given content_layer pattern_layer c e) (sym (rolls-Value o))
     ∙ ap (λ f. f e) (para-roll-Content Given Given content_layer pattern_layer (ValueLayer o))
 
-pub embeddings_of_parts : (parts : List Pattern) (e : Element) → content_embeddings (Parts parts) e ≡ one_of_each (map (λ (p : Pattern). embeddings_in p e.children) parts)
+pub embeddings_of_parts : (parts : List Pattern) (e : Element) → content_embeddings (Parts parts) e ≡ one_of_each (map (λ (p : Pattern). embeddings_from p e) parts)
 unfolding content_embeddings embeddings_at
 embeddings_of_parts parts e =
     ap (λ c. para-Content Given Given content_layer pattern_layer c e) (sym (rolls-Parts parts))
     ∙ ap (λ f. f e) (para-roll-Content Given Given content_layer pattern_layer (PartsLayer parts))
-    ∙ ap one_of_each (map-map (λ (p : Pattern × Given). flat_map p.1 (reached p.0.tag e.children)) (λ (p : Pattern). (p, embeddings_at p)) parts)
+    ∙ ap one_of_each (map-map (λ (p : Pattern × Given). flat_map p.1 (reached_from p.0.tag e)) (λ (p : Pattern). (p, embeddings_at p)) parts)
 
 -- ---- induction
 
 module _ (C : Content → Type 0) (P : Pattern → Type 0)
     (values : (o : Operand) → C (Value o))
     (parts : (below : List ((p : Pattern) × P p)) → C (Parts (map (λ e. e.0) below)))
-    (patterns : (tag : List ℕ) (attributes : List PatternAttribute) (content : (c : Content) × C c) (suffix : Suffix)
+    (patterns : (tag : Path) (attributes : List PatternAttribute) (content : (c : Content) × C c) (suffix : Suffix)
     → P (record { tag = tag; attributes = attributes; content = content.0; suffix = suffix }))
   where
     layer : (x : Content-F ((c : Content) × C c) ((p : Pattern) × P p)) → C (roll-Content (map-Content _ _ _ _ (λ e. e.0) (λ e. e.0) x))

@@ -3,7 +3,9 @@ use Rattle.std.specs.Prelude.{◌≡◌, ◌≢◌, true, Result, Ok, Err, map}
 use Rattle.std.specs.List.{filter, list_all}
 use Rattle.ncq_tree.specs.declared.model.Element.{Element}
 use Rattle.ncq_pyx.specs.Canonical.{is_proper}
+use Rattle.ncq_path.specs.Formed.{is_formed}
 use Rattle.ncq_row.specs.Embeddings.{rows_of}
+use Rattle.ncq_row.specs.Formed.{shape_is_formed}
 use Rattle.ncq_plan.specs.declared.query.NormalQuery.{NormalQuery}
 use Rattle.ncq_plan.specs.Exprs.{World, rows_in}
 use Rattle.ncq_plan.specs.Plans.{plan_of}
@@ -15,6 +17,7 @@ use Rattle.ncq_xmlql.specs.declared.model.Pattern.{Pattern}
 use Rattle.ncq_xmlql.specs.declared.model.Query.{Query}
 use Rattle.ncq_xmlql.specs.declared.model.Statement.{Statement}
 use Rattle.ncq_xmlql.specs.ItemReading.{is_variable}
+use Rattle.ncq_xmlql.specs.PatternPaths.{pattern_paths}
 use Rattle.ncq_xmlql.specs.WellFormed.{IsWellFormed, item_is_whole}
 use Rattle.ncq_bind.specs.declared.binding.BindError.{BindError}
 use Rattle.ncq_bind.specs.declared.binding.BindError.TheVariants.{OutOfMemory}
@@ -37,6 +40,10 @@ abbrev pub OpenLaw : Type 0
 OpenLaw =
     (p : Pattern) (e : Element) → list_all is_variable (places p) ≡ true
     → embeddings p e ≡ rows_of (shape_of p) e
+
+-- The shape of a pattern is well formed exactly where each path of the pattern is.
+abbrev pub FormedLaw : Type 0
+FormedLaw = (p : Pattern) → shape_is_formed (shape_of p) ≡ pattern_paths is_formed p
 
 -- Where each condition has a variable and all of them have places, the forests of the normal
 -- query's rows are all that the query answers.

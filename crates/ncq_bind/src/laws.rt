@@ -1,6 +1,6 @@
 //! Laws of what a query means. The functions do nothing: each is its contract.
-ghost use Rattle.ncq_bind.specs.Laws.{ArmLaw, JoiningLaw, OneAnswer, OpenLaw, PlanLaw};
-ghost use Rattle.ncq_bind.specs.Laws.{ProperLaw};
+ghost use Rattle.ncq_bind.specs.Laws.{ArmLaw, FormedLaw, JoiningLaw, OneAnswer, OpenLaw};
+ghost use Rattle.ncq_bind.specs.Laws.{PlanLaw, ProperLaw};
 
 /// The embeddings of a pattern are those rows of its shape that have each literal's atom at the
 /// literal's place, in the same order.
@@ -11,6 +11,11 @@ pub fn embeddings_are_rows()
 /// The embeddings of a pattern without literals are the rows of its shape.
 pub fn rows_are_open_embeddings()
     ensures { OpenLaw }
+{}
+
+/// The shape of a pattern is well formed exactly where each path of the pattern is.
+pub fn shapes_are_formed()
+    ensures { FormedLaw }
 {}
 
 /// The forests that the normal query makes of its rows are all that the query answers, in the same

@@ -26,6 +26,6 @@ pub use binding::{BindError, bind};
 pub use constraint::Constraint;
 pub use laws::{
     answers_are_proper, embeddings_are_rows, forests_are_the_answer, one_answer,
-    plans_give_the_answer, rows_are_open_embeddings,
+    plans_give_the_answer, rows_are_open_embeddings, shapes_are_formed,
 };
 pub use open_arm::{OpenArm, OpenArms};

@@ -1,5 +1,8 @@
 //! Entries of rows and texts of notices, worked out by hand.
-ghost use Rattle.std.specs.Prelude.{◌≡◌, ◌<◌, ◌∷◌, [], IfOk};
+ghost use Rattle.std.specs.Prelude.{◌≡◌, ◌<◌, ◌∷◌, [], true, IfOk};
+ghost use Rattle.std.specs.List.{list_all};
+ghost use Rattle.ncq_path.specs.Formed.{is_formed};
+ghost use Rattle.ncq_row.specs.Formed.{shape_is_formed};
 ghost use Rattle.ncq_callback.specs.Facts.{Writes};
 ghost use Rattle.ncq_callback.specs.Texts.{render};
 
@@ -9,6 +12,7 @@ use crate::{
 };
 use ncq_bag::{Difference, Differences};
 use ncq_base::{Op, Steps, atom_of, bytes_of};
+use ncq_path::Path;
 use ncq_plan::{Side, SlotTemplate, Test, Tests};
 use ncq_row::{Names, Row, Rows, Shape, ShapeContent, ShapeSuffix, Shapes, match_shape};
 use ncq_tree::{Attributes, Element, Forest, Node};
@@ -61,9 +65,21 @@ fn element(alloc: Global) -> Result<Element, AllocError> {
     element_with(alloc, "q", children)
 }
 
+/// The path of one name.
+#[tactic(auto, using(crate::proofs::ShapeForms::formed_is))]
+fn tag(alloc: Global, name: &[u8]) -> Result<Path, AllocError>
+    ensures { IfOk result (λ p. is_formed p ≡ true) }
+{
+    let name = bytes_of(alloc, name)?;
+    Ok(Path::Tag(name))
+}
+
 /// `<a>$0</>`
-fn part(alloc: Global) -> Result<Shape, AllocError> {
-    let tag = bytes_of(alloc, b"a")?;
+#[tactic(auto, using(crate::proofs::ShapeForms::formed_is))]
+fn part(alloc: Global) -> Result<Shape, AllocError>
+    ensures { IfOk result (λ s. shape_is_formed s ≡ true) }
+{
+    let tag = tag(alloc, b"a")?;
     Ok(Shape {
         tag,
         attributes: Names::new(alloc),
@@ -72,16 +88,21 @@ fn part(alloc: Global) -> Result<Shape, AllocError> {
     })
 }
 
-fn parts(alloc: Global) -> Result<Shapes, AllocError> {
+fn parts(alloc: Global) -> Result<Shapes, AllocError>
+    ensures { IfOk result (λ parts. list_all shape_is_formed parts ≡ true) }
+{
     let mut parts = Shapes::new(alloc);
     parts.push(part(alloc)?)?;
     Ok(parts)
 }
 
 /// `<q><a>$0</></> ELEMENT_AS $1`
-fn shape(alloc: Global) -> Result<Shape, AllocError> {
+#[tactic(auto, using(crate::proofs::ShapeForms::formed_is))]
+fn shape(alloc: Global) -> Result<Shape, AllocError>
+    ensures { IfOk result (λ s. shape_is_formed s ≡ true) }
+{
     let parts = parts(alloc)?;
-    let tag = bytes_of(alloc, b"q")?;
+    let tag = tag(alloc, b"q")?;
     Ok(Shape {
         tag,
         attributes: Names::new(alloc),
@@ -99,6 +120,7 @@ fn rows<L: Ledger>(
     requires name { blank.name ≡ L.name }
     requires parts { blank.parts ≡ L.parts }
     requires some { 0 < L.parts }
+    requires formed { shape_is_formed shape.now ≡ true }
 {
     let alloc = rt.alloc();
     let mut steps = Steps::<L>::new(rt, blank);

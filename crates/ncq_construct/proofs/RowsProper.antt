@@ -23,10 +23,14 @@ use Rattle.ncq_row.specs.declared.shape.ShapeSuffix.{ShapeSuffix}
 use Rattle.ncq_row.specs.declared.shape.ShapeSuffix.TheVariants.{Plain, Element as WholeElement}
 use Rattle.ncq_row.specs.declared.shape.ShapeSuffix.TheVariants.{Content}
 use Rattle.ncq_row.specs.declared.value.Value.TheVariants.{Text}
-use Rattle.ncq_row.specs.Embeddings.{Row, Rows, paired, one_of_each, reached_at, reached}
+use Rattle.ncq_path.specs.declared.path.Path.{Path}
+use Rattle.ncq_path.specs.Deciding.{in_path}
+use Rattle.ncq_row.specs.Embeddings.{Row, Rows, paired, one_of_each}
+use Rattle.ncq_row.specs.Reached.{Place, under, places, leads_to, reached, reached_from}
 use Rattle.ncq_row.specs.Embeddings.{attribute_rows, suffix_rows, rows_at, content_rows}
-use Rattle.ncq_row.specs.Embeddings.{rows_among, rows_of}
-use Rattle.ncq_row.proofs.CallerLemmas.{reached_text, reached_element, rows_of_shape, rows_of_value}
+use Rattle.ncq_row.specs.Embeddings.{rows_among, rows_from, rows_of}
+use Rattle.ncq_row.proofs.ReachLaws.{places_text, places_element}
+use Rattle.ncq_row.proofs.CallerLemmas.{rows_of_shape, rows_of_value}
 use Rattle.ncq_row.proofs.CallerLemmas.{rows_of_parts}
 use Rattle.ncq_row.proofs.Inductions.{shapes_induction}
 use Rattle.ncq_row.specs.declared.pair.Pair.{Pair}
@@ -69,13 +73,13 @@ rows_each f (x ∷ xs) h =
     let t = both_true (rows_are_proper (f x)) (list_all (λ x. rows_are_proper (f x)) xs) h in
     rows_paired (f x) (one_of_each (map f xs)) t.0 (rows_each f xs t.1)
 
-rows_from : {A : Type 0} (f : A → Rows) (good : A → Bool)
+rows_from_each : {A : Type 0} (f : A → Rows) (good : A → Bool)
     → ((x : A) → good x ≡ true → rows_are_proper (f x) ≡ true) → (xs : List A)
     → list_all good xs ≡ true → rows_are_proper (flat_map f xs) ≡ true
-rows_from f good each [] h = refl
-rows_from f good each (x ∷ xs) h =
+rows_from_each f good each [] h = refl
+rows_from_each f good each (x ∷ xs) h =
     let t = both_true (good x) (list_all good xs) h in
-    rows_append (f x) (flat_map f xs) (each x t.0) (rows_from f good each xs t.1)
+    rows_append (f x) (flat_map f xs) (each x t.0) (rows_from_each f good each xs t.1)
 
 always : {A : Type 0} (p : A → Bool) → ((x : A) → p x ≡ true) → (xs : List A) → list_all p xs ≡ true
 always p h [] = refl
@@ -85,32 +89,6 @@ always p h (x ∷ xs) = and_from _ _ (h x) (always p h xs)
 
 abbrev node_is_proper : Node → Bool
 node_is_proper node = node_is_normal node && is_named node
-
-reached_proper_at : (tag : List ℕ) (node : Node) → node_is_proper node ≡ true
-    → list_all element_is_proper (reached_at tag node) ≡ true
-reached_proper_at tag =
-    nodes_induction (λ node. node_is_proper node ≡ true → list_all element_is_proper (reached_at tag node) ≡ true)
-    (λ text h. ap (list_all element_is_proper) (reached_text tag text))
-    (λ name attributes below h.
-    let e : Element = record {
-      name = name;
-      attributes = attributes;
-      children = map (λ b. b.0) below;
-    } in
-    ap (list_all element_is_proper) (reached_element tag e) ∙ by_name e (bytes_eq name tag) h)
-  where
-    by_name : (e : Element) (b : Bool) → element_is_proper e ≡ true
-        → list_all element_is_proper (if b then e ∷ [] else []) ≡ true
-    by_name e true h = and_from _ _ h refl
-    by_name e false h = refl
-
-reached_proper : (tag : List ℕ) (nodes : List Node) → list_all node_is_proper nodes ≡ true
-    → list_all element_is_proper (reached tag nodes) ≡ true
-reached_proper tag [] h = refl
-reached_proper tag (node ∷ nodes) h =
-    let t = both_true (node_is_proper node) (list_all node_is_proper nodes) h in
-    list_all-append element_is_proper (reached_at tag node) (reached tag nodes)
-    ∙ and_from _ _ (reached_proper_at tag node t.0) (reached_proper tag nodes t.1)
 
 -- children
 
@@ -142,6 +120,77 @@ itself_proper e h =
     let t = both_true (node_is_normal (element_node e)) (is_named (element_node e)) h in
     and_from _ _ (and_from _ _ refl (and_from _ _ t.0 refl)) (and_from _ _ t.1 refl)
 
+-- elements that are reached
+
+abbrev place_is_proper : Place → Bool
+place_is_proper place = element_is_proper place.1
+
+under_proper : (name : List ℕ) (ps : List Place) → list_all place_is_proper (map (under name) ps)
+    ≡ list_all place_is_proper ps
+under_proper name [] = refl
+under_proper name (p ∷ ps) = ap (λ (b : Bool). place_is_proper p && b) (under_proper name ps)
+
+abbrev PlacesProper : Node → Type 0
+PlacesProper node = node_is_proper node ≡ true → list_all place_is_proper (places node) ≡ true
+
+below_proper : (below : List ((n : Node) × PlacesProper n))
+    → list_all node_is_proper (map (λ b. b.0) below) ≡ true
+    → list_all place_is_proper (flat_map places (map (λ (b : (n : Node) × PlacesProper n). b.0) below)) ≡ true
+below_proper [] h = refl
+below_proper (b ∷ below) h =
+    let t = both_true (node_is_proper b.0) (list_all node_is_proper (map (λ c. c.0) below)) h in
+    list_all-append place_is_proper (places b.0) (flat_map places (map (λ c. c.0) below))
+    ∙ and_from _ _ (b.1 t.0) (below_proper below t.1)
+
+-- each place in a proper node is proper
+places_proper : (node : Node) → PlacesProper node
+places_proper =
+    nodes_induction PlacesProper (λ text h. ap (list_all place_is_proper) (places_text text))
+    (λ name attributes below h.
+    let e : Element = record {
+      name = name;
+      attributes = attributes;
+      children = map (λ b. b.0) below;
+    } in
+    ap (list_all place_is_proper) (places_element e)
+    ∙ and_from _ _ h (under_proper name (flat_map places e.children) ∙ below_proper below (each_child_proper e h)))
+
+all_places_proper : (nodes : List Node) → list_all node_is_proper nodes ≡ true
+    → list_all place_is_proper (flat_map places nodes) ≡ true
+all_places_proper [] h = refl
+all_places_proper (node ∷ nodes) h =
+    let t = both_true (node_is_proper node) (list_all node_is_proper nodes) h in
+    list_all-append place_is_proper (places node) (flat_map places nodes)
+    ∙ and_from _ _ (places_proper node t.0) (all_places_proper nodes t.1)
+
+kept_proper : (test : Place → Bool) (ps : List Place) → list_all place_is_proper ps ≡ true
+    → list_all element_is_proper (map (λ p. p.1) (filter test ps)) ≡ true
+kept_proper test [] h = refl
+kept_proper test (p ∷ ps) h =
+    let t = both_true (place_is_proper p) (list_all place_is_proper ps) h in
+    by_test (test p) (filter test ps) t.0 (kept_proper test ps t.1)
+  where
+    by_test : (b : Bool) (kept : List Place) → place_is_proper p ≡ true
+        → list_all element_is_proper (map (λ q. q.1) kept) ≡ true
+        → list_all element_is_proper (map (λ (q : Place). q.1) (cond b (p ∷ kept) kept)) ≡ true
+    by_test true kept h k = and_from _ _ h k
+    by_test false kept h k = k
+
+reached_proper : (path : Path) (nodes : List Node) → list_all node_is_proper nodes ≡ true
+    → list_all element_is_proper (reached path nodes) ≡ true
+reached_proper path nodes h =
+    kept_proper (leads_to path []) (flat_map places nodes) (all_places_proper nodes h)
+
+reached_from_proper : (path : Path) (e : Element) → element_is_proper e ≡ true
+    → list_all element_is_proper (reached_from path e) ≡ true
+reached_from_proper path e h =
+    list_all-append element_is_proper (if in_path path [] then e ∷ [] else []) (reached path e.children)
+    ∙ and_from _ _ (by_test (in_path path [])) (reached_proper path e.children (each_child_proper e h))
+  where
+    by_test : (b : Bool) → list_all element_is_proper (if b then e ∷ [] else []) ≡ true
+    by_test true = and_from _ _ h refl
+    by_test false = refl
+
 -- rows of a shape
 
 attribute_proper : (attributes : List Attribute) (name : List ℕ)
@@ -171,7 +220,12 @@ ContentProper c = (e : Element) → element_is_proper e ≡ true
 among_proper : (s : Shape) → ShapeProper s → (nodes : List Node)
     → list_all node_is_proper nodes ≡ true → rows_are_proper (rows_among s nodes) ≡ true
 among_proper s h nodes k =
-    rows_from (rows_at s) element_is_proper h (reached s.tag nodes) (reached_proper s.tag nodes k)
+    rows_from_each (rows_at s) element_is_proper h (reached s.tag nodes) (reached_proper s.tag nodes k)
+
+from_proper : (s : Shape) → ShapeProper s → (e : Element) → element_is_proper e ≡ true
+    → rows_are_proper (rows_from s e) ≡ true
+from_proper s h e k =
+    rows_from_each (rows_at s) element_is_proper h (reached_from s.tag e) (reached_from_proper s.tag e k)
 
 whole_proper : (s : Shape) → ContentProper s.content → ShapeProper s
 whole_proper s h e k =
@@ -188,14 +242,14 @@ parts_proper : (below : List ((s : Shape) × ShapeProper s))
     → ContentProper (Parts (map (λ b. b.0) below))
 parts_proper below e k =
     ap rows_are_proper (rows_of_parts (map (λ b. b.0) below) e)
-    ∙ rows_each (λ (p : Shape). rows_among p e.children) (map (λ b. b.0) below) (each below)
+    ∙ rows_each (λ (p : Shape). rows_from p e) (map (λ b. b.0) below) (each below)
   where
     each : (parts : List ((s : Shape) × ShapeProper s))
-        → list_all (λ (p : Shape). rows_are_proper (rows_among p e.children)) (map (λ b. b.0) parts)
+        → list_all (λ (p : Shape). rows_are_proper (rows_from p e)) (map (λ b. b.0) parts)
         ≡ true
     each [] = refl
     each (p ∷ parts) =
-        and_from _ _ (among_proper p.0 p.1 e.children (each_child_proper e k)) (each parts)
+        and_from _ _ (from_proper p.0 p.1 e k) (each parts)
 
 value_proper : ContentProper OneValue
 value_proper e k =
@@ -240,7 +294,7 @@ pub expr_rows_are_proper : (world : World)
 expr_rows_are_proper world proper =
     expr_induction (λ expr. rows_are_proper (rows_in expr world) ≡ true)
     (λ source shape. ap rows_are_proper (rows_scan world source shape)
-    ∙ rows_from (λ e. rows_of shape e) element_is_proper (shape_rows_are_proper shape) (world source)
+    ∙ rows_from_each (λ e. rows_of shape e) element_is_proper (shape_rows_are_proper shape) (world source)
     (proper source))
     (λ input slot constant h. ap rows_are_proper (rows_equal world input slot constant)
     ∙ rows_filter (has_atom slot constant) (rows_in input world) h)

@@ -5,12 +5,16 @@ use Rattle.std.proofs.lemmas.Bool.{eq-eqb, eqb-true, or_cases, or_parts}
 use Rattle.ncq_tree.specs.declared.model.Element.{Element}
 use Rattle.ncq_row.specs.declared.shape.Shape.{Shape}
 use Rattle.ncq_row.specs.Embeddings.{Row}
+use Rattle.ncq_row.specs.Formed.{shape_is_formed}
 use Rattle.ncq_row.specs.Widths.{width}
 use Rattle.ncq_row.proofs.CallerLemmas.{rows_have_width}
+use Rattle.ncq_plan.specs.declared.expr.Expr.{Expr}
 use Rattle.ncq_plan.specs.declared.expr.Expr.TheVariants.{Scan}
 use Rattle.ncq_plan.specs.Exprs.{expr_width}
 use Rattle.ncq_plan.specs.Deltas.{signed}
 use Rattle.ncq_plan.specs.Totals.{SignedRow as PlainRow, SameChanges}
+use Rattle.ncq_plan.specs.WellFormed.{IsWellFormedExpr, paths_step, paths_are_formed}
+use Rattle.ncq_plan.proofs.ExprCases.{fold_scan}
 use Rattle.ncq_plan.proofs.CallerLemmas.{delta_scan, width_scan}
 use Rattle.ncq_source.specs.declared.change.Entry.{Entry}
 use Rattle.ncq_change.specs.Entries.{element_rows, entry_delta, scan_delta}
@@ -26,6 +30,10 @@ use Rattle.ncq_feed.specs.Runs.{Run, IsUnderWay, IsFor, IsGiven, AreRight, IsSca
 use Rattle.ncq_feed.specs.ScanFeeds.{IsScanFed, numbered}
 use Rattle.ncq_feed.proofs.CountLaws.{right_count}
 use Rattle.ncq_feed.proofs.GrowthLaws.{all_append, stands_up}
+
+-- the paths of a scan's shape are well formed where the scan is
+pub scan_formed : (source : List ℕ) (shape : Shape) (expr : Expr) → expr ≡ Scan source shape → IsWellFormedExpr expr → shape_is_formed shape ≡ true
+scan_formed source shape expr is formed = sym (ap paths_are_formed is ∙ fold_scan paths_step source shape) ∙ formed.paths
 
 plain : (n : ℕ) (rows : List PlainRow) → unnumbered (numbered n rows) ≡ rows
 plain n [] = refl

@@ -4,6 +4,8 @@ ghost use Rattle.std.specs.Prelude.{IfOk, OnOk, take};
 ghost use Rattle.ncq_plan.specs.Deltas.{signed};
 ghost use Rattle.ncq_change.specs.Entries.{element_rows, entry_delta, scan_delta};
 ghost use Rattle.ncq_row.specs.declared.shape.Shape.{Shape as a_shape};
+ghost use Rattle.ncq_row.specs.Formed.{shape_is_formed};
+ghost use Rattle.ncq_shelf.specs.Contents.{AreFormed};
 ghost use Rattle.ncq_shelf.specs.Stands.{Stands};
 ghost use Rattle.ncq_feed.specs.Runs.{Run, IsUnderWay, ArePassed, news_in, IsScanFile, own_due};
 ghost use Rattle.ncq_feed.specs.Runs.{own_in, due};
@@ -114,9 +116,11 @@ fn feed_scan<L: Ledger>(
 
 /// The shape of a scan.
 fn shape_of(shelf: &Shelf, at: u64) -> &Shape
-    requires { IsScanFile shelf.now at }
-    ensures { (source : List ℕ) (shape : a_shape)
+    requires formed { AreFormed shelf.now }
+    requires scan { IsScanFile shelf.now at }
+    ensures shape { (source : List ℕ) (shape : a_shape)
         → Stands shelf.now (Expr.Scan source shape) at → result.now ≡ shape }
+    ensures formed { shape_is_formed result.now ≡ true }
 {
     match shelf.expr(at) {
         Expr::Scan { shape, .. } => shape,
@@ -132,6 +136,7 @@ fn changes_of<L: Ledger>(
     number: u64,
     steps: &mut Steps<L>,
 ) -> Result<SignedRows, AllocError>
+    requires { shape_is_formed shape.now ≡ true }
     ensures rows { IfOk result (λ rows. rows ≡ numbered number (scan_delta shape.now entries.now)) }
     ensures cost { steps.new ≤ steps.old + length (scan_delta shape.now entries.now) }
 {
@@ -151,6 +156,7 @@ fn add_entry<L: Ledger>(
     out: &mut SignedRows,
     steps: &mut Steps<L>,
 ) -> Result<(), AllocError>
+    requires { shape_is_formed shape.now ≡ true }
     ensures rows { OnOk result
         (out.new ≡ out.old ++ numbered number (entry_delta shape.now entry.now)) }
     ensures cost { steps.new ≤ steps.old + length (entry_delta shape.now entry.now) }
@@ -169,6 +175,7 @@ fn rows_in<L: Ledger>(
     element: &Option<Shared<Written>>,
     steps: &mut Steps<L>,
 ) -> Result<Rows, AllocError>
+    requires { shape_is_formed shape.now ≡ true }
     ensures rows { IfOk result (λ rows. rows ≡ element_rows shape.now element.now) }
     ensures cost { steps.new ≤ steps.old + length (element_rows shape.now element.now) }
 {

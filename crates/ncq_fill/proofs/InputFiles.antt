@@ -9,13 +9,15 @@ use Rattle.ncq_base.proofs.Tests.{both_true}
 use Rattle.ncq_row.specs.Embeddings.{Row}
 use Rattle.ncq_row.specs.declared.pair.Pair.{Pair}
 use Rattle.ncq_row.specs.declared.shape.Shape.{Shape}
+use Rattle.ncq_row.specs.Formed.{shape_is_formed}
 use Rattle.ncq_plan.specs.declared.expr.Expr.{Expr}
 use Rattle.ncq_plan.specs.declared.expr.Expr.TheVariants.{Scan, EqSel, RangeSel, Join, rolls-EqSel, rolls-RangeSel, rolls-Join}
 use Rattle.ncq_plan.specs.declared.expr.Expr.TheViews.{out-Expr, out-roll-Expr}
 use Rattle.ncq_plan.specs.declared.expr.Expr.TheOpen.Expr-F.{EqSel as EqualLayer, RangeSel as RangeLayer, Join as JoinLayer}
 use Rattle.ncq_plan.specs.Exprs.{World, rows_in, expr_width, scan_rows, join_rows}
 use Rattle.ncq_plan.specs.Meets.{has_atom, is_within}
-use Rattle.ncq_plan.specs.WellFormed.{IsWellFormedExpr, slots_fit, pair_fits}
+use Rattle.ncq_plan.specs.WellFormed.{IsWellFormedExpr, paths_step, paths_are_formed, slots_fit, pair_fits}
+use Rattle.ncq_plan.proofs.ExprCases.{fold_scan}
 use Rattle.ncq_plan.proofs.CallerLemmas.{fit_equal, fit_range, fit_join, rows_scan, rows_equal, rows_range, rows_join, rows_are_wide}
 use Rattle.ncq_base.specs.Counts.{SameCounts}
 use Rattle.ncq_midfile.specs.Content.{IsContent, IsSoundAt}
@@ -280,3 +282,7 @@ module _ (whole : Expr) (world : World) (source : List ℕ) (shape : Shape) (is 
 
   pub scan_steps : (before after : ℕ) → after ≤ before + length (scan_rows shape (world source)) → after ≤ before + length (rows_in whole world)
   scan_steps before after cost = subst (λ (rows : List Row). after ≤ before + length rows) (sym scanned) cost
+
+-- the paths of a scan's shape are well formed where the scan is
+pub scan_formed : (whole : Expr) → IsWellFormedExpr whole → (source : List ℕ) (shape : Shape) → whole ≡ Scan source shape → shape_is_formed shape ≡ true
+scan_formed whole formed source shape is = sym (ap paths_are_formed is ∙ fold_scan paths_step source shape) ∙ formed.paths

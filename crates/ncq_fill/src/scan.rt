@@ -1,6 +1,7 @@
 //! The rows of a scan, made from the elements.
-ghost use Rattle.std.specs.Prelude.{◌≡◌, ◌++◌, ◌+◌, ◌≤◌, length, map, IfOk, OnOk};
+ghost use Rattle.std.specs.Prelude.{◌≡◌, ◌++◌, ◌+◌, ◌≤◌, length, map, true, IfOk, OnOk};
 ghost use Rattle.ncq_base.specs.Counts.{SameCounts};
+ghost use Rattle.ncq_row.specs.Formed.{shape_is_formed};
 ghost use Rattle.ncq_plan.specs.Exprs.{scan_rows};
 ghost use Rattle.ncq_source.specs.Stores.{ShowsEach};
 ghost use Rattle.ncq_source.specs.StoreStates.{At, IsDeclared};
@@ -20,6 +21,7 @@ pub(crate) fn scan<L: Ledger>(
     store: &Store,
     steps: &mut Steps<L>,
 ) -> Result<Rows, AllocError>
+    requires { shape_is_formed shape.now ≡ true }
     ensures counts { IfOk result (λ rows.
         SameCounts rows (scan_rows shape.now (world_in store.now source.now))) }
     ensures cost { steps.new ≤ steps.old
@@ -42,7 +44,8 @@ fn append_shown<L: Ledger>(
     rows: &mut Rows,
     steps: &mut Steps<L>,
 ) -> Result<(), AllocError>
-    requires { IsDeclared store.now id }
+    requires declared { IsDeclared store.now id }
+    requires formed { shape_is_formed shape.now ≡ true }
     ensures rows { OnOk result (At store.now id (λ source.
         rows.new ≡ rows.old ++ scan_rows shape.now (map (λ entry. entry.1) source.shown))) }
     ensures shown { At store.now id ShowsEach }

@@ -10,8 +10,9 @@ use Rattle.ncq_shelf.specs.Parts.{IsInput, IsPart}
 use Rattle.ncq_shelf.specs.Parts.IsPart.{within}
 use Rattle.ncq_plan.specs.Exprs.{operators}
 use Rattle.ncq_shelf.proofs.CallerLemmas.{input_of-equal, equal-input_of, input_of-range, range-input_of, input_of-join, left-input_of, right-input_of}
+use Rattle.ncq_plan.proofs.ExprCases.{fold_equal, fold_range, fold_join}
 use Rattle.ncq_plan.proofs.CallerLemmas.{operators_equal, operators_range, operators_join, fit_equal, fit_range, fit_join}
-use Rattle.ncq_plan.specs.WellFormed.{IsWellFormedExpr, slots_fit}
+use Rattle.ncq_plan.specs.WellFormed.{IsWellFormedExpr, paths_step, paths_are_formed, slots_fit}
 use Rattle.ncq_shelf.specs.KeptFiles.{Files}
 use Rattle.ncq_shelf.specs.Stands.{Stands}
 use Rattle.ncq_shelf.specs.Inputs.{AreInputs}
@@ -52,6 +53,7 @@ equal_one whole inner input slot constant is same = subst (λ w. HasOne w inner)
   formed = λ w. record {
     small = let c = operators_equal input slot constant in let m = w.small in omega arith;
     slots = first_true (slots_fit input) _ (sym (fit_equal input slot constant) ∙ w.slots);
+    paths = sym (fold_equal paths_step input slot constant) ∙ w.paths;
   };
 }))
 
@@ -63,6 +65,7 @@ range_one whole inner input slot interval is same = subst (λ w. HasOne w inner)
   formed = λ w. record {
     small = let c = operators_range input slot interval in let m = w.small in omega arith;
     slots = first_true (slots_fit input) _ (sym (fit_range input slot interval) ∙ w.slots);
+    paths = sym (fold_range paths_step input slot interval) ∙ w.paths;
   };
 }))
 
@@ -75,10 +78,12 @@ join_two whole first second left right pairs is same other = subst (λ w. HasTwo
   left_formed = λ w. record {
     small = let c = operators_join left right pairs in let m = w.small in omega arith;
     slots = first_true (slots_fit left) (slots_fit right) (first_true (slots_fit left && slots_fit right) _ (sym (fit_join left right pairs) ∙ w.slots));
+    paths = first_true (paths_are_formed left) (paths_are_formed right) (sym (fold_join paths_step left right pairs) ∙ w.paths);
   };
   right_formed = λ w. record {
     small = let c = operators_join left right pairs in let m = w.small in omega arith;
     slots = second_true (slots_fit left) (slots_fit right) (first_true (slots_fit left && slots_fit right) _ (sym (fit_join left right pairs) ∙ w.slots));
+    paths = second_true (paths_are_formed left) (paths_are_formed right) (sym (fold_join paths_step left right pairs) ∙ w.paths);
   };
 })))
 

@@ -1,6 +1,6 @@
 -- The plan that joins first has the rows of the plan that selects first, in the same order, and is
 -- well formed.
-use Rattle.std.proofs.Common.{◌≡◌, ℕ, ◌+◌, ◌<◌, ◌≤◌, ◌&&◌, Bool, true, false, List, [], ◌∷◌, ◌++◌, length, length-append, map, refl, sym, ◌∙◌, ap, subst, arith, drop, get_or}
+use Rattle.std.proofs.Common.{◌≡◌, ℕ, ◌+◌, ◌<◌, ◌≤◌, ◌&&◌, Bool, true, List, [], ◌∷◌, ◌++◌, length, length-append, map, refl, sym, ◌∙◌, ap, subst, arith, drop, get_or}
 use Rattle.std.specs.List.{filter, list_all, AllByRecursion}
 use Rattle.std.proofs.lemmas.List.{drop_more}
 use Rattle.std.proofs.lemmas.List.Folds.{list_all-append, list_all-map}
@@ -17,9 +17,9 @@ use Rattle.ncq_plan.specs.Plans.{with_equals, with_ranges, plan_of}
 use Rattle.ncq_plan.specs.Products.{arm_width, equal_holds, range_holds, pair_holds, arms_hold, arm_rows}
 use Rattle.ncq_plan.specs.Residuals.{tests_are_within}
 use Rattle.ncq_plan.specs.Templates.{template_is_within}
-use Rattle.ncq_plan.specs.WellFormed.{slots_fit, arms_width, equals_in, ranges_in, ArmFits, ArmsFit, IsWellFormed, IsWellFormedExpr}
+use Rattle.ncq_plan.specs.WellFormed.{slots_fit, paths_are_formed, arms_width, equals_in, ranges_in, ArmsFit, arm_is_formed, IsWellFormed, IsWellFormedExpr}
 use Rattle.ncq_plan.proofs.Lists.{filter_alike, filter-filter, map-map}
-use Rattle.ncq_plan.proofs.PlanFits.{equals_operators, ranges_operators, equals_width, ranges_width, equals_fit, ranges_fit, plan_operators, plan_is_well_formed}
+use Rattle.ncq_plan.proofs.PlanFits.{equals_operators, ranges_operators, equals_width, ranges_width, equals_fit, ranges_fit, equals_paths, ranges_paths, plan_operators, plan_is_well_formed}
 use Rattle.ncq_plan.proofs.PlanLaws.{meets_equal, meets_range, equals_rows, ranges_rows}
 use Rattle.ncq_plan.proofs.ProductLaws.{plan_rows}
 use Rattle.ncq_plan.proofs.WidthLaws.{plan_is_wide}
@@ -47,6 +47,10 @@ bare_fit offset [] fits = tt
 bare_fit offset (arm ∷ arms) fits =
     (record { equals = tt; ranges = tt; lefts = fits.0.lefts; rights = fits.0.rights }, bare_fit (offset + arm_width arm) arms fits.1)
 
+bare_paths : (arms : List Arm) → list_all arm_is_formed (map bare_arm arms) ≡ list_all arm_is_formed arms
+bare_paths [] = refl
+bare_paths (arm ∷ arms) = ap (λ b. arm_is_formed arm && b) (bare_paths arms)
+
 pub bare_is_well_formed : (query : NormalQuery) → IsWellFormed query → IsWellFormed (bare_query query)
 bare_is_well_formed query fits = record {
   some = subst (λ n. 1 ≤ n) (sym (bare_length query.arms)) fits.some;
@@ -55,6 +59,7 @@ bare_is_well_formed query fits = record {
   equals = let none = bare_equals query.arms in omega arith;
   ranges = let none = bare_ranges query.arms in omega arith;
   arms = bare_fit 0 query.arms fits.arms;
+  paths = bare_paths query.arms ∙ fits.paths;
   residual = ap (λ w. tests_are_within w query.residual) (bare_width query.arms) ∙ fits.residual;
   template = ap (λ w. template_is_within w query.template) (bare_width query.arms) ∙ fits.template;
 }
@@ -147,8 +152,14 @@ module _ (query : NormalQuery) (fits : IsWellFormed query) where
       let fewer = fits.ranges in
       omega arith
 
+  late_paths : paths_are_formed (late_of query) ≡ true
+  late_paths =
+      ranges_paths ranges (with_equals (bare_of query) equals)
+      ∙ equals_paths equals (bare_of query)
+      ∙ (bare_plan_is_well_formed query fits).paths
+
   pub late_is_well_formed : IsWellFormedExpr (late_of query)
-  late_is_well_formed = record { small = late_is_small; slots = late_fits }
+  late_is_well_formed = record { small = late_is_small; slots = late_fits; paths = late_paths }
 
 -- the rows
 

@@ -1,5 +1,5 @@
 -- The plan of a well formed query is well formed.
-use Rattle.std.proofs.Common.{◌≡◌, ℕ, ◌+◌, ◌*◌, ◌<◌, ◌≤◌, ◌&&◌, Bool, true, List, [], ◌∷◌, length, refl, sym, ◌∙◌, ap, subst, arith, zero-add}
+use Rattle.std.proofs.Common.{◌≡◌, ℕ, ◌+◌, ◌*◌, ◌<◌, ◌≤◌, ◌&&◌, Bool, true, false, List, [], ◌∷◌, length, refl, sym, ◌∙◌, ap, subst, arith, zero-add}
 use Rattle.std.specs.Prelude.{nat_lt}
 use Rattle.std.specs.List.{AllByRecursion, list_all}
 use Rattle.std.proofs.lemmas.Bool.Decides.{nat_tests}
@@ -14,10 +14,15 @@ use Rattle.ncq_plan.specs.Exprs.{expr_width, operators}
 use Rattle.ncq_plan.specs.Plans.{with_equals, with_ranges, arm_plan, with_arms, arms_plan, plan_of}
 use Rattle.ncq_plan.proofs.ExprRows.{width_scan, width_equal, width_range, width_join, operators_scan, operators_equal, operators_range, operators_join, fit_scan, fit_equal, fit_range, fit_join}
 use Rattle.ncq_plan.specs.Products.{arm_width}
-use Rattle.ncq_plan.specs.WellFormed.{pair_fits, slots_fit, IsWellFormedExpr, equals_in, ranges_in, ArmFits, ArmsFit, IsWellFormed}
+use Rattle.ncq_plan.proofs.ExprCases.{fold_scan, fold_equal, fold_range, fold_join}
+use Rattle.ncq_plan.specs.WellFormed.{paths_step, paths_are_formed, arm_is_formed, pair_fits, slots_fit, IsWellFormedExpr, equals_in, ranges_in, ArmFits, ArmsFit, IsWellFormed}
 
 below : (a b : ℕ) → a < b → nat_lt a b ≡ true
 below a b h = grind (arith, nat_tests)
+
+split : (a b : Bool) → (a && b) ≡ true → (a ≡ true) × (b ≡ true)
+split true b e = (refl, e)
+split false b e = cc
 
 both : (s t : Bool) → s ≡ true → t ≡ true → (s && t) ≡ true
 both s t p q = λ i. p i && q i
@@ -100,6 +105,29 @@ joined_fit (arm ∷ arms) plan fit all =
     (pairs_fit (expr_width plan) (expr_width (arm_plan arm)) arm.pairs all.0.lefts (subst (λ w. AllByRecursion (λ pair. pair.right < w) arm.pairs) (sym width) all.0.rights)))
     (subst (λ w. ArmsFit w arms) (sym wide) all.1)
 
+-- which paths stand in the shapes
+
+pub equals_paths : (equals : List EqualTo) (input : Expr) → paths_are_formed (with_equals input equals) ≡ paths_are_formed input
+equals_paths [] input = refl
+equals_paths (equal ∷ more) input = equals_paths more (EqSel input equal.slot equal.constant) ∙ fold_equal paths_step input equal.slot equal.constant
+
+pub ranges_paths : (ranges : List Within) (input : Expr) → paths_are_formed (with_ranges input ranges) ≡ paths_are_formed input
+ranges_paths [] input = refl
+ranges_paths (range ∷ more) input = ranges_paths more (RangeSel input range.slot range.interval) ∙ fold_range paths_step input range.slot range.interval
+
+arm_paths : (arm : Arm) → paths_are_formed (arm_plan arm) ≡ arm_is_formed arm
+arm_paths arm =
+    ranges_paths arm.ranges (with_equals (Scan arm.source arm.shape) arm.equals)
+    ∙ equals_paths arm.equals (Scan arm.source arm.shape)
+    ∙ fold_scan paths_step arm.source arm.shape
+
+joined_paths : (arms : List Arm) (plan : Expr) → paths_are_formed plan ≡ true → list_all arm_is_formed arms ≡ true → paths_are_formed (with_arms plan arms) ≡ true
+joined_paths [] plan fit all = fit
+joined_paths (arm ∷ arms) plan fit all =
+    let s = split (arm_is_formed arm) (list_all arm_is_formed arms) all in
+    joined_paths arms (Join plan (arm_plan arm) arm.pairs)
+    (fold_join paths_step plan (arm_plan arm) arm.pairs ∙ both (paths_are_formed plan) (paths_are_formed (arm_plan arm)) fit (arm_paths arm ∙ s.0)) s.1
+
 -- an operator for each arm, for each but the first a join, and one for each demand
 pub plan_operators : (query : NormalQuery) → IsWellFormed query → operators (plan_of query) + 1 ≡ 2 * length query.arms + equals_in query.arms + ranges_in query.arms
 plan_operators query fits = by query.arms fits.some
@@ -112,8 +140,15 @@ pub plan_is_well_formed : (query : NormalQuery) → IsWellFormed query → IsWel
 plan_is_well_formed query fits = record {
   small = let many = plan_operators query fits in let few = fits.few in let equals = fits.equals in let ranges = fits.ranges in omega arith;
   slots = by query.arms fits.some fits.arms;
+  paths = formed query.arms fits.some fits.paths;
 }
   where
     by : (arms : List Arm) → 1 ≤ length arms → ArmsFit 0 arms → slots_fit (arms_plan arms) ≡ true
     by [] some fit = absurd (omega arith)
     by (arm ∷ arms) some fit = joined_fit arms (arm_plan arm) (arm_fits 0 arm fit.0) (subst (λ w. ArmsFit w arms) (zero-add (arm_width arm) ∙ sym (arm_plan-width arm)) fit.1)
+
+    formed : (arms : List Arm) → 1 ≤ length arms → list_all arm_is_formed arms ≡ true → paths_are_formed (arms_plan arms) ≡ true
+    formed [] some paths = absurd (omega arith)
+    formed (arm ∷ arms) some paths =
+        let s = split (arm_is_formed arm) (list_all arm_is_formed arms) paths in
+        joined_paths arms (arm_plan arm) (arm_paths arm ∙ s.0) s.1

@@ -3,11 +3,12 @@
 use Rattle.std.specs.Prelude.{◌≡◌, ℕ, ◌+◌, ◌<◌, ◌≤◌, Bool, true, ◌&&◌, nat_lt, List, [], ◌∷◌}
 use Rattle.std.specs.Prelude.{length}
 use Rattle.std.specs.List.{AllByRecursion, list_all}
+use Rattle.ncq_row.specs.Formed.{shape_is_formed}
 use Rattle.ncq_row.specs.declared.pair.Pair.{Pair}
 use Rattle.ncq_plan.specs.declared.expr.Expr.{Expr}
 use Rattle.ncq_plan.specs.declared.expr.Expr.TheOpen.{Expr-F}
 use Rattle.ncq_plan.specs.declared.expr.Expr.TheOpen.Expr-F.{Scan, EqSel, RangeSel, Join}
-use Rattle.ncq_plan.specs.declared.expr.Expr.TheFolds.{para-Expr}
+use Rattle.ncq_plan.specs.declared.expr.Expr.TheFolds.{fold-Expr, para-Expr}
 use Rattle.ncq_plan.specs.declared.query.Arm.{Arm}
 use Rattle.ncq_plan.specs.declared.query.NormalQuery.{NormalQuery}
 use Rattle.ncq_plan.specs.Exprs.{expr_width, operators}
@@ -32,10 +33,21 @@ slots_step (Join left right pairs) =
 abbrev pub slots_fit : Expr → Bool
 slots_fit = para-Expr Bool slots_step
 
--- an expression of at most 256 operators whose slots are there
+abbrev pub paths_step : Expr-F Bool → Bool
+paths_step (Scan source shape) = shape_is_formed shape
+paths_step (EqSel input slot constant) = input
+paths_step (RangeSel input slot interval) = input
+paths_step (Join left right pairs) = left && right
+
+-- whether each path of the shapes is well formed
+abbrev pub paths_are_formed : Expr → Bool
+paths_are_formed = fold-Expr Bool paths_step
+
+-- an expression of at most 256 operators whose slots are there and whose paths are well formed
 pub record IsWellFormedExpr (expr : Expr) : Type 0 where
   pub small : operators expr ≤ 256
   pub slots : slots_fit expr ≡ true
+  pub paths : paths_are_formed expr ≡ true
 
 -- the widths of arms together
 abbrev pub arms_width : List Arm → ℕ
@@ -59,13 +71,17 @@ pub record ArmFits (offset : ℕ) (arm : Arm) : Type 0 where
   pub lefts : AllByRecursion (λ pair. pair.left < offset) arm.pairs
   pub rights : AllByRecursion (λ pair. pair.right < arm_width arm) arm.pairs
 
+-- whether each path of the arm's shape is well formed
+abbrev pub arm_is_formed : Arm → Bool
+arm_is_formed arm = shape_is_formed arm.shape
+
 -- each arm fits at its offset, the sum of the widths of those before
 abbrev pub ArmsFit : ℕ → List Arm → Type 0
 ArmsFit offset [] = Unit {0}
 ArmsFit offset (arm ∷ arms) = ArmFits offset arm × ArmsFit (offset + arm_width arm) arms
 
 -- 1 to 8 arms, at most 64 slots, 96 demands of equality and 32 ranges; each slot that is named is
--- there
+-- there, and each path is well formed
 pub record IsWellFormed (query : NormalQuery) : Type 0 where
   pub some : 1 ≤ length query.arms
   pub few : length query.arms ≤ 8
@@ -73,5 +89,6 @@ pub record IsWellFormed (query : NormalQuery) : Type 0 where
   pub equals : equals_in query.arms ≤ 96
   pub ranges : ranges_in query.arms ≤ 32
   pub arms : ArmsFit 0 query.arms
+  pub paths : list_all arm_is_formed query.arms ≡ true
   pub residual : tests_are_within (arms_width query.arms) query.residual ≡ true
   pub template : template_is_within (arms_width query.arms) query.template ≡ true

@@ -3,11 +3,11 @@
 use Rattle.std.specs.Prelude.{ℕ, if◌then◌else◌, List, [], ◌∷◌, ◌++◌, map}
 use Rattle.std.specs.List.{flat_map}
 use Rattle.std.specs.Str.{bytes_eq}
+use Rattle.ncq_path.specs.declared.path.Path.{Path}
 use Rattle.ncq_tree.specs.declared.model.Attribute.{Attribute}
 use Rattle.ncq_tree.specs.declared.model.Element.{Element}
 use Rattle.ncq_tree.specs.declared.model.Node.{Node}
 use Rattle.ncq_tree.specs.declared.model.Node.TheVariants.{Element as element_node}
-use Rattle.ncq_tree.specs.Nodes.{by_nodes}
 use Rattle.ncq_row.specs.declared.shape.Shape.{Shape}
 use Rattle.ncq_row.specs.declared.shape.ShapeContent.{ShapeContent}
 use Rattle.ncq_row.specs.declared.shape.ShapeSuffix.{ShapeSuffix}
@@ -15,6 +15,7 @@ use Rattle.ncq_row.specs.declared.shape.ShapeSuffix.TheVariants.{Plain, Element 
 use Rattle.ncq_row.specs.declared.shape.ShapeSuffix.TheVariants.{Content}
 use Rattle.ncq_row.specs.declared.value.Value.{Value}
 use Rattle.ncq_row.specs.declared.value.Value.TheVariants.{Text, Nodes}
+use Rattle.ncq_row.specs.Reached.{reached, reached_from}
 use Rattle.ncq_row.specs.Shapes.{by_shapes, by_contents}
 
 -- a value for each place
@@ -33,27 +34,6 @@ abbrev pub one_of_each : List Rows → Rows
 one_of_each [] = [] ∷ []
 one_of_each (rows ∷ more) = paired rows (one_of_each more)
 
--- a text is no element
-abbrev pub no_elements : List ℕ → List Element
-no_elements text = []
-
--- the element itself, where it has this name
-abbrev pub element_if_named : List ℕ → List ℕ → List Attribute → List (Node × List Element)
-    → List Element
-element_if_named tag name attributes below =
-    if bytes_eq name tag
-    then record { name = name; attributes = attributes; children = map (λ p. p.0) below } ∷ []
-    else []
-
--- the elements that a tag reaches at a node
-abbrev pub reached_at : List ℕ → Node → List Element
-reached_at tag = by_nodes no_elements (element_if_named tag)
-
--- Which elements a part may choose: those among the nodes that have its tag as their name, in
--- document order.
-abbrev pub reached : List ℕ → List Node → List Element
-reached tag nodes = flat_map (reached_at tag) nodes
-
 -- the value of the attribute of this name, where there is one
 abbrev pub attribute_rows : List Attribute → List ℕ → Rows
 attribute_rows [] name = []
@@ -68,21 +48,21 @@ suffix_rows Content e = (Nodes e.children ∷ []) ∷ []
 
 -- the values of the attributes, then those of the content, whose rows are given, then that of the
 -- suffix
-abbrev pub shape_rows : List ℕ → List (List ℕ) → (Element → Rows) → ShapeSuffix → Element → Rows
-shape_rows tag attributes content suffix e =
+abbrev pub shape_rows : Path → List (List ℕ) → (Element → Rows) → ShapeSuffix → Element → Rows
+shape_rows path attributes content suffix e =
     paired (one_of_each (map (attribute_rows e.attributes) attributes))
     (paired (content e) (suffix_rows suffix e))
 
 -- of parts, each of which is given with the rows that it has at an element: for each part one of
 -- the elements that it reaches
 abbrev pub parts_rows : List (Shape × (Element → Rows)) → Element → Rows
-parts_rows below e = one_of_each (map (λ p. flat_map p.1 (reached p.0.tag e.children)) below)
+parts_rows below e = one_of_each (map (λ p. flat_map p.1 (reached_from p.0.tag e)) below)
 
 -- the children
 abbrev pub value_rows : Element → Rows
 value_rows e = (Nodes e.children ∷ []) ∷ []
 
--- the rows of a shape that is embedded at this element, whatever the element's name is
+-- the rows of a shape that is embedded at this element, wherever its path leads
 abbrev pub rows_at : Shape → Element → Rows
 rows_at = by_shapes shape_rows parts_rows value_rows
 
@@ -93,6 +73,10 @@ content_rows = by_contents shape_rows parts_rows value_rows
 -- the rows of a shape at the elements that it reaches among the nodes
 abbrev pub rows_among : Shape → List Node → Rows
 rows_among shape nodes = flat_map (rows_at shape) (reached shape.tag nodes)
+
+-- the rows of a part at the elements that it may choose at an element
+abbrev pub rows_from : Shape → Element → Rows
+rows_from shape e = flat_map (rows_at shape) (reached_from shape.tag e)
 
 -- The rows of a shape in an element, one for each embedding: its values at the places of the shape
 -- in reading order.

@@ -13,6 +13,7 @@ mod nodes;
 mod pair;
 mod places;
 mod product;
+mod reach;
 mod row;
 mod shape;
 mod slot;

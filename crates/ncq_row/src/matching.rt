@@ -3,24 +3,27 @@
 //! Where a shape has more than one part, a look ahead tells first whether each of them is found. So
 //! no rows are joined where a part is found nowhere.
 ghost use Rattle.std.specs.Prelude.{◌≡◌, ◌++◌, [], ◌∷◌, ◌+◌, ◌≤◌, length, map};
-ghost use Rattle.std.specs.Prelude.{IfOk, OnOk, OnErr};
-ghost use Rattle.std.specs.List.{flat_map};
+ghost use Rattle.std.specs.Prelude.{IfOk, OnOk, OnErr, true, if◌then◌else◌};
+ghost use Rattle.std.specs.List.{flat_map, list_all};
 ghost use Rattle.std.specs.Option.{option_to_list};
-ghost use Rattle.ncq_row.specs.Embeddings.{paired, one_of_each, reached_at};
+ghost use Rattle.ncq_row.specs.Embeddings.{paired, one_of_each};
 ghost use Rattle.ncq_row.specs.Embeddings.{attribute_rows, suffix_rows, content_rows};
-ghost use Rattle.ncq_row.specs.Embeddings.{rows_at, rows_among, rows_of};
-ghost use Rattle.ncq_row.specs.Found.{option_rows};
+ghost use Rattle.ncq_row.specs.Embeddings.{rows_at, rows_among, rows_from, rows_of};
+ghost use Rattle.ncq_row.specs.Formed.{shape_is_formed, content_is_formed};
+ghost use Rattle.ncq_row.specs.Found.{option_rows, found_elements};
 ghost use Rattle.ncq_row.specs.Subjects.{element_of};
 
 use crate::attributes::attribute_values;
 use crate::lookahead::are_found;
 use crate::nodes::Nodes;
 use crate::product::{append_found, followed, only, paired, preceded, row_of};
+use crate::reach::{Reached, reached_by_arm, reached_by_part};
 use crate::row::{Row, Rows};
 use crate::shape::{Shape, ShapeContent, ShapeSuffix};
 use crate::subject::Subject;
 use crate::value::Value;
-use ncq_base::{Shared, Steps};
+use ncq_base::{Bytes, Shared, Steps};
+use ncq_path::Path;
 use ncq_pyx::Written;
 use ncq_tree::{Element, Node};
 use std::alloc::{AllocError, Global};
@@ -36,6 +39,7 @@ pub fn match_shape<L: Ledger>(
     rows: &mut Rows,
     steps: &mut Steps<L>,
 ) -> Result<(), AllocError>
+    requires { shape_is_formed shape.now ≡ true }
     ensures ok { OnOk result (rows.new ≡ rows.old ++ rows_of shape.now element.now) }
     ensures err { OnErr result (rows.new ≡ rows.old) }
     ensures counted { OnOk result (steps.new ≡ steps.old + length (rows_of shape.now element.now)) }
@@ -53,6 +57,7 @@ pub fn match_written<L: Ledger>(
     rows: &mut Rows,
     steps: &mut Steps<L>,
 ) -> Result<(), AllocError>
+    requires { shape_is_formed shape.now ≡ true }
     ensures ok { OnOk result (rows.new ≡ rows.old ++ rows_of shape.now element.now) }
     ensures err { OnErr result (rows.new ≡ rows.old) }
     ensures counted { OnOk result (steps.new ≡ steps.old + length (rows_of shape.now element.now)) }
@@ -69,6 +74,7 @@ fn match_subject<L: Ledger>(
     rows: &mut Rows,
     steps: &mut Steps<L>,
 ) -> Result<(), AllocError>
+    requires { shape_is_formed shape.now ≡ true }
     ensures ok { OnOk result (rows.new ≡ rows.old ++ rows_of shape.now (element_of subject.entry)) }
     ensures err { OnErr result (rows.new ≡ rows.old) }
     ensures counted { OnOk result (steps.new
@@ -92,20 +98,47 @@ fn count<L: Ledger>(made: usize, steps: &mut Steps<L>)
 }
 
 /// What the shape gives in the subject.
-#[tactic(auto, using(crate::proofs::CallerLemmas::rows_are))]
 fn found_in(alloc: Global, shape: &Shape, subject: Subject<'_>) -> Result<Rows, AllocError>
+    requires { shape_is_formed shape.now ≡ true }
     ensures { IfOk result (λ rows. rows ≡ rows_of shape.now (element_of subject.entry)) }
 {
-    if subject.element().name != shape.tag {
+    match &shape.tag {
+        Path::Tag(name) => found_in_named(alloc, shape, name, subject),
+        _ => found_in_reached(alloc, shape, subject),
+    }
+}
+
+/// The same for a shape whose path is one name.
+fn found_in_named(
+    alloc: Global,
+    shape: &Shape,
+    name: &Bytes,
+    subject: Subject<'_>,
+) -> Result<Rows, AllocError>
+    requires formed { shape_is_formed shape.now ≡ true }
+    requires named { shape.now.tag ≡ Path.Tag name.now }
+    ensures { IfOk result (λ rows. rows ≡ rows_of shape.now (element_of subject.entry)) }
+{
+    if subject.element().name != *name {
         return Ok(Rows::new(alloc));
     }
     found_at(alloc, shape, subject)
 }
 
-/// What the shape gives at this subject, whatever the element's name is.
+/// The same for a shape with any path.
+fn found_in_reached(alloc: Global, shape: &Shape, subject: Subject<'_>) -> Result<Rows, AllocError>
+    requires { shape_is_formed shape.now ≡ true }
+    ensures { IfOk result (λ rows. rows ≡ rows_of shape.now (element_of subject.entry)) }
+{
+    let reached = reached_by_arm(alloc, &shape.tag, subject.element())?;
+    found_at_reached(alloc, shape, subject, reached)
+}
+
+/// What the shape gives at this subject, wherever its path leads.
 #[cycle(matching)]
 #[tactic(auto, using(crate::proofs::CallerLemmas::rows_are))]
 fn found_at(alloc: Global, shape: &Shape, subject: Subject<'_>) -> Result<Rows, AllocError>
+    requires { shape_is_formed shape.now ≡ true }
     ensures { IfOk result (λ rows. rows ≡ rows_at shape.now (element_of subject.entry)) }
 {
     let element = subject.element();
@@ -148,61 +181,134 @@ fn found_in_content(
     content: &ShapeContent,
     element: &Element,
 ) -> Result<Rows, AllocError>
+    requires { content_is_formed content.now ≡ true }
     ensures { IfOk result (λ rows. rows ≡ content_rows content.now element.now) }
 {
     match content {
-        ShapeContent::Parts(parts) => found_in_parts(
-            alloc,
-            parts.as_slice(),
-            element.children.as_slice(),
-        ),
+        ShapeContent::Parts(parts) => found_in_parts(alloc, parts.as_slice(), element),
         ShapeContent::Value => only(alloc, row_of(alloc, children_of(alloc, element)?)?),
     }
 }
 
-/// What the parts give among the nodes.
+/// What the parts give at the element.
 #[cycle(matching)]
-fn found_in_parts(alloc: Global, parts: &[Shape], nodes: &[Node]) -> Result<Rows, AllocError>
+fn found_in_parts(alloc: Global, parts: &[Shape], element: &Element) -> Result<Rows, AllocError>
+    requires { list_all shape_is_formed parts.now ≡ true }
     ensures { IfOk result (λ rows.
-        rows ≡ one_of_each (map (λ part. rows_among part nodes.now) parts.now)) }
+        rows ≡ one_of_each (map (λ part. rows_from part element.now) parts.now)) }
 {
     if parts.is_empty() {
         return only(alloc, Row::new(alloc));
     }
-    if parts.len() > 1 && !are_found(parts, nodes) {
+    if parts.len() > 1 && !are_found(parts, element) {
         return Ok(Rows::new(alloc));
     }
-    let mut rows = found_among(alloc, &parts[0], nodes)?;
+    let mut rows = found_from(alloc, &parts[0], element)?;
     for i in 1..parts.len() {
-        let found = found_among(alloc, &parts[i], nodes)?;
+        let found = found_from(alloc, &parts[i], element)?;
         rows = paired(alloc, rows, found)?;
     }
     Ok(rows)
 }
 
-/// What the shape gives at those of the nodes that it reaches.
+/// What a part gives at the elements that it may choose at the element.
 #[cycle(matching)]
-fn found_among(alloc: Global, shape: &Shape, nodes: &[Node]) -> Result<Rows, AllocError>
-    ensures { IfOk result (λ rows. rows ≡ rows_among shape.now nodes.now) }
+fn found_from(alloc: Global, part: &Shape, element: &Element) -> Result<Rows, AllocError>
+    requires { shape_is_formed part.now ≡ true }
+    ensures { IfOk result (λ rows. rows ≡ rows_from part.now element.now) }
 {
-    let mut all = Rows::new(alloc);
-    for node in nodes {
-        add_found(alloc, shape, node, &mut all)?;
+    match &part.tag {
+        Path::Tag(name) => found_among(alloc, part, name, element.children.as_slice()),
+        _ => found_from_reached(alloc, part, element),
+    }
+}
+
+/// The same for a part with any path.
+#[cycle(matching)]
+fn found_from_reached(alloc: Global, part: &Shape, element: &Element) -> Result<Rows, AllocError>
+    requires { shape_is_formed part.now ≡ true }
+    ensures { IfOk result (λ rows. rows ≡ rows_from part.now element.now) }
+{
+    let reached = reached_by_part(alloc, &part.tag, element)?;
+    found_at_reached(alloc, part, Subject::Lone(element), reached)
+}
+
+/// What the shape gives at the subject, where it is reached, and at the elements below it that are.
+#[cycle(matching)]
+fn found_at_reached(
+    alloc: Global,
+    shape: &Shape,
+    subject: Subject<'_>,
+    reached: Reached<'_>,
+) -> Result<Rows, AllocError>
+    requires { shape_is_formed shape.now ≡ true }
+    ensures { IfOk result (λ rows. rows
+        ≡ flat_map (rows_at shape.now) (found_elements (element_of subject.entry) reached.entry)) }
+{
+    let mut all = found_if(alloc, shape, subject, reached.itself)?;
+    let below = reached.below.as_slice();
+    for i in 0..below.len() {
+        let found = found_at(alloc, shape, Subject::Lone(below[i]))?;
+        append_found(&mut all, found)?;
     }
     Ok(all)
 }
 
-/// Appends what the shape gives at the node, where it is an element that the shape reaches.
+/// What the shape gives at the subject, where it is reached.
 #[cycle(matching)]
-#[tactic(auto, using(crate::proofs::CallerLemmas::nodes_are))]
-fn add_found(alloc: Global, shape: &Shape, node: &Node, all: &mut Rows) -> Result<(), AllocError>
-    ensures { OnOk result (all.new
-        ≡ all.old ++ flat_map (rows_at shape.now) (reached_at shape.now.tag node.now)) }
+fn found_if(
+    alloc: Global,
+    shape: &Shape,
+    subject: Subject<'_>,
+    reached: bool,
+) -> Result<Rows, AllocError>
+    requires { shape_is_formed shape.now ≡ true }
+    ensures { IfOk result (λ rows. rows ≡ flat_map (rows_at shape.now)
+        (if reached then element_of subject.entry ∷ [] else [])) }
+{
+    if !reached {
+        return Ok(Rows::new(alloc));
+    }
+    found_at(alloc, shape, subject)
+}
+
+/// What a shape whose path is one name gives at those of the nodes that it reaches.
+#[cycle(matching)]
+fn found_among(
+    alloc: Global,
+    shape: &Shape,
+    name: &Bytes,
+    nodes: &[Node],
+) -> Result<Rows, AllocError>
+    requires formed { shape_is_formed shape.now ≡ true }
+    requires named { shape.now.tag ≡ Path.Tag name.now }
+    ensures { IfOk result (λ rows. rows ≡ rows_among shape.now nodes.now) }
+{
+    let mut all = Rows::new(alloc);
+    for node in nodes {
+        add_found(alloc, shape, name, node, &mut all)?;
+    }
+    Ok(all)
+}
+
+/// Appends what a shape whose path is one name gives at the node, where it is an element of that
+/// name.
+#[cycle(matching)]
+fn add_found(
+    alloc: Global,
+    shape: &Shape,
+    name: &Bytes,
+    node: &Node,
+    all: &mut Rows,
+) -> Result<(), AllocError>
+    requires formed { shape_is_formed shape.now ≡ true }
+    requires named { shape.now.tag ≡ Path.Tag name.now }
+    ensures { OnOk result (all.new ≡ all.old ++ rows_among shape.now (node.now ∷ [])) }
 {
     match node {
         Node::Text(_) => Ok(()),
         Node::Element(element) => {
-            if element.name != shape.tag {
+            if element.name != *name {
                 return Ok(());
             }
             append_found(all, found_at(alloc, shape, Subject::Lone(element))?)

@@ -1,6 +1,7 @@
 -- The texts of shapes, expressions and signatures.
 use Rattle.std.specs.Prelude.{ℕ, Bool, ◌==◌, if◌then◌else◌, List, [], ◌∷◌, ◌++◌, length, map}
 use Rattle.std.specs.Prelude.{codes, decimal}
+use Rattle.ncq_path.specs.Texts.{path_text}
 use Rattle.ncq_row.specs.declared.shape.ShapeContent.{ShapeContent}
 use Rattle.ncq_row.specs.declared.shape.ShapeContent.TheOpen.{ShapeContent-F, Shape-F}
 use Rattle.ncq_row.specs.declared.shape.ShapeContent.TheOpen.ShapeContent-F.{Parts, Value}
@@ -45,10 +46,10 @@ abbrev pub content_layer : ShapeContent-F (ShapeContent × List ℕ) (Shape × L
 content_layer (Parts shapes) = parts_text (map (λ s. s.1) shapes)
 content_layer Value = codes "="
 
--- the tag; `@` and the name for each attribute; the content; the suffix
+-- the path; `@` and the name for each attribute; the content; the suffix
 abbrev pub shape_layer : Shape-F (ShapeContent × List ℕ) (Shape × List ℕ) → List ℕ
 shape_layer shape =
-    shape.tag ++ led_by (codes "@") (codes "@") shape.attributes ++ shape.content.1
+    path_text shape.tag ++ led_by (codes "@") (codes "@") shape.attributes ++ shape.content.1
     ++ suffix_text shape.suffix
 
 -- the text of a shape: parts that are not empty joined by `,` in brackets, `=` for a value, `!e` or

@@ -10,6 +10,7 @@ ghost use Rattle.ncq_signature.specs.SignatureTexts.{suffix_text, led_by, closin
 
 use crate::signature::Signature;
 use ncq_base::{Atom, Bytes, write_atom, write_decimal, write_number};
+use ncq_path::write_path;
 use ncq_plan::{End, Expr, Interval, Pair};
 use ncq_row::{Shape, ShapeContent, ShapeSuffix};
 use std::alloc::AllocError;
@@ -160,7 +161,7 @@ fn push_shape(shape: &Shape, out: &mut Vec<u8>) -> Result<(), AllocError>
     ensures ok { OnOk result (out.new.items ≡ out.old.items ++ shape_text shape.now) }
     ensures front { StartsWith out.new.items out.old.items }
 {
-    out.extend_from_slice(shape.tag.as_slice())?;
+    write_path(&shape.tag, out)?;
     push_attributes(shape.attributes.as_slice(), out)?;
     push_content(&shape.content, out)?;
     push_suffix(shape.suffix, out)

@@ -14,6 +14,8 @@ mod instants;
 mod keys;
 mod lists;
 mod outside;
+mod path_statements;
+mod paths;
 mod reports;
 mod sources;
 mod statements;

@@ -1,6 +1,6 @@
 -- Where a token is a name, it is one of a statement.
 use Rattle.std.proofs.Common.{◌≡◌, ℕ, suc, ◌+◌, Bool, true, false, cond, List, [], ◌∷◌, take, Option, Some, None, Ok, refl, sym, ap, ◌∙◌, arith}
-use Rattle.std.specs.Prelude.{◌&&◌, ◌==◌, nat_lt, option_map, length, ◌-◌}
+use Rattle.std.specs.Prelude.{◌&&◌, ◌||◌, ◌==◌, nat_lt, option_map, length, ◌-◌}
 use Rattle.std.specs.List.{list_all, prefix_len}
 use Rattle.ncq_base.specs.Names.{is_name_start, is_name_byte}
 use Rattle.ncq_token.specs.declared.token.Token.{Token}
@@ -61,8 +61,14 @@ inside_well (b ∷ bytes) =
     either_well (b == 61) _ _ refl
     (either_well (b == 62) _ _ refl
     (either_well ((b == 47) && starts_with 62 bytes) _ _ refl
+    (either_well (b == 46) _ _ refl
+    (either_well (b == 124) _ _ refl
+    (either_well (b == 42) _ _ refl
+    (either_well (b == 43) _ _ refl
+    (either_well (b == 40) _ _ refl
+    (either_well (b == 41) _ _ refl
     (either_well (b == 36) _ _ (variable_well bytes)
-    (either_well (b == 34) _ _ (text_well bytes) (name_well (b ∷ bytes))))))
+    (either_well (b == 34) _ _ (text_well bytes) (name_well (b ∷ bytes))))))))))))
 
 either_token : (b : Bool) (x y : Token × ℕ) → is_well_named x.0 ≡ true → is_well_named y.0 ≡ true → is_well_named (cond b x y).0 ≡ true
 either_token true x y hx hy = hx
@@ -71,7 +77,7 @@ either_token false x y hx hy = hy
 less_well : (bytes : List ℕ) → is_well_named (less_at bytes).0 ≡ true
 less_well bytes =
     either_token (starts_with 47 bytes) _ _ refl
-    (either_token (starts_with 61 bytes) _ _ refl (either_token (starts_name bytes) _ _ refl refl))
+    (either_token (starts_with 61 bytes) _ _ refl (either_token (starts_name bytes || starts_with 40 bytes) _ _ refl refl))
 
 outside_well : (bytes : List ℕ) → found_well (outside_at bytes) ≡ true
 unfolding outside_at

@@ -1,12 +1,13 @@
 -- The tokens of a text: what stands at the front, row by row, and one behind the other.
-use Rattle.std.specs.Prelude.{◌≡◌, ◌++◌, ℕ, zero, suc, ◌+◌, ◌-◌, Bool, true, false, ◌&&◌, ◌==◌}
-use Rattle.std.specs.Prelude.{nat_lt, if◌then◌else◌, List, [], ◌∷◌, take, length, ◌≤◌, ◌<◌, Option}
-use Rattle.std.specs.Prelude.{Some, None, option_map, Result, Ok, Err}
+use Rattle.std.specs.Prelude.{◌≡◌, ◌++◌, ℕ, zero, suc, ◌+◌, ◌-◌, Bool, true, false, ◌&&◌, ◌||◌}
+use Rattle.std.specs.Prelude.{◌==◌, nat_lt, if◌then◌else◌, List, [], ◌∷◌, take, length, ◌≤◌, ◌<◌}
+use Rattle.std.specs.Prelude.{Option, Some, None, option_map, Result, Ok, Err}
 use Rattle.ncq_base.specs.declared.atom.Op.TheVariants.{Eq, Ne, Lt, Le, Gt, Ge}
 use Rattle.ncq_token.specs.declared.token.Token.{Token}
 use Rattle.ncq_token.specs.declared.token.Token.TheVariants.{TagStart, TagEnd, TagClose, EmptyClose}
 use Rattle.ncq_token.specs.declared.token.Token.TheVariants.{Name, Variable, Quoted, Word, Cmp}
-use Rattle.ncq_token.specs.declared.token.Token.TheVariants.{Comma}
+use Rattle.ncq_token.specs.declared.token.Token.TheVariants.{Comma, Dot, Bar, Star, Plus}
+use Rattle.ncq_token.specs.declared.token.Token.TheVariants.{Open, Shut}
 use Rattle.ncq_token.specs.declared.token.TokenError.{TokenError}
 use Rattle.ncq_token.specs.declared.token.TokenError.TheVariants.{OutOfMemory, BadByte}
 use Rattle.ncq_base.specs.Names.{is_space, is_name_start}
@@ -26,7 +27,7 @@ abbrev pub less_at : List ℕ → Token × ℕ
 less_at bytes =
     if starts_with 47 bytes then (TagEnd, 2)
     else (if starts_with 61 bytes then (Cmp Le, 2)
-    else (if starts_name bytes then (TagStart, 1)
+    else (if starts_name bytes || starts_with 40 bytes then (TagStart, 1)
     else (Cmp Lt, 1)))
 
 -- behind `$`
@@ -71,9 +72,15 @@ inside_at (b ∷ bytes) =
     if b == 61 then Some (Cmp Eq, 1)
     else (if b == 62 then Some (TagClose, 1)
     else (if (b == 47) && starts_with 62 bytes then Some (EmptyClose, 2)
+    else (if b == 46 then Some (Dot, 1)
+    else (if b == 124 then Some (Bar, 1)
+    else (if b == 42 then Some (Star, 1)
+    else (if b == 43 then Some (Plus, 1)
+    else (if b == 40 then Some (Open, 1)
+    else (if b == 41 then Some (Shut, 1)
     else (if b == 36 then variable_at bytes
     else (if b == 34 then text_at bytes
-    else name_at (b ∷ bytes)))))
+    else name_at (b ∷ bytes)))))))))))
 
 -- the longest token at the front
 unfoldable pub token_at : Bool → List ℕ → Found
@@ -92,6 +99,12 @@ inside_after inside (Quoted n) = inside
 inside_after inside (Word n) = inside
 inside_after inside (Cmp o) = inside
 inside_after inside Comma = inside
+inside_after inside Dot = inside
+inside_after inside Bar = inside
+inside_after inside Star = inside
+inside_after inside Plus = inside
+inside_after inside Open = inside
+inside_after inside Shut = inside
 
 -- the tokens, or the offset where none stands
 abbrev pub Read : Type 0

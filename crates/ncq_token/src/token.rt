@@ -6,7 +6,7 @@ use thiserror::Error;
 /// A token of a statement.
 #[derive(Debug, PartialEq, Eq)]
 pub enum Token {
-    /// `<` directly before the first byte of a name. A tag begins.
+    /// `<` directly before the first byte of a name or `(`. A tag begins.
     TagStart,
     /// `</`. The end of a tag begins.
     TagEnd,
@@ -26,6 +26,18 @@ pub enum Token {
     Cmp(Op),
     /// `,` outside a tag.
     Comma,
+    /// `.` inside a tag.
+    Dot,
+    /// `|` inside a tag.
+    Bar,
+    /// `*` inside a tag.
+    Star,
+    /// `+` inside a tag.
+    Plus,
+    /// `(` inside a tag.
+    Open,
+    /// `)` inside a tag.
+    Shut,
 }
 
 impl Drop for Token {
@@ -41,6 +53,12 @@ impl Drop for Token {
             Token::Word(word) => drop(word),
             Token::Cmp(_) => {}
             Token::Comma => {}
+            Token::Dot => {}
+            Token::Bar => {}
+            Token::Star => {}
+            Token::Plus => {}
+            Token::Open => {}
+            Token::Shut => {}
         }
     }
 }

@@ -1,6 +1,7 @@
 //! The token at the front of a text, and the tokens one after the other.
-ghost use Rattle.std.specs.Prelude.{◌≡◌, ◌↔◌, ◌≤◌, ◌<◌, ◌+◌, ℕ, List, false, true, Ok, Err, length};
-ghost use Rattle.std.specs.Prelude.{IfOk, IfSome, OnOk};
+ghost use Rattle.std.specs.Prelude.{◌≡◌, ◌↔◌, ◌||◌, ◌≤◌, ◌<◌, ◌+◌, ℕ, List, false, true, Ok, Err};
+ghost use Rattle.std.specs.Prelude.{length, IfOk, IfSome, OnOk};
+ghost use Rattle.ncq_token.specs.Bytes.{starts_with};
 ghost use Rattle.ncq_token.specs.declared.token.Token.{Token};
 ghost use Rattle.ncq_token.specs.Tokens.{Gives, tokens_of, token_at, outside_at, inside_at};
 ghost use Rattle.ncq_token.specs.Tokens.{inside_after, less_at, variable_at, text_at, word_at};
@@ -19,6 +20,13 @@ fn starts_name(bytes: &[u8]) -> bool
     name_len(bytes) > 0
 }
 
+/// Whether a path begins there: a name or `(`.
+fn starts_path(bytes: &[u8]) -> bool
+    ensures { result ≡ (starts_name bytes.now || starts_with 40 bytes.now) }
+{
+    starts_name(bytes) || starts_with(b'(', bytes)
+}
+
 /// What stands at a `<`, and how many bytes it takes. The bytes are those behind the `<`.
 fn less_at(bytes: &[u8]) -> (Token, usize)
     ensures value { result ≡ less_at bytes.now }
@@ -29,7 +37,7 @@ fn less_at(bytes: &[u8]) -> (Token, usize)
         (Token::TagEnd, 2)
     } else if starts_with(b'=', bytes) {
         (Token::Cmp(Op::Le), 2)
-    } else if starts_name(bytes) {
+    } else if starts_path(bytes) {
         (Token::TagStart, 1)
     } else {
         (Token::Cmp(Op::Lt), 1)
@@ -121,6 +129,12 @@ fn inside_at(alloc: Global, bytes: &[u8]) -> Result<Option<(Token, usize)>, Allo
         b'=' => Ok(Some((Token::Cmp(Op::Eq), 1))),
         b'>' => Ok(Some((Token::TagClose, 1))),
         b'/' if starts_with(b'>', rest) => Ok(Some((Token::EmptyClose, 2))),
+        b'.' => Ok(Some((Token::Dot, 1))),
+        b'|' => Ok(Some((Token::Bar, 1))),
+        b'*' => Ok(Some((Token::Star, 1))),
+        b'+' => Ok(Some((Token::Plus, 1))),
+        b'(' => Ok(Some((Token::Open, 1))),
+        b')' => Ok(Some((Token::Shut, 1))),
         b'$' => variable_at(alloc, rest),
         b'"' => text_at(alloc, rest),
         _ => name_at(alloc, bytes),

@@ -3,6 +3,7 @@ use Rattle.std.proofs.Common.{◌≡◌, ℕ, zero, suc, ◌≤◌, ◌<◌, Boo
 use Rattle.std.specs.Prelude.{codes, ◌||◌}
 use Rattle.std.specs.Char.{to_ascii_lowercase}
 use lib.Pointwise.{bytes_decides}
+use Rattle.ncq_path.specs.declared.path.Path.{Path}
 use Rattle.ncq_token.specs.declared.token.Token.{Token}
 use Rattle.ncq_token.specs.declared.token.Token.TheVariants.{TagStart, TagEnd, TagClose, EmptyClose, Name, Variable, Quoted, Word}
 use Rattle.ncq_xmlql.specs.declared.model.Operand.TheVariants as operand
@@ -12,10 +13,15 @@ use Rattle.ncq_xmlql.specs.declared.model.Content.TheVariants.{Parts, Value}
 use Rattle.ncq_xmlql.specs.declared.model.Suffix.{Suffix}
 use Rattle.ncq_xmlql.specs.declared.model.Suffix.TheVariants.{Plain}
 use Rattle.ncq_xmlql.specs.declared.model.Pattern.{Pattern}
-use Rattle.ncq_xmlql.specs.Reading.{Read, ◌>>=◌, attributes_at, names_differ, opening_at, end_at, is_same, is_keyword, suffix_at, words_at, starts_tag, many_in, many, content_at, pattern_of, pattern_at}
+use Rattle.ncq_xmlql.specs.Reading.{Read, ◌>>=◌, attributes_at, names_differ, tail_at, end_at, is_same, is_keyword, suffix_at, words_at, starts_tag, many_in, many}
+use Rattle.ncq_xmlql.specs.PathReading.{path_at}
+use Rattle.ncq_xmlql.specs.PatternReading.{pattern_opening_at, path_end_at, content_at, pattern_of, pattern_at}
 use Rattle.ncq_xmlql.proofs.Loops.{last_turn, next_turn}
-use Rattle.ncq_xmlql.proofs.Sound.{pattern_sound}
-use Rattle.ncq_xmlql.specs.Grammar.{IsAttributes, IsWords, IsEnd, IsSuffix, starts_word, starts_suffix, IsPattern, IsContent, IsPatterns}
+use Rattle.ncq_xmlql.proofs.Sound.{close_of}
+use Rattle.ncq_xmlql.proofs.PathComplete.{Ends, path_shorter, path_complete}
+use Rattle.ncq_xmlql.proofs.PathValueLaws.{is_name}
+use Rattle.ncq_xmlql.proofs.PatternSound.{pattern_sound}
+use Rattle.ncq_xmlql.specs.Grammar.{IsAttributes, IsWords, IsEnd, IsPathEnd, IsSuffix, starts_word, starts_suffix, IsPattern, IsContent, IsPatterns}
 
 -- ---- the next token
 
@@ -32,8 +38,12 @@ end_starts (IsEnd.named h) = refl
 end_starts IsEnd.unnamed = refl
 
 pattern_starts : {a b : List Token} {p : Pattern} → IsPattern a p b → starts_tag a ≡ true
-pattern_starts (IsPattern.whole attrs differ content end suffix) = refl
-pattern_starts (IsPattern.empty attrs differ suffix) = refl
+pattern_starts (IsPattern.whole leads attrs differ content end suffix) = refl
+pattern_starts (IsPattern.empty leads attrs differ suffix) = refl
+
+path_end_starts : {tag : Path} {a b : List Token} → IsPathEnd tag a b → starts_end a ≡ true
+path_end_starts (IsPathEnd.named h) = refl
+path_end_starts IsPathEnd.unnamed = refl
 
 pub no_word : (a : List Token) → starts_end a ≡ true → starts_word a ≡ false
 no_word (TagEnd ∷ rest) e = refl
@@ -58,6 +68,10 @@ pub end_within : {tag : List ℕ} {a b : List Token} → IsEnd tag a b → lengt
 end_within (IsEnd.named h) = omega arith
 end_within IsEnd.unnamed = omega arith
 
+path_end_within : {tag : Path} {a b : List Token} → IsPathEnd tag a b → length b ≤ length a
+path_end_within (IsPathEnd.named h) = omega arith
+path_end_within IsPathEnd.unnamed = omega arith
+
 suffix_within : {a b : List Token} {s : Suffix} → IsSuffix a s b → length b ≤ length a
 suffix_within (IsSuffix.plain h) = omega arith
 suffix_within (IsSuffix.element_as h) = omega arith
@@ -65,8 +79,8 @@ suffix_within (IsSuffix.content_as h) = omega arith
 
 mutual
   pub pattern_shorter : {a b : List Token} {p : Pattern} → IsPattern a p b → length b < length a
-  pattern_shorter (IsPattern.whole attrs differ content end suffix) = omega (arith, attributes_within attrs, content_within content, end_within end, suffix_within suffix)
-  pattern_shorter (IsPattern.empty attrs differ suffix) = omega (arith, attributes_within attrs, suffix_within suffix)
+  pattern_shorter (IsPattern.whole leads attrs differ content end suffix) = omega (arith, path_shorter leads, attributes_within attrs, content_within content, path_end_within end, suffix_within suffix)
+  pattern_shorter (IsPattern.empty leads attrs differ suffix) = omega (arith, path_shorter leads, attributes_within attrs, suffix_within suffix)
 
   content_within : {a b : List Token} {c : Content} → IsContent a c b → length b ≤ length a
   content_within (IsContent.parts h) = patterns_within h
@@ -106,6 +120,21 @@ unfolding end_at
 end_complete (IsEnd.named h) = rw h refl
 end_complete IsEnd.unnamed = refl
 
+path_end_complete : {tag : Path} {a b : List Token} → IsPathEnd tag a b → path_end_at tag a ≡ Some b
+unfolding path_end_at
+path_end_complete (IsPathEnd.named {name = name} h) = rw (is_name name _ h) refl
+path_end_complete IsPathEnd.unnamed = refl
+
+-- attributes end a path
+attributes_end : {a b : List Token} {attrs : List PatternAttribute} → IsAttributes a attrs b → Ends b → Ends a
+attributes_end IsAttributes.no_attribute e = e
+attributes_end (IsAttributes.quoted h) e = record { repeats_not = refl; dot_not = refl; bar_not = refl }
+attributes_end (IsAttributes.variable h) e = record { repeats_not = refl; dot_not = refl; bar_not = refl }
+
+close_ends : (is_empty : Bool) (rest : List Token) → Ends (close_of is_empty ∷ rest)
+close_ends true rest = record { repeats_not = refl; dot_not = refl; bar_not = refl }
+close_ends false rest = record { repeats_not = refl; dot_not = refl; bar_not = refl }
+
 both_false : (a b : Bool) → (a || b) ≡ false → (a ≡ false) × (b ≡ false)
 both_false true b e = absurd cc
 both_false false b e = (refl, e)
@@ -144,17 +173,17 @@ patterns_start : {a b : List Token} {ps : List Pattern} → IsPatterns a ps b �
 patterns_start {a = a} IsPatterns.no_pattern e = or_right (starts_tag a) (starts_end a) e
 patterns_start {a = a} (IsPatterns.pattern h hs) e = ap (λ (t : Bool). t || starts_end a) (pattern_starts h)
 
-whole_at : (depth : ℕ) (tag : List ℕ) (attributes : List PatternAttribute) (content : Content) (suffix : Suffix) (a b c d e : List Token)
-    → attributes_at a ≡ Some (attributes, TagClose ∷ b) → names_differ attributes ≡ true → content_at (pattern_at depth) b ≡ Some (content, c) → end_at tag c ≡ Some d → suffix_at d ≡ Some (suffix, e)
-    → pattern_at (suc depth) (TagStart ∷ Name tag ∷ a) ≡ Some (record { tag = tag; attributes = attributes; content = content; suffix = suffix }, e)
-unfolding pattern_at pattern_of opening_at
-whole_at depth tag attributes content suffix a b c d e h1 h2 h3 h4 h5 = rw (h1, h2, h3, h4, h5) refl
+whole_at : (depth : ℕ) (tag : Path) (attributes : List PatternAttribute) (content : Content) (suffix : Suffix) (a b c d e f : List Token)
+    → path_at depth a ≡ Some (tag, b) → attributes_at b ≡ Some (attributes, TagClose ∷ c) → names_differ attributes ≡ true → content_at (pattern_at depth) c ≡ Some (content, d) → path_end_at tag d ≡ Some e → suffix_at e ≡ Some (suffix, f)
+    → pattern_at (suc depth) (TagStart ∷ a) ≡ Some (record { tag = tag; attributes = attributes; content = content; suffix = suffix }, f)
+unfolding pattern_at pattern_of pattern_opening_at tail_at
+whole_at depth tag attributes content suffix a b c d e f h0 h1 h2 h3 h4 h5 = rw (h0, h1, h2, h3, h4, h5) refl
 
-empty_at : (depth : ℕ) (tag : List ℕ) (attributes : List PatternAttribute) (suffix : Suffix) (a b c : List Token)
-    → attributes_at a ≡ Some (attributes, EmptyClose ∷ b) → names_differ attributes ≡ true → suffix_at b ≡ Some (suffix, c)
-    → pattern_at (suc depth) (TagStart ∷ Name tag ∷ a) ≡ Some (record { tag = tag; attributes = attributes; content = Parts []; suffix = suffix }, c)
-unfolding pattern_at pattern_of opening_at
-empty_at depth tag attributes suffix a b c h1 h2 h3 = rw (h1, h2, h3) refl
+empty_at : (depth : ℕ) (tag : Path) (attributes : List PatternAttribute) (suffix : Suffix) (a b c d : List Token)
+    → path_at depth a ≡ Some (tag, b) → attributes_at b ≡ Some (attributes, EmptyClose ∷ c) → names_differ attributes ≡ true → suffix_at c ≡ Some (suffix, d)
+    → pattern_at (suc depth) (TagStart ∷ a) ≡ Some (record { tag = tag; attributes = attributes; content = Parts []; suffix = suffix }, d)
+unfolding pattern_at pattern_of pattern_opening_at tail_at
+empty_at depth tag attributes suffix a b c d h0 h1 h2 h3 = rw (h0, h1, h2, h3) refl
 
 variable_content : {x : List ℕ} {a : List Token} (depth : ℕ) → content_at (pattern_at depth) (Variable x ∷ a) ≡ Some (Value (operand.Variable x), a)
 unfolding content_at
@@ -170,13 +199,15 @@ words_content w text a b depth e = rw e refl
 
 mutual
   pub pattern_complete : {a b : List Token} {p : Pattern} → IsPattern a p b → (depth : ℕ) → length a ≤ depth → pattern_at depth a ≡ Some (p, b)
-  pattern_complete (IsPattern.whole attrs differ content end suffix) zero room = absurd (omega arith)
-  pattern_complete (IsPattern.whole {tag = tag} {attributes = attributes} {content = body} {suffix = last} {a = a} {b = b} {c = c} {d = d} {e = e} attrs differ content end suffix) (suc depth) room =
-      whole_at depth tag attributes body last a b c d e (attributes_complete attrs refl) differ
-      (content_complete content (end_starts end) depth (omega (arith, attributes_within attrs))) (end_complete end) (suffix_complete suffix)
-  pattern_complete (IsPattern.empty attrs differ suffix) zero room = absurd (omega arith)
-  pattern_complete (IsPattern.empty {tag = tag} {attributes = attributes} {suffix = last} {a = a} {b = b} {c = c} attrs differ suffix) (suc depth) room =
-      empty_at depth tag attributes last a b c (attributes_complete attrs refl) differ (suffix_complete suffix)
+  pattern_complete (IsPattern.whole leads attrs differ content end suffix) zero room = absurd (omega arith)
+  pattern_complete (IsPattern.whole {tag = tag} {attributes = attributes} {content = body} {suffix = last} {a = a} {b = b} {c = c} {d = d} {e = e} {f = f} leads attrs differ content end suffix) (suc depth) room =
+      whole_at depth tag attributes body last a b c d e f
+      (path_complete leads (attributes_end attrs (close_ends false c)) depth (omega arith)) (attributes_complete attrs refl) differ
+      (content_complete content (path_end_starts end) depth (omega (arith, path_shorter leads, attributes_within attrs))) (path_end_complete end) (suffix_complete suffix)
+  pattern_complete (IsPattern.empty leads attrs differ suffix) zero room = absurd (omega arith)
+  pattern_complete (IsPattern.empty {tag = tag} {attributes = attributes} {suffix = last} {a = a} {b = b} {c = c} {d = d} leads attrs differ suffix) (suc depth) room =
+      empty_at depth tag attributes last a b c d
+      (path_complete leads (attributes_end attrs (close_ends true c)) depth (omega arith)) (attributes_complete attrs refl) differ (suffix_complete suffix)
 
   content_complete : {a b : List Token} {c : Content} → IsContent a c b → starts_end b ≡ true → (depth : ℕ) → length a ≤ depth → content_at (pattern_at depth) a ≡ Some (c, b)
   content_complete {a = a} {b = b} (IsContent.parts {ps = ps} h) e depth room =

@@ -12,6 +12,7 @@ use Rattle.ncq_xmlql.specs.declared.statement.StatementError.{StatementError}
 use Rattle.ncq_xmlql.specs.declared.statement.StatementError.TheVariants.{NotAStatement, Limit, OutOfMemory}
 use Rattle.ncq_xmlql.specs.Nesting.{nest}
 use Rattle.ncq_xmlql.specs.Counts.{arms, slots, conditions}
+use Rattle.ncq_xmlql.specs.PatternPaths.{all_paths, is_few}
 use Rattle.ncq_xmlql.specs.StatementReading.{statement_at}
 use Rattle.ncq_xmlql.specs.Statements.{IsStatement, IsShallow, IsDeep, AreWithin, Exceed, Answers}
 use Rattle.ncq_xmlql.specs.Answered.{exceeded, unless_exceeded, limited, answered_tokens, statement_of, GivesStatement}
@@ -19,32 +20,33 @@ use Rattle.ncq_xmlql.proofs.StatementLaws.{ok_is, statement_sound, statement_com
 
 -- ---- the limits on counts
 
--- within the three limits, or the first that is exceeded
+-- within the limits, or the first that is exceeded
 abbrev Counted : List QueryItem → Option LimitKind → Type 0
 Counted items None = AreWithin items
 Counted items (Some which) = Exceed items which
 
-counted_at : (items : List QueryItem) (a b c : Bool) → nat_lt 8 (arms items) ≡ a → nat_lt 64 (slots items) ≡ b → nat_lt 32 (conditions items) ≡ c
-    → Counted items (cond a (Some limit.Arms) (cond b (Some limit.Slots) (cond c (Some limit.Conditions) None)))
-counted_at items true b c p q r = ltb-true 8 (arms items) p
-counted_at items false true c p q r = (ltb-false 8 (arms items) p, ltb-true 64 (slots items) q)
-counted_at items false false true p q r = (ltb-false 8 (arms items) p, ltb-false 64 (slots items) q, ltb-true 32 (conditions items) r)
-counted_at items false false false p q r = (ltb-false 8 (arms items) p, ltb-false 64 (slots items) q, ltb-false 32 (conditions items) r)
+counted_at : (items : List QueryItem) (a b c d : Bool) → nat_lt 8 (arms items) ≡ a → nat_lt 64 (slots items) ≡ b → nat_lt 32 (conditions items) ≡ c → all_paths is_few items ≡ d
+    → Counted items (cond a (Some limit.Arms) (cond b (Some limit.Slots) (cond c (Some limit.Conditions) (cond d None (Some limit.Path)))))
+counted_at items true b c d p q r s = ltb-true 8 (arms items) p
+counted_at items false true c d p q r s = (ltb-false 8 (arms items) p, ltb-true 64 (slots items) q)
+counted_at items false false true d p q r s = (ltb-false 8 (arms items) p, ltb-false 64 (slots items) q, ltb-true 32 (conditions items) r)
+counted_at items false false false true p q r s = (ltb-false 8 (arms items) p, ltb-false 64 (slots items) q, ltb-false 32 (conditions items) r, s)
+counted_at items false false false false p q r s = (ltb-false 8 (arms items) p, ltb-false 64 (slots items) q, ltb-false 32 (conditions items) r, s)
 
 counted : (items : List QueryItem) → Counted items (exceeded items)
-counted items = counted_at items (nat_lt 8 (arms items)) (nat_lt 64 (slots items)) (nat_lt 32 (conditions items)) refl refl refl
+counted items = counted_at items (nat_lt 8 (arms items)) (nat_lt 64 (slots items)) (nat_lt 32 (conditions items)) (all_paths is_few items) refl refl refl refl
 
 exceeded_none : (items : List QueryItem) → AreWithin items → exceeded items ≡ None
-exceeded_none items h = rw (le-ltb 8 (arms items) h.0, le-ltb 64 (slots items) h.1, le-ltb 32 (conditions items) h.2) refl
+exceeded_none items h = rw (le-ltb 8 (arms items) h.0, le-ltb 64 (slots items) h.1, le-ltb 32 (conditions items) h.2, h.3) refl
 
 exceeded_some : (items : List QueryItem) (which : LimitKind) → Exceed items which → exceeded items ≡ Some which
 exceeded_some items limit.Arms h = rw (lt-ltb 8 (arms items) h) refl
 exceeded_some items limit.Slots h = rw (le-ltb 8 (arms items) h.0, lt-ltb 64 (slots items) h.1) refl
 exceeded_some items limit.Conditions h = rw (le-ltb 8 (arms items) h.0, le-ltb 64 (slots items) h.1, lt-ltb 32 (conditions items) h.2) refl
+exceeded_some items limit.Path h = rw (le-ltb 8 (arms items) h.0, le-ltb 64 (slots items) h.1, le-ltb 32 (conditions items) h.2, h.3) refl
 exceeded_some items limit.Line h = absurd h
 exceeded_some items limit.Nesting h = absurd h
 exceeded_some items limit.Pattern h = absurd h
-exceeded_some items limit.Path h = absurd h
 
 -- ---- what the function says is right
 
@@ -55,7 +57,7 @@ limit_answer text st limit.Conditions is shallow more = (st, is, shallow, more)
 limit_answer text st limit.Line is shallow more = absurd more
 limit_answer text st limit.Nesting is shallow more = absurd more
 limit_answer text st limit.Pattern is shallow more = absurd more
-limit_answer text st limit.Path is shallow more = absurd more
+limit_answer text st limit.Path is shallow more = (st, is, shallow, more)
 
 counted_answer : (text : List ℕ) (st : Statement) (which : Option LimitKind) → IsStatement text st → IsShallow text → Counted st.query.items which → Answers text (unless_exceeded st which)
 counted_answer text st None is shallow h = (is, shallow, h)
@@ -125,7 +127,7 @@ limit_given text limit.Slots h = exceeded_answer text limit.Slots h.0 h.1 h.2 h.
 limit_given text limit.Conditions h = exceeded_answer text limit.Conditions h.0 h.1 h.2 h.3
 limit_given text limit.Line h = absurd h.3
 limit_given text limit.Nesting h = absurd h.3
-limit_given text limit.Path h = absurd h.3
+limit_given text limit.Path h = exceeded_answer text limit.Path h.0 h.1 h.2 h.3
 
 pub exact_is_given : (text : List ℕ) (answer : Result Statement StatementError) → Answers text answer → GivesStatement answer (statement_of text)
 unfolding statement_of

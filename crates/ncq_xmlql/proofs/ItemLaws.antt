@@ -9,11 +9,13 @@ use Rattle.ncq_xmlql.specs.declared.model.Operand.TheVariants as operand
 use Rattle.ncq_xmlql.specs.declared.model.Pattern.{Pattern}
 use Rattle.ncq_xmlql.specs.declared.model.QueryItem.{QueryItem}
 use Rattle.ncq_xmlql.specs.declared.model.QueryItem.TheVariants.{Match, Condition}
-use Rattle.ncq_xmlql.specs.Reading.{◌>>=◌, is_keyword, checked, tag_at, end_close_at, end_at, starts_tag, many_in, many, pattern_at}
+use Rattle.ncq_xmlql.specs.Reading.{◌>>=◌, is_keyword, checked, tag_at, end_close_at, end_at, starts_tag, many_in, many}
+use Rattle.ncq_xmlql.specs.PatternReading.{pattern_at}
 use Rattle.ncq_xmlql.specs.Grammar.{IsEnd, IsPatterns}
 use Rattle.ncq_xmlql.specs.ItemReading.{literal_at, source_at, root_at, has_arm, match_at, operand_at, op_at, is_variable, condition_at, next_item_at, starts_construct, continues, items_at}
 use Rattle.ncq_xmlql.specs.ItemGrammar.{IsLiteral, IsOperand, IsMatch, IsCondition, IsMore, IsItems}
-use Rattle.ncq_xmlql.proofs.Sound.{bind_some, checked_is, at_value, tag_sound, end_close_sound, end_sound, many_sound, pattern_sound}
+use Rattle.ncq_xmlql.proofs.Sound.{bind_some, checked_is, at_value, tag_sound, end_close_sound, end_sound}
+use Rattle.ncq_xmlql.proofs.PatternSound.{many_sound, pattern_sound}
 use Rattle.ncq_xmlql.proofs.Loops.{last_turn}
 use Rattle.ncq_xmlql.proofs.Many.{many_spells}
 use Rattle.ncq_xmlql.proofs.Complete.{end_within, end_complete, end_starts, patterns_within, patterns_complete}

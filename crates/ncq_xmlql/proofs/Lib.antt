@@ -3,10 +3,16 @@ pub mod Loops
 pub mod Sound
 pub mod Complete
 pub mod Many
+pub mod PathSound
+pub mod PatternSound
+pub mod PathComplete
+pub mod PathValueLaws
 pub mod ItemLaws
 pub mod TemplateLaws
 pub mod NestLaws
 pub mod Slots
+pub mod PatternPathLaws
+pub mod JoinedLaws
 pub mod TimeLaws
 pub mod StatementLaws
 pub mod Exact

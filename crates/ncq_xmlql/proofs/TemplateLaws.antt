@@ -6,7 +6,7 @@ use Rattle.ncq_xmlql.specs.declared.model.PatternAttribute.{PatternAttribute}
 use Rattle.ncq_xmlql.specs.declared.model.Template.{Template}
 use Rattle.ncq_xmlql.specs.declared.model.Template.TheVariants as template
 use Rattle.ncq_xmlql.specs.declared.parts.Tag.{Tag}
-use Rattle.ncq_xmlql.specs.Reading.{Read, ◌>>=◌, attributes_at, names_differ, opening_at, end_at, words_at, starts_tag, many_in, many}
+use Rattle.ncq_xmlql.specs.Reading.{Read, ◌>>=◌, attributes_at, names_differ, tail_at, opening_at, end_at, words_at, starts_tag, many_in, many}
 use Rattle.ncq_xmlql.specs.Grammar.{IsAttributes, starts_word}
 use Rattle.ncq_xmlql.specs.TemplateReading.{template_attribute, starts_part, inside_at, element_of, part_of, part_at, top_at}
 use Rattle.ncq_xmlql.specs.TemplateGrammar.{IsElement, IsPart, IsParts, IsTop}
@@ -133,13 +133,13 @@ top_first depth tokens e = absurd cc
 whole_at : (depth : ℕ) (tag : List ℕ) (attributes : List PatternAttribute) (content : List Template) (a b c d : List Token)
     → attributes_at a ≡ Some (attributes, TagClose ∷ b) → names_differ attributes ≡ true → many starts_part (part_at depth) b ≡ Some (content, c) → end_at tag c ≡ Some d
     → element_of (part_at depth) (TagStart ∷ Name tag ∷ a) ≡ Some (template.Element tag (map template_attribute attributes) content, d)
-unfolding element_of opening_at
+unfolding element_of opening_at tail_at
 whole_at depth tag attributes content a b c d h1 h2 h3 h4 = rw (h1, h2, h3, h4) refl
 
 empty_at : (depth : ℕ) (tag : List ℕ) (attributes : List PatternAttribute) (a b : List Token)
     → attributes_at a ≡ Some (attributes, EmptyClose ∷ b) → names_differ attributes ≡ true
     → element_of (part_at depth) (TagStart ∷ Name tag ∷ a) ≡ Some (template.Element tag (map template_attribute attributes) [], b)
-unfolding element_of opening_at
+unfolding element_of opening_at tail_at
 empty_at depth tag attributes a b h1 h2 = rw (h1, h2) refl
 
 one_deeper : (depth : ℕ) (a : List Token) → part_at (suc depth) a ≡ part_of (part_at depth) a

@@ -1,5 +1,5 @@
 -- What is spelled is well formed.
-use Rattle.std.proofs.Common.{◌≡◌, ℕ, suc, Bool, true, false, List, [], ◌∷◌, length, map, Result, Ok, Err, IsTrue, refl, ap, ◌∙◌, arith}
+use Rattle.std.proofs.Common.{◌≡◌, ℕ, suc, Bool, true, false, List, [], ◌∷◌, length, map, Result, Ok, Err, IsTrue, refl, sym, ap, ◌∙◌, arith}
 use Rattle.std.specs.Prelude.{◌&&◌, nat_lt, IfOk}
 use Rattle.std.specs.List.{list_all}
 use Rattle.std.proofs.lemmas.Bool.{lt-ltb}
@@ -11,6 +11,7 @@ use Rattle.ncq_token.proofs.NameLaws.{tokens_well_named}
 use Rattle.ncq_xmlql.specs.declared.model.PatternAttribute.{PatternAttribute}
 use Rattle.ncq_xmlql.specs.declared.model.TemplateAttribute.{TemplateAttribute}
 use Rattle.ncq_xmlql.specs.declared.model.Content.{Content}
+use Rattle.ncq_xmlql.specs.declared.model.Content.TheVariants.{Parts}
 use Rattle.ncq_xmlql.specs.declared.model.Suffix.{Suffix}
 use Rattle.ncq_xmlql.specs.declared.model.Pattern.{Pattern}
 use Rattle.ncq_xmlql.specs.declared.model.Operand.{Operand}
@@ -22,13 +23,19 @@ use Rattle.ncq_xmlql.specs.declared.model.Statement.{Statement}
 use Rattle.ncq_xmlql.specs.declared.statement.StatementError.{StatementError}
 use Rattle.ncq_xmlql.specs.Reading.{names_of, names_differ}
 use Rattle.ncq_xmlql.specs.TemplateReading.{template_attribute}
-use Rattle.ncq_xmlql.specs.Grammar.{IsAttributes, IsWords, IsEnd, IsSuffix, IsPattern, IsContent, IsPatterns}
+use Rattle.ncq_xmlql.specs.Grammar.{IsAttributes, IsWords, IsEnd, IsPathEnd, IsSuffix, IsPattern, IsContent, IsPatterns}
 use Rattle.ncq_xmlql.specs.ItemGrammar.{IsLiteral, IsOperand, IsMatch, IsCondition, IsMore, IsItems}
 use Rattle.ncq_xmlql.specs.TemplateGrammar.{IsElement, IsPart, IsParts, IsTop}
 use Rattle.ncq_xmlql.specs.StatementGrammar.{IsComma, IsDistinct, IsQuery, IsSpelled}
 use Rattle.ncq_xmlql.specs.Statements.{IsStatement, AreWithin}
 use Rattle.ncq_xmlql.specs.Answered.{statement_of, GivesStatement}
 use Rattle.ncq_xmlql.specs.WellFormed.{begins_with_match, item_is_whole, names_are_good, template_is_good, IsWellFormed}
+use Rattle.ncq_path.specs.declared.path.Path.{Path}
+use Rattle.ncq_path.specs.Formed.{is_formed}
+use Rattle.ncq_xmlql.specs.PathGrammar.{IsPath, AreAlternatives, IsSeq, AreSteps, IsStep, IsItem}
+use Rattle.ncq_xmlql.specs.PatternPaths.{pattern_paths, content_paths, item_paths, all_paths, is_few}
+use Rattle.ncq_xmlql.proofs.PatternPathLaws.{paths_of_pattern, paths_of_value, paths_of_parts}
+use Rattle.ncq_xmlql.proofs.JoinedLaws.{path_joined}
 use Rattle.ncq_xmlql.proofs.Exact.{given}
 use Rattle.ncq_xmlql.proofs.CallerLemmas.{good_variable, good_literal, good_element}
 
@@ -85,6 +92,34 @@ end_named : {tag : List ℕ} {a b : List Token} → IsEnd tag a b → AreNamed a
 end_named (IsEnd.named {name = name} {a = rest} same) named = (both (is_name name) (list_all is_well_named rest) named).1
 end_named IsEnd.unnamed named = named
 
+path_end_named : {tag : Path} {a b : List Token} → IsPathEnd tag a b → AreNamed a → AreNamed b
+path_end_named (IsPathEnd.named {name = name} {a = rest} same) named = (both (is_name name) (list_all is_well_named rest) named).1
+path_end_named IsPathEnd.unnamed named = named
+
+mutual
+  path_named : {a b : List Token} {p : Path} → IsPath a p b → AreNamed a → AreNamed b
+  path_named (IsPath.any first more) named = alternatives_named more (sequence_named first named)
+
+  alternatives_named : {a b : List Token} {ps : List Path} → AreAlternatives a ps b → AreNamed a → AreNamed b
+  alternatives_named AreAlternatives.no_alternative named = named
+  alternatives_named (AreAlternatives.alternative first more) named = alternatives_named more (sequence_named first named)
+
+  sequence_named : {a b : List Token} {p : Path} → IsSeq a p b → AreNamed a → AreNamed b
+  sequence_named (IsSeq.each first more) named = steps_named more (step_named first named)
+
+  steps_named : {a b : List Token} {ps : List Path} → AreSteps a ps b → AreNamed a → AreNamed b
+  steps_named AreSteps.no_step named = named
+  steps_named (AreSteps.next_step first more) named = steps_named more (step_named first named)
+
+  step_named : {a b : List Token} {p : Path} → IsStep a p b → AreNamed a → AreNamed b
+  step_named (IsStep.once item) named = item_named item named
+  step_named (IsStep.star item) named = item_named item named
+  step_named (IsStep.plus item) named = item_named item named
+
+  item_named : {a b : List Token} {p : Path} → IsItem a p b → AreNamed a → AreNamed b
+  item_named {b = b} (IsItem.name {n = n}) named = (both (is_name n) (list_all is_well_named b) named).1
+  item_named (IsItem.group inner) named = path_named inner named
+
 suffix_named : {a b : List Token} {s : Suffix} → IsSuffix a s b → AreNamed a → AreNamed b
 suffix_named (IsSuffix.plain h) named = named
 suffix_named (IsSuffix.element_as h) named = named
@@ -92,12 +127,10 @@ suffix_named (IsSuffix.content_as h) named = named
 
 mutual
   pattern_named : {a b : List Token} {p : Pattern} → IsPattern a p b → AreNamed a → AreNamed b
-  pattern_named (IsPattern.whole {tag = tag} {a = rest} attrs differ content end suffix) named =
-      let s = both (is_name tag) (list_all is_well_named rest) named in
-      suffix_named suffix (end_named end (content_named content (attributes_named attrs s.1).behind_named))
-  pattern_named (IsPattern.empty {tag = tag} {a = rest} attrs differ suffix) named =
-      let s = both (is_name tag) (list_all is_well_named rest) named in
-      suffix_named suffix (attributes_named attrs s.1).behind_named
+  pattern_named (IsPattern.whole leads attrs differ content end suffix) named =
+      suffix_named suffix (path_end_named end (content_named content (attributes_named attrs (path_named leads named)).behind_named))
+  pattern_named (IsPattern.empty leads attrs differ suffix) named =
+      suffix_named suffix (attributes_named attrs (path_named leads named)).behind_named
 
   content_named : {a b : List Token} {c : Content} → IsContent a c b → AreNamed a → AreNamed b
   content_named (IsContent.parts h) named = patterns_named h named
@@ -140,6 +173,54 @@ comma_named IsComma.comma named = named
 distinct_named : {a b : List Token} {d : Bool} → IsDistinct a d b → AreNamed a → AreNamed b
 distinct_named IsDistinct.none named = named
 distinct_named (IsDistinct.word h) named = named
+
+-- ---- paths
+
+tag_formed : {a b : List Token} {p : Path} → IsPath a p b → is_few p ≡ true → is_formed p ≡ true
+tag_formed leads few = rw (few, path_joined leads) refl
+
+mutual
+  pattern_formed : {a b : List Token} {p : Pattern} → IsPattern a p b → pattern_paths is_few p ≡ true → pattern_paths is_formed p ≡ true
+  pattern_formed (IsPattern.whole {tag = tag} {attributes = attributes} {content = content} {suffix = suffix} leads attrs differ inside end last) few =
+      let p : Pattern = record { tag = tag; attributes = attributes; content = content; suffix = suffix } in
+      let s = both (is_few tag) (content_paths is_few content) (sym (paths_of_pattern is_few p) ∙ few) in
+      paths_of_pattern is_formed p ∙ rw (tag_formed leads s.0, content_formed inside s.1) refl
+  pattern_formed (IsPattern.empty {tag = tag} {attributes = attributes} {suffix = suffix} leads attrs differ last) few =
+      let p : Pattern = record { tag = tag; attributes = attributes; content = Parts []; suffix = suffix } in
+      let s = both (is_few tag) (content_paths is_few (Parts [])) (sym (paths_of_pattern is_few p) ∙ few) in
+      paths_of_pattern is_formed p ∙ rw (tag_formed leads s.0, paths_of_parts is_formed []) refl
+
+  content_formed : {a b : List Token} {c : Content} → IsContent a c b → content_paths is_few c ≡ true → content_paths is_formed c ≡ true
+  content_formed (IsContent.parts {ps = ps} h) few = paths_of_parts is_formed ps ∙ patterns_formed h (sym (paths_of_parts is_few ps) ∙ few)
+  content_formed IsContent.variable few = paths_of_value is_formed _
+  content_formed IsContent.quoted few = paths_of_value is_formed _
+  content_formed (IsContent.words h) few = paths_of_value is_formed _
+
+  patterns_formed : {a b : List Token} {ps : List Pattern} → IsPatterns a ps b → list_all (pattern_paths is_few) ps ≡ true → list_all (pattern_paths is_formed) ps ≡ true
+  patterns_formed IsPatterns.no_pattern few = refl
+  patterns_formed (IsPatterns.pattern {p = p} {ps = ps} h hs) few =
+      let s = both (pattern_paths is_few p) (list_all (pattern_paths is_few) ps) few in
+      rw (pattern_formed h s.0, patterns_formed hs s.1) refl
+
+match_formed : {a b : List Token} {item : QueryItem} → IsMatch a item b → item_paths is_few item ≡ true → item_paths is_formed item ≡ true
+match_formed (IsMatch.matched arms end keyword source) few = patterns_formed arms few
+
+condition_formed : {a b : List Token} {item : QueryItem} → IsCondition a item b → item_paths is_formed item ≡ true
+condition_formed (IsCondition.compared left right some) = refl
+
+more_formed : {a b : List Token} {items : List QueryItem} → IsMore a items b → all_paths is_few items ≡ true → all_paths is_formed items ≡ true
+more_formed IsMore.no_more few = refl
+more_formed (IsMore.more_match {item = i} {more = is} h hs) few =
+    let s = both (item_paths is_few i) (all_paths is_few is) few in
+    rw (match_formed h s.0, more_formed hs s.1) refl
+more_formed (IsMore.more_condition {item = i} {more = is} apart h hs) few =
+    let s = both (item_paths is_few i) (all_paths is_few is) few in
+    rw (condition_formed h, more_formed hs s.1) refl
+
+items_formed : {a b : List Token} {items : List QueryItem} → IsItems a items b → all_paths is_few items ≡ true → all_paths is_formed items ≡ true
+items_formed (IsItems.items {first = i} {more = is} h hs) few =
+    let s = both (item_paths is_few i) (all_paths is_few is) few in
+    rw (match_formed h s.0, more_formed hs s.1) refl
 
 -- ---- items
 
@@ -223,14 +304,14 @@ top_good (IsTop.element h) named = (element_good h named).is_good
 
 -- ---- statements
 
-query_formed : {a b : List Token} {q : Query} → IsQuery a q b → AreNamed a → (begins_with_match q.items ≡ true) × (list_all item_is_whole q.items ≡ true) × (template_is_good q.template ≡ true)
+query_formed : {a b : List Token} {q : Query} → IsQuery a q b → AreNamed a → (begins_with_match q.items ≡ true) × (list_all item_is_whole q.items ≡ true) × (template_is_good q.template ≡ true) × (all_paths is_few q.items ≡ true → all_paths is_formed q.items ≡ true)
 query_formed (IsQuery.query spelled before keyword asked_once top) named =
-    (items_begin spelled, items_whole spelled, top_good top (distinct_named asked_once (comma_named before (items_named spelled named))))
+    (items_begin spelled, items_whole spelled, top_good top (distinct_named asked_once (comma_named before (items_named spelled named))), items_formed spelled)
 
 statement_formed : {tokens : List Token} {st : Statement} → IsSpelled tokens st → AreNamed tokens → AreWithin st.query.items → IsWellFormed st
 statement_formed (IsSpelled.statement create name where_ asked do_ argument written) named within =
     let q = query_formed asked named in
-    record { begins = q.0; items = q.1; within = within; template = q.2 }
+    record { begins = q.0; items = q.1; within = within; paths = q.3 within.3; template = q.2 }
 
 pub spelled_formed : (text : List ℕ) (st : Statement) → IsStatement text st → AreWithin st.query.items → IsWellFormed st
 spelled_formed text st h within = statement_formed h.spelled (tokens_well_named text h.tokens h.are_tokens) within

@@ -11,15 +11,17 @@ use Rattle.ncq_xmlql.specs.declared.statement.StatementError.TheVariants.{NotASt
 use Rattle.ncq_xmlql.specs.declared.statement.StatementError.TheVariants.{OutOfMemory}
 use Rattle.ncq_xmlql.specs.Nesting.{nest}
 use Rattle.ncq_xmlql.specs.Counts.{arms, slots, conditions}
+use Rattle.ncq_xmlql.specs.PatternPaths.{all_paths, is_few}
 use Rattle.ncq_xmlql.specs.StatementReading.{statement_at}
 
--- the first of the three limits that the items exceed
+-- the first of these limits that the items exceed
 abbrev pub exceeded : List QueryItem → Option LimitKind
 exceeded items =
     if nat_lt 8 (arms items) then Some limit.Arms
     else (if nat_lt 64 (slots items) then Some limit.Slots
     else (if nat_lt 32 (conditions items) then Some limit.Conditions
-    else None))
+    else (if all_paths is_few items then None
+    else Some limit.Path)))
 
 -- the statement, unless it exceeds a limit
 abbrev pub unless_exceeded : Statement → Option LimitKind → Result Statement StatementError

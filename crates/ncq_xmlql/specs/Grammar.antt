@@ -1,6 +1,8 @@
 -- The grammar of patterns: which tokens spell which pattern, and what stands behind it.
 use Rattle.std.specs.Prelude.{◌≡◌, ◌++◌, ◌||◌, ℕ, Bool, true, false, IsTrue, List, [], ◌∷◌, codes}
 use Rattle.ncq_base.specs.declared.atom.Op.TheVariants.{Eq}
+use Rattle.ncq_path.specs.declared.path.Path.{Path}
+use Rattle.ncq_path.specs.declared.path.Path.TheVariants as path
 use Rattle.ncq_token.specs.declared.token.Token.{Token}
 use Rattle.ncq_token.specs.declared.token.Token.TheVariants.{TagStart, TagEnd, TagClose, EmptyClose}
 use Rattle.ncq_token.specs.declared.token.Token.TheVariants.{Name, Variable, Quoted, Word, Cmp}
@@ -12,6 +14,7 @@ use Rattle.ncq_xmlql.specs.declared.model.Suffix.{Suffix}
 use Rattle.ncq_xmlql.specs.declared.model.Suffix.TheVariants.{Plain, ElementAs, ContentAs}
 use Rattle.ncq_xmlql.specs.declared.model.Pattern.{Pattern}
 use Rattle.ncq_xmlql.specs.Reading.{is_same, is_keyword, names_differ}
+use Rattle.ncq_xmlql.specs.PathGrammar.{IsPath}
 
 -- { Name Cmp(Eq) (Quoted | Variable) }
 pub data IsAttributes : List Token → List PatternAttribute → List Token → Type 0 where
@@ -59,20 +62,28 @@ pub data IsSuffix : List Token → Suffix → List Token → Type 0 where
   content_as : {w x : List ℕ} {a : List Token} → IsTrue (is_keyword (codes "content_as") w)
       → IsSuffix (Word w ∷ Variable x ∷ a) (ContentAs x) a
 
+-- TagEnd [Name] TagClose, where a name is the whole path of the tag
+pub data IsPathEnd : Path → List Token → List Token → Type 0 where
+  named : {p : Path} {name : List ℕ} {a : List Token} → p ≡ path.Tag name
+      → IsPathEnd p (TagEnd ∷ Name name ∷ TagClose ∷ a) a
+  unnamed : {p : Path} {a : List Token} → IsPathEnd p (TagEnd ∷ TagClose ∷ a) a
+
 mutual
   pub data IsPattern : List Token → Pattern → List Token → Type 0 where
-    whole : {tag : List ℕ} {attributes : List PatternAttribute} {content : Content}
-        {suffix : Suffix} {a b c d e : List Token}
-        → IsAttributes a attributes (TagClose ∷ b) → IsTrue (names_differ attributes)
-        → IsContent b content c → IsEnd tag c d → IsSuffix d suffix e
-        → IsPattern (TagStart ∷ Name tag ∷ a)
-        (record { tag = tag; attributes = attributes; content = content; suffix = suffix }) e
-    empty : {tag : List ℕ} {attributes : List PatternAttribute} {suffix : Suffix}
-        {a b c : List Token}
-        → IsAttributes a attributes (EmptyClose ∷ b) → IsTrue (names_differ attributes)
-        → IsSuffix b suffix c
-        → IsPattern (TagStart ∷ Name tag ∷ a)
-        (record { tag = tag; attributes = attributes; content = Parts []; suffix = suffix }) c
+    whole : {tag : Path} {attributes : List PatternAttribute} {content : Content}
+        {suffix : Suffix} {a b c d e f : List Token}
+        → IsPath a tag b → IsAttributes b attributes (TagClose ∷ c)
+        → IsTrue (names_differ attributes)
+        → IsContent c content d → IsPathEnd tag d e → IsSuffix e suffix f
+        → IsPattern (TagStart ∷ a)
+        (record { tag = tag; attributes = attributes; content = content; suffix = suffix }) f
+    empty : {tag : Path} {attributes : List PatternAttribute} {suffix : Suffix}
+        {a b c d : List Token}
+        → IsPath a tag b → IsAttributes b attributes (EmptyClose ∷ c)
+        → IsTrue (names_differ attributes)
+        → IsSuffix c suffix d
+        → IsPattern (TagStart ∷ a)
+        (record { tag = tag; attributes = attributes; content = Parts []; suffix = suffix }) d
 
   pub data IsContent : List Token → Content → List Token → Type 0 where
     parts : {ps : List Pattern} {a b : List Token} → IsPatterns a ps b → IsContent a (Parts ps) b

@@ -10,7 +10,8 @@ use Rattle.ncq_xmlql.specs.declared.model.Pattern.{Pattern}
 use Rattle.ncq_xmlql.specs.declared.model.QueryItem.{QueryItem}
 use Rattle.ncq_xmlql.specs.declared.model.QueryItem.TheVariants.{Match, Condition}
 use Rattle.ncq_xmlql.specs.Reading.{Read, ◌>>=◌, is_keyword, checked, tag_at, end_close_at, end_at}
-use Rattle.ncq_xmlql.specs.Reading.{starts_tag, many, pattern_at}
+use Rattle.ncq_xmlql.specs.Reading.{starts_tag, many}
+use Rattle.ncq_xmlql.specs.PatternReading.{pattern_at}
 
 abbrev pub literal_at : List Token → Read (List ℕ)
 literal_at ((Quoted text) ∷ rest) = Some (text, rest)

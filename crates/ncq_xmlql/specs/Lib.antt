@@ -1,4 +1,8 @@
 pub mod Reading
+pub mod PathValues
+pub mod PathReading
+pub mod PatternReading
+pub mod PathGrammar
 pub mod ItemReading
 pub mod TemplateReading
 pub mod Times
@@ -9,6 +13,7 @@ pub mod TemplateGrammar
 pub mod StatementGrammar
 pub mod Nesting
 pub mod Counts
+pub mod PatternPaths
 pub mod Statements
 pub mod Answered
 pub mod WellFormed

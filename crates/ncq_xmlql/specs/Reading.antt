@@ -1,5 +1,5 @@
--- Reading patterns from the front of a token list. The code reads by these; the grammar is apart
--- from them.
+-- Reading the parts of tags from the front of a token list. The code reads by these; the grammar is
+-- apart from them.
 use Rattle.std.specs.Prelude.{◌≡◌, ◌++◌, ℕ, zero, suc, Bool, true, false, ◌&&◌, not, if◌then◌else◌}
 use Rattle.std.specs.Prelude.{List, [], ◌∷◌, length, map, Option, Some, None, Result, Ok, Err}
 use Rattle.std.specs.Prelude.{codes}
@@ -13,11 +13,8 @@ use Rattle.ncq_token.specs.declared.token.Token.TheVariants.{Name, Variable, Quo
 use Rattle.ncq_xmlql.specs.declared.model.Operand.{Operand}
 use Rattle.ncq_xmlql.specs.declared.model.Operand.TheVariants as operand
 use Rattle.ncq_xmlql.specs.declared.model.PatternAttribute.{PatternAttribute}
-use Rattle.ncq_xmlql.specs.declared.model.Content.{Content}
-use Rattle.ncq_xmlql.specs.declared.model.Content.TheVariants.{Parts, Value}
 use Rattle.ncq_xmlql.specs.declared.model.Suffix.{Suffix}
 use Rattle.ncq_xmlql.specs.declared.model.Suffix.TheVariants.{Plain, ElementAs, ContentAs}
-use Rattle.ncq_xmlql.specs.declared.model.Pattern.{Pattern}
 use Rattle.ncq_xmlql.specs.declared.parts.Tag.{Tag}
 use Rattle.ncq_xmlql.specs.declared.mismatch.Mismatch.{Mismatch}
 use Rattle.ncq_xmlql.specs.declared.mismatch.Mismatch.TheVariants.{OutOfMemory, NotSpelled}
@@ -107,12 +104,19 @@ abbrev pub checked : {A : Type 0} → Bool → Option A → Option A
 checked true o = o
 checked false o = None
 
+-- what stands in a tag behind its name or path: attributes of which no two have one name, and
+-- whether the tag is empty
+unfoldable pub tail_at : List Token → Read (List PatternAttribute × Bool)
+tail_at tokens = do
+  attributes ← attributes_at tokens
+  close ← checked (names_differ attributes.0) (close_at attributes.1)
+  Some ((attributes.0, close.0), close.1)
+
 unfoldable pub opening_at : List Token → Read Tag
 opening_at tokens = do
   tag ← tag_at tokens
-  attributes ← attributes_at tag.1
-  close ← checked (names_differ attributes.0) (close_at attributes.1)
-  Some (record { name = tag.0; attributes = attributes.0; is_empty = close.0 }, close.1)
+  tail ← tail_at tag.1
+  Some (record { name = tag.0; attributes = tail.0.0; is_empty = tail.0.1 }, tail.1)
 
 -- `>` behind the name of a tag's end, or behind `</`
 abbrev pub end_close_at : List Token → Option (List Token)
@@ -161,37 +165,3 @@ many_in starts one (suc turns) tokens =
 abbrev pub many : {A : Type 0} → (List Token → Bool) → (List Token → Read A) → List Token
     → Read (List A)
 many starts one tokens = many_in starts one (length tokens) tokens
-
-unfoldable pub content_at : (List Token → Read Pattern) → List Token → Read Content
-content_at one ((Variable x) ∷ rest) = Some (Value (operand.Variable x), rest)
-content_at one ((Quoted text) ∷ rest) = Some (Value (operand.Literal text), rest)
-content_at one ((Word word) ∷ rest) = let more = words_at rest
-    in Some (Value (operand.Literal (word ++ more.0)), more.1)
-content_at one tokens = many starts_tag one tokens >>= λ parts. Some (Parts parts.0, parts.1)
-
-abbrev pub body_at : (List Token → Read Pattern) → Tag → List Token → Read Content
-body_at one opening tokens =
-    if opening.is_empty then Some (Parts [], tokens)
-    else (content_at one tokens >>= λ content. end_at opening.name content.1 >>= λ rest.
-    Some (content.0, rest))
-
--- a pattern, whose parts are read by `one`
-unfoldable pub pattern_of : (List Token → Read Pattern) → List Token → Read Pattern
-pattern_of one tokens = do
-  opening ← opening_at tokens
-  content ← body_at one opening.0 opening.1
-  suffix ← suffix_at content.1
-  Some (
-    record {
-      tag = opening.0.name;
-      attributes = opening.0.attributes;
-      content = content.0;
-      suffix = suffix.0;
-    },
-    suffix.1,
-  )
-
--- a pattern, nested no deeper than the number
-unfoldable pub pattern_at : ℕ → List Token → Read Pattern
-pattern_at zero tokens = None
-pattern_at (suc depth) tokens = pattern_of (pattern_at depth) tokens

@@ -13,6 +13,8 @@ use Rattle.ncq_xmlql.specs.declared.model.Statement.{Statement}
 use Rattle.ncq_xmlql.specs.Reading.{all_differ}
 use Rattle.ncq_xmlql.specs.ItemReading.{has_arm, is_variable}
 use Rattle.ncq_xmlql.specs.Statements.{AreWithin}
+use Rattle.ncq_xmlql.specs.PatternPaths.{all_paths}
+use Rattle.ncq_path.specs.Formed.{is_formed}
 
 -- the first item is a match
 abbrev pub begins_with_match : List QueryItem → Bool
@@ -42,10 +44,11 @@ template_layer (Element tag attributes content) = is_pyx_name tag
 unfoldable pub template_is_good : Template → Bool
 template_is_good = para-Template Bool template_layer
 
--- The first item is a match, each item is whole, the counts are within the limits, and the template
--- is good.
+-- The first item is a match, each item is whole, the counts are within the limits, each path is
+-- well formed, and the template is good.
 pub record IsWellFormed (st : Statement) : Type 0 where
   pub begins : begins_with_match st.query.items ≡ true
   pub items : list_all item_is_whole st.query.items ≡ true
   pub within : AreWithin st.query.items
+  pub paths : all_paths is_formed st.query.items ≡ true
   pub template : template_is_good st.query.template ≡ true

@@ -9,13 +9,16 @@
 mod action;
 mod count;
 mod distinct;
+mod few;
 mod items;
+mod joined;
 mod keyword;
 mod laws;
 mod mismatch;
 mod model;
 mod nest;
 mod parts;
+mod path;
 mod pattern;
 mod statement;
 mod template;

@@ -1,5 +1,6 @@
 //! Statements, queries, patterns and templates as values.
 use ncq_base::{Bytes, Op, Sequence};
+use ncq_path::Path;
 
 /// A variable, by its name without the `$`, or the bytes of a literal.
 pub enum Operand {
@@ -47,7 +48,8 @@ pub enum Suffix {
 #[cycle(pattern)]
 #[derive(Drop)]
 pub struct Pattern {
-    pub tag: Bytes,
+    /// The path to the elements.
+    pub tag: Path,
     pub attributes: PatternAttributes,
     pub content: Content,
     pub suffix: Suffix,

@@ -1,4 +1,4 @@
-//! How deep the tags of a statement nest.
+//! How deep the tags of a statement and the round brackets in them nest.
 ghost use Rattle.std.specs.Prelude.{◌≡◌, ◌≤◌, ◌<◌, ◌+◌};
 ghost use Rattle.ncq_xmlql.specs.Nesting.{nest, depth_after};
 
@@ -11,8 +11,8 @@ fn depth_after(depth: usize, token: &Token) -> usize
     ensures bound { result ≤ depth + 1 }
 {
     match token {
-        Token::TagStart => depth + 1,
-        Token::EmptyClose | Token::TagEnd => depth.saturating_sub(1),
+        Token::TagStart | Token::Open => depth + 1,
+        Token::EmptyClose | Token::TagEnd | Token::Shut => depth.saturating_sub(1),
         _ => depth,
     }
 }

@@ -2,8 +2,9 @@
 ghost use Rattle.ncq_token.specs.declared.token.Token.{Token};
 ghost use Rattle.std.specs.Prelude.{List, ℕ, ◌≡◌, ◌++◌, ◌≤◌, ◌<◌, ◌∷◌, [], length, IfOk, OnOk};
 ghost use Rattle.ncq_xmlql.specs.Reading.{Gives, value_at, attributes_at, close_at, name_at};
-ghost use Rattle.ncq_xmlql.specs.Reading.{variable_at, tag_at, opening_at, end_close_at, end_at};
-ghost use Rattle.ncq_xmlql.specs.Reading.{checked, names_differ, suffix_at, words_at, with_text};
+ghost use Rattle.ncq_xmlql.specs.Reading.{variable_at, tag_at, tail_at, opening_at, end_close_at};
+ghost use Rattle.ncq_xmlql.specs.Reading.{end_at, checked, names_differ, suffix_at, words_at};
+ghost use Rattle.ncq_xmlql.specs.Reading.{with_text};
 
 use crate::distinct::names_differ;
 use crate::keyword::{is_content_as, is_element_as};
@@ -78,8 +79,7 @@ pub(crate) fn opening_at(alloc: Global, tokens: &[Token]) -> Result<(Tag, &[Toke
     ensures { Gives (λ x. (x.0, x.1.now)) result (opening_at tokens.now) }
 {
     let (name, rest) = tag_at(alloc, tokens)?;
-    let (attributes, rest) = attributes_at(alloc, rest)?;
-    let (is_empty, rest) = close_behind(alloc, attributes.as_slice(), rest)?;
+    let (attributes, is_empty, rest) = tail_at(alloc, rest)?;
     Ok((
         Tag {
             name,
@@ -88,6 +88,20 @@ pub(crate) fn opening_at(alloc: Global, tokens: &[Token]) -> Result<(Tag, &[Toke
         },
         rest,
     ))
+}
+
+/// What stands in a tag behind its name or path: attributes, of which no two have one name, and
+/// whether the tag is empty; and the tokens behind it.
+#[tactic(auto, unfolding(crate::specs::Reading::tail_at))]
+pub(crate) fn tail_at(
+    alloc: Global,
+    tokens: &[Token],
+) -> Result<(PatternAttributes, bool, &[Token]), Mismatch>
+    ensures { Gives (λ x. ((x.0, x.1), x.2.now)) result (tail_at tokens.now) }
+{
+    let (attributes, rest) = attributes_at(alloc, tokens)?;
+    let (is_empty, rest) = close_behind(alloc, attributes.as_slice(), rest)?;
+    Ok((attributes, is_empty, rest))
 }
 
 /// Whether the tag that is closed behind these attributes is empty, where no two of them have one

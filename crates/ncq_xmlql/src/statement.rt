@@ -11,6 +11,7 @@ ghost use Rattle.ncq_xmlql.specs.WellFormed.{IsWellFormed};
 
 use crate::action::{action_at, argument_at, construct_at, distinct_at, head_at};
 use crate::count::{arms_of, conditions_of, slots_of};
+use crate::few::all_are_few;
 use crate::items::items_at;
 use crate::mismatch::Mismatch;
 use crate::model::{Query, QueryItem, Statement};
@@ -22,7 +23,7 @@ use ncq_token::{Token, TokenError, tokens};
 use std::alloc::Global;
 use thiserror::Error;
 
-/// How deep the tags of a statement may nest.
+/// How deep the tags of a statement and the brackets in them may nest.
 const MAX_NESTING: usize = 32;
 
 /// How many patterns may stand directly under roots.
@@ -41,7 +42,7 @@ pub enum StatementError {
     /// The text has no tokens, or they spell no statement.
     #[error("not a statement")]
     NotAStatement,
-    /// The statement exceeds a limit: `Pattern`, `Arms`, `Slots` or `Conditions`.
+    /// The statement exceeds a limit: `Pattern`, `Arms`, `Slots`, `Conditions` or `Path`.
     #[error("a limit is exceeded")]
     Limit { which: Limit },
     #[error("out of memory")]
@@ -113,7 +114,7 @@ fn statement_at(alloc: Global, tokens: &[Token]) -> Result<Statement, Mismatch>
     })
 }
 
-/// The first limit on counts that the items exceed.
+/// The first of these limits that the items exceed.
 fn exceeded(items: &[QueryItem]) -> Option<Limit>
     ensures { result ≡ exceeded items.now }
 {
@@ -125,6 +126,9 @@ fn exceeded(items: &[QueryItem]) -> Option<Limit>
     }
     if conditions_of(items) > MAX_CONDITIONS {
         return Some(Limit::Conditions);
+    }
+    if !all_are_few(items) {
+        return Some(Limit::Path);
     }
     None
 }
@@ -152,9 +156,10 @@ fn parse_tokens(alloc: Global, tokens: &[Token]) -> Result<Statement, StatementE
 /// The statement that a text is.
 ///
 /// The first of these that holds decides: `NotAStatement` where the text has no tokens; `Limit`
-/// with `Pattern` where its tags nest deeper than 32; `NotAStatement` where its tokens spell no
-/// statement; `Limit` with `Arms` over 8, with `Slots` over 64, with `Conditions` over 32. Else the
-/// answer is the one statement that the text spells, which is well formed.
+/// with `Pattern` where its tags and the brackets in them nest deeper than 32; `NotAStatement`
+/// where its tokens spell no statement; `Limit` with `Arms` over 8, with `Slots` over 64, with
+/// `Conditions` over 32, with `Path` where a path has over 32 names. Else the answer is the one
+/// statement that the text spells, which is well formed.
 #[tactic(auto, using(crate::proofs::Exact::given), unfolding(crate::specs::Answered::statement_of))]
 pub fn parse_statement(alloc: Global, text: &[u8]) -> Result<Statement, StatementError>
     ensures exact { Answers text.now result }

@@ -119,7 +119,8 @@ fn the_fourth_query_of_a_join_joins_first(rt: HostRuntime) -> Result<(), Fail> {
 /// Those that are live count, whichever plans they have.
 const DELETED: &[Parts<'_>] = &[
     // One of four goes: three are left, so the next joins first.
-    // Two more go: the two that are left join first, and the next selects first, over the companies.
+    // Two more go: the two that are left join first, and the next selects first, over the
+    // companies.
     // With it there are three again.
     (
         &[

@@ -5,6 +5,7 @@
 //! constant. A template shows a slot as `#0` and a text in single quotation marks.
 
 use ncq_base::{Bytes, End, Interval, Op, write_atom, write_decimal, write_number};
+use ncq_path::write_path;
 use ncq_plan::{Arm, NormalQuery, Side, SlotTemplate, SlotText, Test};
 use ncq_row::{Shape, ShapeContent, ShapeSuffix};
 use std::alloc::AllocError;
@@ -31,7 +32,7 @@ fn add_slot(out: &mut Vec<u8>, before: &str, slot: usize) -> Result<(), AllocErr
 
 #[cycle(shapes)]
 fn add_shape(out: &mut Vec<u8>, shape: &Shape) -> Result<(), AllocError> {
-    add_bytes(out, "", &shape.tag, "")?;
+    write_path(&shape.tag, out)?;
     for name in shape.attributes.as_slice() {
         add_bytes(out, "@", name, "")?;
     }

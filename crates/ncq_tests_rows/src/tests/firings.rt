@@ -2,11 +2,11 @@
 //!
 //! The query has a row of each letter but `x`.
 ghost use Rattle.std.specs.Prelude.{◌≡◌, ◌<◌, true, length, IfOk};
-ghost use Rattle.std.specs.List.{AllByRecursion};
+ghost use Rattle.std.specs.List.{AllByRecursion, list_all};
 ghost use Rattle.ncq_plan.specs.Residuals.{tests_are_within};
 ghost use Rattle.ncq_plan.specs.Templates.{template_is_within};
 ghost use Rattle.ncq_plan.specs.WellFormed.{arms_width, equals_in, ranges_in, ArmsFit};
-ghost use Rattle.ncq_plan.specs.WellFormed.{IsWellFormed};
+ghost use Rattle.ncq_plan.specs.WellFormed.{arm_is_formed, IsWellFormed};
 ghost use Rattle.ncq_midfile.specs.Content.{IsSound};
 ghost use Rattle.ncq_midfile.specs.Shown.{shown, rows_below};
 
@@ -153,6 +153,7 @@ fn arms(alloc: Global) -> Result<Arms, AllocError>
     ensures equals { IfOk result (λ arms. equals_in arms ≡ 0) }
     ensures ranges { IfOk result (λ arms. ranges_in arms ≡ 0) }
     ensures fit { IfOk result (λ arms. ArmsFit 0 arms) }
+    ensures paths { IfOk result (λ arms. list_all arm_is_formed arms ≡ true) }
 {
     let mut arms = Arms::new(alloc);
     arms.push(Arm {

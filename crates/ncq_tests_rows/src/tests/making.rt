@@ -1,9 +1,12 @@
 //! Shapes and elements that several of the files make, and the rows of one in the other.
-ghost use Rattle.std.specs.Prelude.{◌≡◌, ◌<◌, ◌+◌, length, IfOk};
-ghost use Rattle.std.specs.List.{sum_by};
+ghost use Rattle.std.specs.Prelude.{◌≡◌, ◌<◌, ◌+◌, true, length, IfOk};
+ghost use Rattle.std.specs.List.{list_all, sum_by};
+ghost use Rattle.ncq_path.specs.Formed.{is_formed};
+ghost use Rattle.ncq_row.specs.Formed.{shape_is_formed, content_is_formed};
 ghost use Rattle.ncq_row.specs.Widths.{width, suffix_width};
 
 use ncq_base::{Copied, Shared, Steps, bytes_of};
+use ncq_path::{Path, is_well_formed};
 use ncq_plan::SlotTemplate;
 use ncq_pyx::Written;
 use ncq_row::{
@@ -14,12 +17,22 @@ use std::alloc::{AllocError, Global};
 use std::marker::Brand;
 use std::sync::ledger::{Blank, Ledger};
 
-/// The shape of the values of elements with this tag.
-#[tactic(auto, using(ncq_row::proofs::ShapeLaws::width_is))]
-pub fn value_shape(alloc: Global, tag: &[u8]) -> Result<Shape, AllocError>
-    ensures { IfOk result (λ s. width s ≡ 1) }
+/// The path of one name.
+#[tactic(auto, using(crate::proofs::ShapeLaws::shape_is))]
+pub fn tag_path(alloc: Global, name: &[u8]) -> Result<Path, AllocError>
+    ensures { IfOk result (λ p. is_formed p ≡ true) }
 {
-    let tag = bytes_of(alloc, tag)?;
+    let name = bytes_of(alloc, name)?;
+    Ok(Path::Tag(name))
+}
+
+/// The shape of the values of elements with this tag.
+#[tactic(auto, using(crate::proofs::ShapeLaws::shape_is))]
+pub fn value_shape(alloc: Global, tag: &[u8]) -> Result<Shape, AllocError>
+    ensures width { IfOk result (λ s. width s ≡ 1) }
+    ensures formed { IfOk result (λ s. shape_is_formed s ≡ true) }
+{
+    let tag = tag_path(alloc, tag)?;
     Ok(Shape {
         tag,
         attributes: Names::new(alloc),
@@ -38,7 +51,7 @@ pub fn value_shapes(alloc: Global, tags: &[&str]) -> Result<Shapes, AllocError> 
 }
 
 /// A shape of these parts.
-#[tactic(auto, using(ncq_row::proofs::ShapeLaws::width_is))]
+#[tactic(auto, using(crate::proofs::ShapeLaws::shape_is))]
 pub fn shape_with(
     alloc: Global,
     tag: &[u8],
@@ -46,10 +59,11 @@ pub fn shape_with(
     parts: Shapes,
     suffix: ShapeSuffix,
 ) -> Result<Shape, AllocError>
-    ensures { IfOk result (λ s.
+    ensures width { IfOk result (λ s.
         width s ≡ length attributes + sum_by width parts + suffix_width suffix) }
+    ensures formed { IfOk result (λ s. shape_is_formed s ≡ list_all shape_is_formed parts) }
 {
-    let tag = bytes_of(alloc, tag)?;
+    let tag = tag_path(alloc, tag)?;
     Ok(Shape {
         tag,
         attributes,
@@ -80,13 +94,56 @@ pub fn text_element(alloc: Global, name: &[u8], text: &[u8]) -> Result<Element, 
     element_with(alloc, name, children)
 }
 
+/// Whether the path is well formed.
+fn is_formed(path: &Path) -> bool
+    ensures { result ≡ is_formed path.now }
+{
+    is_well_formed(path)
+}
+
+/// Whether each path of the shape is well formed.
+#[cycle(forming)]
+#[tactic(auto, using(crate::proofs::ShapeLaws::shape_is))]
+fn shape_is_formed(shape: &Shape) -> bool
+    ensures { result ≡ shape_is_formed shape.now }
+{
+    is_formed(&shape.tag) && content_is_formed(&shape.content)
+}
+
+/// Whether each path of the content is well formed.
+#[cycle(forming)]
+#[tactic(auto, using(crate::proofs::ShapeLaws::shape_is))]
+fn content_is_formed(content: &ShapeContent) -> bool
+    ensures { result ≡ content_is_formed content.now }
+{
+    match content {
+        ShapeContent::Parts(parts) => shapes_are_formed(parts.as_slice()),
+        ShapeContent::Value => true,
+    }
+}
+
+/// Whether each path of the shapes is well formed.
+#[cycle(forming)]
+fn shapes_are_formed(shapes: &[Shape]) -> bool
+    ensures { result ≡ list_all shape_is_formed shapes.now }
+{
+    for shape in shapes {
+        if !shape_is_formed(shape) {
+            return false;
+        }
+    }
+    true
+}
+
 /// The rows of the shape in the element.
 fn plain_rows<L: Ledger>(
     alloc: Global,
     shape: &Shape,
     element: &Element,
     steps: &mut Steps<L>,
-) -> Result<Rows, AllocError> {
+) -> Result<Rows, AllocError>
+    requires { shape_is_formed shape.now ≡ true }
+{
     let mut rows = Rows::new(alloc);
     match_shape(alloc, shape, element, &mut rows, steps)?;
     Ok(rows)
@@ -124,7 +181,9 @@ fn shared_rows<L: Ledger>(
     shape: &Shape,
     element: &Shared<Written>,
     steps: &mut Steps<L>,
-) -> Result<Rows, AllocError> {
+) -> Result<Rows, AllocError>
+    requires { shape_is_formed shape.now ≡ true }
+{
     let mut rows = Rows::new(alloc);
     match_written(alloc, shape, element, &mut rows, steps)?;
     Ok(rows)
@@ -136,7 +195,9 @@ fn sharing_rows<L: Ledger>(
     shape: &Shape,
     element: &Element,
     steps: &mut Steps<L>,
-) -> Result<Rows, AllocError> {
+) -> Result<Rows, AllocError>
+    requires { shape_is_formed shape.now ≡ true }
+{
     let shared = shared(alloc, element)?;
     shared_rows(alloc, shape, &shared, steps)
 }
@@ -147,7 +208,9 @@ fn both_rows<L: Ledger>(
     shape: &Shape,
     element: &Element,
     steps: &mut Steps<L>,
-) -> Result<(Rows, Rows), AllocError> {
+) -> Result<(Rows, Rows), AllocError>
+    requires { shape_is_formed shape.now ≡ true }
+{
     let rows = plain_rows(alloc, shape, element, steps)?;
     let sharing = sharing_rows(alloc, shape, element, steps)?;
     Ok((rows, sharing))
@@ -163,17 +226,22 @@ fn rows_in<L: Ledger>(
     requires name { blank.name ≡ L.name }
     requires parts { blank.parts ≡ L.parts }
     requires some { 0 < L.parts }
+    requires formed { shape_is_formed shape.now ≡ true }
 {
     let mut steps = Steps::<L>::new(rt, blank);
     both_rows(rt.alloc(), shape, element, &mut steps)
 }
 
-/// The rows of the shape in the element, and in the same element shared.
+/// The rows of the shape in the element, and in the same element shared. Each path of the shape has
+/// to be well formed.
 pub fn rows_of(
     rt: &HostRuntime,
     shape: &Shape,
     element: &Element,
 ) -> Result<(Rows, Rows), AllocError> {
+    if !shape_is_formed(shape) {
+        return Err(AllocError);
+    }
     rows_in::<Brand>(rt, shape, element, Blank::new(1))
 }
 

@@ -1,10 +1,11 @@
 //! The plans of four statements, and their texts worked out by hand.
-ghost use Rattle.std.specs.Prelude.{◌≡◌, ◌≤◌, ◌+◌, ◌∷◌, [], length, IfOk};
-ghost use Rattle.std.specs.List.{sum_by};
+ghost use Rattle.std.specs.Prelude.{◌≡◌, ◌≤◌, ◌+◌, ◌∷◌, [], true, length, IfOk};
+ghost use Rattle.std.specs.List.{list_all, sum_by};
+ghost use Rattle.ncq_row.specs.Formed.{shape_is_formed};
 ghost use Rattle.ncq_row.specs.Widths.{width, suffix_width};
 ghost use Rattle.ncq_plan.specs.Products.{arm_width};
 ghost use Rattle.ncq_plan.specs.WellFormed.{arms_width, equals_in, ranges_in, ArmsFit};
-ghost use Rattle.ncq_plan.specs.WellFormed.{IsWellFormed};
+ghost use Rattle.ncq_plan.specs.WellFormed.{arm_is_formed, IsWellFormed};
 
 use super::making::{shape_with, value_shape};
 use super::signatures::text;
@@ -21,6 +22,7 @@ use std::test::Fail;
 /// The arm of quotes with these parts.
 fn quotes(alloc: Global, parts: Shapes, suffix: ShapeSuffix) -> Result<Arm, AllocError>
     ensures width { IfOk result (λ a. arm_width a ≡ sum_by width parts + suffix_width suffix) }
+    ensures formed { IfOk result (λ a. arm_is_formed a ≡ list_all shape_is_formed parts) }
     ensures equals { IfOk result (λ a. a.equals ≡ []) }
     ensures ranges { IfOk result (λ a. a.ranges ≡ []) }
     ensures pairs { IfOk result (λ a. a.pairs ≡ []) }
@@ -44,6 +46,7 @@ fn query(alloc: Global, arms: Arms) -> Result<NormalQuery, AllocError>
     requires equals { equals_in arms ≤ 96 }
     requires ranges { ranges_in arms ≤ 32 }
     requires arms { ArmsFit 0 arms }
+    requires paths { list_all arm_is_formed arms ≡ true }
     ensures { IfOk result IsWellFormed }
 {
     Ok(NormalQuery {
@@ -55,7 +58,8 @@ fn query(alloc: Global, arms: Arms) -> Result<NormalQuery, AllocError>
 
 /// One part that is a value.
 fn lone_part(alloc: Global, tag: &str) -> Result<Shapes, AllocError>
-    ensures { IfOk result (λ parts. sum_by width parts ≡ 1) }
+    ensures width { IfOk result (λ parts. sum_by width parts ≡ 1) }
+    ensures formed { IfOk result (λ parts. list_all shape_is_formed parts ≡ true) }
 {
     let mut parts = Shapes::new(alloc);
     parts.push(value_shape(alloc, tag.as_bytes())?)?;
@@ -89,6 +93,7 @@ fn equal_quotes(
 /// The arm of quotes with a symbol and a price.
 fn priced(alloc: Global) -> Result<Arm, AllocError>
     ensures width { IfOk result (λ a. arm_width a ≡ 2) }
+    ensures formed { IfOk result (λ a. arm_is_formed a ≡ true) }
     ensures equals { IfOk result (λ a. a.equals ≡ []) }
     ensures ranges { IfOk result (λ a. a.ranges ≡ []) }
     ensures pairs { IfOk result (λ a. a.pairs ≡ []) }
@@ -206,8 +211,10 @@ fn a_join_by_one_pair(rt: HostRuntime) -> Result<(), Fail> {
 
 /// The texts of the two plans of a query and of its bare plan.
 const PLANS: [&str; 3] = [
-    "join(scan(quotes,Quote(Symbol=,Price=)),eq(scan(quotes,Quote(Symbol=,Price=)),0,\"INTC\"),1=1)",
-    "eq(join(scan(quotes,Quote(Symbol=,Price=)),scan(quotes,Quote(Symbol=,Price=)),1=1),2,\"INTC\")",
+    "join(scan(quotes,Quote(Symbol=,Price=)),eq(scan(quotes,Quote(Symbol=,Price=)),0,\"INTC\"),\
+     1=1)",
+    "eq(join(scan(quotes,Quote(Symbol=,Price=)),scan(quotes,Quote(Symbol=,Price=)),1=1),\
+     2,\"INTC\")",
     "join(scan(quotes,Quote(Symbol=,Price=)),scan(quotes,Quote(Symbol=,Price=)),1=1)",
 ];
 

@@ -11,7 +11,7 @@ ghost use Rattle.std.specs.Prelude.{◌≡◌, ◌<◌, length, IfOk};
 ghost use Rattle.std.specs.List.{sum_by};
 ghost use Rattle.ncq_row.specs.Widths.{width};
 
-use super::making::{element_with, rows_of, shape_with, shared, text_node, value_shape};
+use super::making::{element_with, rows_of, shape_with, shared, tag_path, text_node, value_shape};
 use ncq_base::{Atom, Copied, Steps, atom_of, bytes_of, same};
 use ncq_row::{
     Names, Nodes, Row, Rows, Shape, ShapeContent, ShapeSuffix, Shapes, Shown, Value, width,
@@ -539,11 +539,11 @@ fn rows_are_copied_and_joined(rt: HostRuntime) -> Result<(), Fail> {
 }
 
 /// `P=~`
-#[tactic(auto, using(ncq_row::proofs::ShapeLaws::width_is))]
+#[tactic(auto, using(crate::proofs::ShapeLaws::shape_is))]
 fn content_part(alloc: Global) -> Result<Shape, AllocError>
     ensures { IfOk result (λ s. width s ≡ 2) }
 {
-    let tag = bytes_of(alloc, b"P")?;
+    let tag = tag_path(alloc, b"P")?;
     Ok(Shape {
         tag,
         attributes: Names::new(alloc),

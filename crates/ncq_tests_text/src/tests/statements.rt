@@ -2,6 +2,7 @@
 
 use super::{Pair, expect_bytes, joined};
 use ncq_base::{Bytes, Limit, Op};
+use ncq_path::write_path;
 use ncq_xmlql::{
     Content, Operand, Pattern, Query, QueryItem, Statement, StatementError, Suffix, Template,
     parse_statement,
@@ -29,11 +30,12 @@ fn show_operand(out: &mut Vec<u8>, operand: &Operand) -> Result<(), AllocError> 
     }
 }
 
-/// `<tag name=value(parts)>`, or `=value` in place of the parts, with `!e$x` or `!c$x` for a
+/// `<path name=value(parts)>`, or `=value` in place of the parts, with `!e$x` or `!c$x` for a
 /// suffix.
 #[cycle(patterns)]
 fn show_pattern(out: &mut Vec<u8>, pattern: &Pattern) -> Result<(), AllocError> {
-    show_bytes(out, "<", &pattern.tag, "")?;
+    out.push(b'<')?;
+    write_path(&pattern.tag, out)?;
     for attribute in pattern.attributes.as_slice() {
         show_bytes(out, " ", &attribute.name, "=")?;
         show_operand(out, &attribute.value)?;
@@ -162,6 +164,7 @@ fn word_of(which: Limit) -> &'static str {
         Limit::Arms => "limit arms",
         Limit::Slots => "limit slots",
         Limit::Conditions => "limit conditions",
+        Limit::Path => "limit path",
         _ => "another limit",
     }
 }
@@ -174,7 +177,7 @@ fn shown(alloc: Global, statement: &Statement) -> Result<Vec<u8>, AllocError> {
 }
 
 /// The statement as a text, or `none`, or the limit.
-fn answer(alloc: Global, text: &[u8]) -> Result<Vec<u8>, AllocError> {
+pub(super) fn answer(alloc: Global, text: &[u8]) -> Result<Vec<u8>, AllocError> {
     match parse_statement(alloc, text) {
         Ok(statement) => shown(alloc, &statement),
         Err(StatementError::NotAStatement) => Vec::from_slice(alloc, b"none"),
@@ -211,7 +214,7 @@ fn expect_case(
 
 /// Each text and its answer. The head stands before each of the texts, and the shown head before
 /// each answer but `none`.
-fn expect_behind(
+pub(super) fn expect_behind(
     rt: &impl Abort,
     alloc: Global,
     head: &str,
@@ -541,7 +544,7 @@ fn distinct(rt: HostRuntime) -> Result<(), Fail> {
 }
 
 /// A text that is a head, a piece again and again, a middle, another piece as often, and a tail.
-type Repeated = (
+pub(super) type Repeated = (
     &'static str,
     (&'static str, &'static str),
     usize,
@@ -670,11 +673,21 @@ fn expect_kind(rt: &impl Abort, got: &[u8], want: &str, head: &str, times: usize
     assert!(rt; got == want.as_bytes(), "at {head} and {times} pieces");
 }
 
+/// Compares what kind of answer each text has.
+pub(super) fn expect_kinds(
+    rt: &impl Abort,
+    alloc: Global,
+    rows: &[(Repeated, &str)],
+) -> Result<(), AllocError> {
+    for (repeated, want) in rows {
+        let got = kind_of(alloc, repeated)?;
+        expect_kind(rt, &got, want, repeated.0, repeated.2);
+    }
+    Ok(())
+}
+
 #[test]
 fn limits(rt: HostRuntime) -> Result<(), Fail> {
-    for (repeated, want) in LIMITS {
-        let got = kind_of(rt.alloc(), repeated)?;
-        expect_kind(&rt, &got, want, repeated.0, repeated.2);
-    }
+    expect_kinds(&rt, rt.alloc(), LIMITS)?;
     Ok(())
 }

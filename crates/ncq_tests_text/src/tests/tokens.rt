@@ -19,6 +19,12 @@ fn parts_of(token: &Token) -> (&str, &[u8]) {
         Token::Word(word) => ("word:", word.as_slice()),
         Token::Cmp(op) => (mark_of(*op), b""),
         Token::Comma => ("comma", b""),
+        Token::Dot => ("dot", b""),
+        Token::Bar => ("bar", b""),
+        Token::Star => ("star", b""),
+        Token::Plus => ("plus", b""),
+        Token::Open => ("open", b""),
+        Token::Shut => ("shut", b""),
     }
 }
 
@@ -97,7 +103,7 @@ const TAGS: &[Case] = &[
     (b"<a>=", b"tag name:a close eq "),
     (b"<a>>=", b"tag name:a close ge "),
     (b"<a/>/>", b"tag name:a empty word:/ gt "),
-    (b"<a.b>", b"bad 2"),
+    (b"<a.b>", b"tag name:a dot name:b close "),
     (b"<a 1>", b"bad 3"),
     (b"<a,b>", b"bad 2"),
     (b"<a <", b"bad 3"),
@@ -105,6 +111,30 @@ const TAGS: &[Case] = &[
     (b"<a b!=", b"bad 4"),
     (b"</9>", b"bad 2"),
 ];
+
+const PATHS: &[Case] = &[
+    (
+        b"<(a|b)*.c+>",
+        b"tag open name:a bar name:b shut star dot name:c plus close ",
+    ),
+    (b"<( a )>", b"tag open name:a shut close "),
+    (b"</(a+)>", b"end open name:a plus shut close "),
+    (b"<a-.b:|c>", b"tag name:a- dot name:b: bar name:c close "),
+    (b"< (", b"lt word:( "),
+    (b"<)", b"lt word:) "),
+    (b"<.a", b"lt word:.a "),
+    (b"<*", b"lt word:* "),
+    (b"<(>", b"tag open close "),
+    (b"<(<", b"bad 2"),
+    (b"<a.1>", b"bad 3"),
+    (b"<a>.|*+()", b"tag name:a close word:.|*+() "),
+];
+
+#[test]
+fn paths(rt: HostRuntime) -> Result<(), Fail> {
+    expect_tokens(&rt, rt.alloc(), PATHS)?;
+    Ok(())
+}
 
 #[test]
 fn tags(rt: HostRuntime) -> Result<(), Fail> {

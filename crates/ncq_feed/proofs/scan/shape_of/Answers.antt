@@ -1,12 +1,18 @@
 use Rattle.std.proofs.Common.{sym, ◌∙◌}
+use Rattle.ncq_feed.proofs.ScanLaws.{scan_formed}
 use Rattle.ncq_feed.proofs.Variants.{scan_parts}
 use Rattle.ncq_feed.proofs.scan.shape_of.Goals as goal
 
 pub unreachable-requires : goal.unreachable-requires
 unreachable-requires c =
-    let r = c.requires in
+    let r = c.requires.scan in
     c.in_default.not-Scan r.source r.shape (c.expr.ensures r.stands.file r.stands.at ∙ r.stands.of)
 
-pub returns : goal.returns
-returns c = λ source shape s.
+pub returns-clause-shape : goal.returns-clause-shape
+returns-clause-shape c source shape s =
     (scan_parts c.in-Scan.source source c.in-Scan.shape shape (sym c.in-Scan.is ∙ c.expr.ensures s.file s.at ∙ s.of)).1
+
+pub returns-clause-formed : goal.returns-clause-formed
+returns-clause-formed c =
+    let s = c.requires.scan.stands in
+    scan_formed c.in-Scan.source c.in-Scan.shape s.file.expr (sym (c.expr.ensures s.file s.at) ∙ c.in-Scan.is) (c.requires.formed c.args.at s.file s.at)

@@ -4,7 +4,7 @@ use Rattle.ncq_plan.specs.Meets.{has_atom}
 use Rattle.ncq_change.specs.Stores.{world_in}
 use Rattle.ncq_delta.specs.Joins.{left_slots, right_slots}
 use Rattle.ncq_fill.proofs.InputFiles.{equal_has_one, join_has_some, equal_selection, joined, asked, told_same, there_same}
-use Rattle.ncq_fill.proofs.InputFiles.{selected_ready, selected_counts, selected_cost, ready_first, ready_second, joined_counts, joined_cost, rows_wide, scan_counts, scan_steps}
+use Rattle.ncq_fill.proofs.InputFiles.{selected_ready, selected_counts, selected_cost, ready_first, ready_second, joined_counts, joined_cost, rows_wide, scan_counts, scan_formed, scan_steps}
 use Rattle.ncq_fill.proofs.fill.first_rows.Goals as goal
 
 pub only-number-requires : goal.only-number-requires
@@ -162,3 +162,6 @@ returns-in-Scan-clause-cost g c =
 pub unreachable-requires : goal.unreachable-requires
 unreachable-requires g c =
     c.requires.own (record { inner = c.in-RangeSel.input; slot = c.in-RangeSel.slot; interval = c.in-RangeSel.interval; is = c.in-RangeSel.is })
+
+pub scan-requires : goal.scan-requires
+scan-requires g c = scan_formed c.args.expr.now c.requires.formed c.in-Scan.source c.in-Scan.shape c.in-Scan.is

@@ -1,6 +1,7 @@
 use Rattle.std.proofs.Common.{refl, sym}
 use Rattle.std.proofs.lemmas.Result.{err_from_is_err_and}
-use Rattle.ncq_xmlql.specs.Reading.{pattern_at, many, starts_tag}
+use Rattle.ncq_xmlql.specs.Reading.{many, starts_tag}
+use Rattle.ncq_xmlql.specs.PatternReading.{pattern_at}
 use Rattle.ncq_xmlql.proofs.Loops.{many_go_on, many_fail, many_end}
 use Rattle.ncq_xmlql.proofs.Complete.{shorter}
 use Rattle.ncq_xmlql.proofs.pattern.+patterns.Goals as goal

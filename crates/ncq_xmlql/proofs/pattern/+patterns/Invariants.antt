@@ -1,5 +1,6 @@
 use Rattle.std.proofs.Common.{◌≡◌, length, ◌*◌, ◌+◌}
-use Rattle.ncq_xmlql.specs.Reading.{pattern_at, many, starts_tag}
+use Rattle.ncq_xmlql.specs.Reading.{many, starts_tag}
+use Rattle.ncq_xmlql.specs.PatternReading.{pattern_at}
 use Rattle.ncq_xmlql.proofs.Loops.{with_items}
 use Rattle.ncq_xmlql.proofs.pattern.+patterns.Given as goal
 

@@ -13,6 +13,7 @@ returns c = record {
   equals = c.requires.equals;
   ranges = c.requires.ranges;
   arms = c.requires.arms;
+  paths = c.requires.paths;
   residual = ap (λ (tests : List Test). tests_are_within (arms_width c.args.arms) tests) c.new.ensures;
   template = text_within (arms_width c.args.arms) c.in_ok-bytes_of.field-0;
 }
