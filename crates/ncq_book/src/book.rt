@@ -6,7 +6,8 @@ ghost use Rattle.std.specs.Option.{option_copied, option_map};
 ghost use Rattle.ncq_event.specs.Calendars.{due_firings, expired_at};
 ghost use Rattle.ncq_strategy.specs.Choices.{choice_of};
 ghost use Rattle.ncq_book.specs.Books.{alike, is_named, is_of, subscription_of, timers_of};
-ghost use Rattle.ncq_book.specs.Books.{timing_of, watchers_of, with_note, InstallsRise, NamesDiffer};
+ghost use Rattle.ncq_book.specs.Books.{timing_of, watchers_of, with_note, InstallsRise};
+ghost use Rattle.ncq_book.specs.Books.{NamesDiffer};
 
 use crate::finders::Finders;
 use crate::held::Held;
