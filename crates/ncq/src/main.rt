@@ -11,15 +11,17 @@ ghost use Rattle.std.specs.Prelude.{OnOk};
 ghost use Rattle.ncq_callback.specs.Facts.{Writes};
 ghost use Rattle.ncq_callback.specs.Labels.{labels};
 ghost use Rattle.ncq_callback.specs.Texts.{render};
+ghost use Rattle.ncq_plan.specs.Relations.{relates, relations};
 ghost use Rattle.ncq_run.specs.Status.{exit_code_of};
 ghost use Rattle.ncq_words.specs.Forms.{form_of, texts_of};
 
-use ncq_base::{Steps, bytes_of};
+use ncq_base::{Atom, Steps, bytes_of};
 use ncq_callback::{
     Call, Handler, Handlers, Kind, Notice, count_notice, mail_notice, print_notice,
 };
 use ncq_engine::Engine;
 use ncq_outside::{Sink, Source, StdSink, StdSource};
+use ncq_plan::{AtomTest, Predicate, Relation, multiple, starts};
 use ncq_run::{Status, exit_code, run};
 use std::alloc::{AllocError, Global};
 use std::hash::RandomState;
@@ -79,6 +81,20 @@ fn mail(argument: &[u8], notice: &Notice, out: &mut Vec<u8>) -> Result<(), Alloc
     mail_notice(argument, notice, out)
 }
 
+/// What the predicate `starts` asks.
+fn begins(value: &Atom, argument: &Atom) -> bool
+    ensures { result ≡ relates Relation.Prefix value.now argument.now }
+{
+    starts(value, argument)
+}
+
+/// What the predicate `multiple` asks.
+fn divides(value: &Atom, argument: &Atom) -> bool
+    ensures { result ≡ relates Relation.Multiple value.now argument.now }
+{
+    multiple(value, argument)
+}
+
 /// Adds a handler behind the others. Each name is added once, so memory alone can be wanting.
 fn add_handler(
     alloc: Global,
@@ -103,8 +119,32 @@ fn add_handler(
     }
 }
 
+/// Adds a predicate behind the others. Each name is added once, so memory alone can be wanting.
+fn add_predicate(
+    alloc: Global,
+    handlers: &mut Handlers,
+    name: &[u8],
+    relation: Relation,
+    test: AtomTest,
+) -> Result<(), AllocError>
+    requires callable { AtomTest.IsAlwaysCallable test }
+    requires tells { (value : _) (argument : _) (result : _)
+        → AtomTest.post test value argument result
+        → result ≡ relates relation value.now argument.now }
+    ensures added { OnOk result
+        (relations handlers.new.predicates.items (λ p. p.name) (λ p. p.relation)
+        ≡ relations handlers.old.predicates.items (λ p. p.name) (λ p. p.relation)
+        ++ (name.now, relation) ∷ []) }
+{
+    match handlers.add_predicate(Predicate::new(bytes_of(alloc, name)?, relation, test)) {
+        Ok(()) => Ok(()),
+        Err(_) => Err(AllocError),
+    }
+}
+
 /// A session over this source and this sink, of a new engine with the actions `print`, `count` and
-/// `mailto`, whose steps are counted in a ledger of its own.
+/// `mailto` and the predicates `starts` and `multiple`, whose steps are counted in a ledger of its
+/// own.
 /// It ends with `Usage` only where the words fit no form, and then with `Usage` or want of memory.
 fn session<I: Source, O: Sink, L: Ledger>(
     rt: &HostRuntime,
@@ -131,6 +171,10 @@ where
     add_handler(alloc, &mut handlers, b"count", Kind::Count, call)?;
     let call: Call = Box::new(alloc, mail)?;
     add_handler(alloc, &mut handlers, b"mailto", Kind::MailTo, call)?;
+    let test: AtomTest = Box::new(alloc, begins)?;
+    add_predicate(alloc, &mut handlers, b"starts", Relation::Prefix, test)?;
+    let test: AtomTest = Box::new(alloc, divides)?;
+    add_predicate(alloc, &mut handlers, b"multiple", Relation::Multiple, test)?;
     let mut engine = Engine::new(alloc, seed, &handlers)?;
     let mut steps = Steps::<L>::new(rt, blank);
     let status = run(

@@ -10,6 +10,7 @@ use Rattle.ncq_plan.specs.declared.query.NormalQuery.{NormalQuery}
 use Rattle.ncq_plan.specs.declared.template.SlotTemplate.{SlotTemplate}
 use Rattle.ncq_plan.specs.Exprs.{World, rows_in}
 use Rattle.ncq_plan.specs.Plans.{plan_of}
+use Rattle.ncq_plan.specs.Relations.{Relations}
 use Rattle.ncq_plan.specs.Residuals.{passes}
 use Rattle.ncq_plan.specs.Templates.{constructed}
 use Rattle.ncq_plan.proofs.CallerLemmas.{plan_gives_the_rows}
@@ -32,18 +33,18 @@ use Rattle.ncq_bind.proofs.JoiningLaws.{forests_are}
 use Rattle.ncq_bind.proofs.NameLaws.{template_named}
 
 -- the plan of a query that is bound gives all that it answers, whatever sources there are
-pub bound_answers : (statement : Statement) (normal : NormalQuery) → IsWellFormed statement → query_is_bound statement.query ≡ true → normal ≡ normal_query statement.query
-    → (world : World) → map (constructed normal.template) (filter (passes normal.residual) (rows_in (plan_of normal) world)) ≡ all statement.query world
-bound_answers statement normal whole bound is world =
+pub bound_answers : (relations : Relations) (statement : Statement) (normal : NormalQuery) → IsWellFormed statement → query_is_bound statement.query ≡ true → normal ≡ normal_query statement.query
+    → (world : World) → map (constructed normal.template) (filter (passes relations normal.residual) (rows_in (plan_of normal) world)) ≡ all relations statement.query world
+bound_answers relations statement normal whole bound is world =
     let query = statement.query in
     let both = both_true (list_all (item_is_bound (places_of (arms_of query.items))) query.items) (template_is_bound (places_of (arms_of query.items)) query.template) bound in
-    subst (λ (n : NormalQuery). map (constructed n.template) (filter (passes n.residual) (rows_in (plan_of n) world)) ≡ all query world) (sym is)
+    subst (λ (n : NormalQuery). map (constructed n.template) (filter (passes relations n.residual) (rows_in (plan_of n) world)) ≡ all relations query world) (sym is)
     (ap (map (constructed (normal_query query).template))
-    (plan_gives_the_rows (normal_query query) world (statement_formed statement (normal_query query) whole bound refl))
-    ∙ forests_are query whole.items both.0 arm_law world)
+    (plan_gives_the_rows relations (normal_query query) world (statement_formed statement (normal_query query) whole bound refl))
+    ∙ forests_are relations query whole.items both.0 arm_law world)
 
 pub plan_answers : PlanLaw
-plan_answers statement roots normal whole gives world = bound_answers statement normal whole gives.bound gives.answer world
+plan_answers relations statement roots normal whole gives world = bound_answers relations statement normal whole gives.bound gives.answer world
 
 pub statement_named : (statement : Statement) (n : NormalQuery) → IsWellFormed statement → n ≡ normal_query statement.query → template_is_named n.template ≡ true
 statement_named statement n whole is =
@@ -74,18 +75,19 @@ proper_once (forest ∷ forests) h =
     let t = both_true (is_proper forest) (list_all is_proper forests) h in
     and_from _ _ t.0 (proper_left (λ other. not (same_forest forest other)) (each_once_by same_forest forests) (proper_once forests t.1))
 
-proper_asked : (query : Query) (world : World) → list_all is_proper (all query world) ≡ true → list_all is_proper (answer query world) ≡ true
-proper_asked query world h =
-    elim query.distinct as (λ b. list_all is_proper (cond b (each_once_by same_forest (all query world)) (all query world)) ≡ true) [
-      | true ↦ proper_once (all query world) h
+proper_asked : (relations : Relations) (query : Query) (world : World) → list_all is_proper (all relations query world) ≡ true
+    → list_all is_proper (answer relations query world) ≡ true
+proper_asked relations query world h =
+    elim query.distinct as (λ b. list_all is_proper (cond b (each_once_by same_forest (all relations query world)) (all relations query world)) ≡ true) [
+      | true ↦ proper_once (all relations query world) h
       | false ↦ h
     ]
 
 pub proper_answers : ProperLaw
-proper_answers statement roots normal whole gives world proper =
+proper_answers relations statement roots normal whole gives world proper =
     let are_proper =
-    ap (list_all is_proper) (sym (plan_answers statement roots normal whole gives world))
+    ap (list_all is_proper) (sym (plan_answers relations statement roots normal whole gives world))
     ∙ each_proper normal.template (statement_named statement normal whole gives.answer)
-    (filter (passes normal.residual) (rows_in (plan_of normal) world))
-    (rows_filter (passes normal.residual) (rows_in (plan_of normal) world) (expr_rows_are_proper world proper (plan_of normal))) in
-    (are_proper, proper_asked statement.query world are_proper)
+    (filter (passes relations normal.residual) (rows_in (plan_of normal) world))
+    (rows_filter (passes relations normal.residual) (rows_in (plan_of normal) world) (expr_rows_are_proper world proper (plan_of normal))) in
+    (are_proper, proper_asked relations statement.query world are_proper)

@@ -1,7 +1,7 @@
 -- What `bind` answers, from what its parts answer.
 use Rattle.std.specs.Prelude.{Ok, Err}
 use Rattle.std.proofs.Common.{◌≡◌, ap, ◌∙◌, Bool, true, false, Some, None, refl, sym, subst}
-use Rattle.std.specs.Prelude.{if◌then◌else◌}
+use Rattle.std.specs.Prelude.{if◌then◌else◌, ◌&&◌}
 use Rattle.std.specs.List.{list_all}
 use Rattle.ncq_plan.specs.declared.query.NormalQuery.{NormalQuery}
 use Rattle.ncq_plan.specs.WellFormed as formed
@@ -33,24 +33,24 @@ clash : {A : Type 0} (b : Bool) → b ≡ true → b ≡ false → A
 clash b e f = absurd (let c : true ≡ false = sym e ∙ f in cc)
 
 pub answers_agree : OneAnswer
-answers_agree query roots (Err OutOfMemory) b p q h k = absurd (h refl)
-answers_agree query roots (Ok n) (Err OutOfMemory) p q h k = absurd (k refl)
-answers_agree query roots (Err NoSource) (Err OutOfMemory) p q h k = absurd (k refl)
-answers_agree query roots (Err RootDiffers) (Err OutOfMemory) p q h k = absurd (k refl)
-answers_agree query roots (Err Unbound) (Err OutOfMemory) p q h k = absurd (k refl)
-answers_agree query roots (Ok n) (Ok m) p q h k = ap Ok (p.answer ∙ sym q.answer)
-answers_agree query roots (Ok n) (Err NoSource) p q h k = clash _ p.declared q
-answers_agree query roots (Ok n) (Err RootDiffers) p q h k = clash _ p.root q.root
-answers_agree query roots (Ok n) (Err Unbound) p q h k = clash _ p.bound q.bound
-answers_agree query roots (Err NoSource) (Ok m) p q h k = clash _ q.declared p
-answers_agree query roots (Err NoSource) (Err NoSource) p q h k = refl
-answers_agree query roots (Err NoSource) (Err RootDiffers) p q h k = clash _ q.declared p
-answers_agree query roots (Err NoSource) (Err Unbound) p q h k = clash _ q.declared p
-answers_agree query roots (Err RootDiffers) (Ok m) p q h k = clash _ q.root p.root
-answers_agree query roots (Err RootDiffers) (Err NoSource) p q h k = clash _ p.declared q
-answers_agree query roots (Err RootDiffers) (Err RootDiffers) p q h k = refl
-answers_agree query roots (Err RootDiffers) (Err Unbound) p q h k = clash _ q.root p.root
-answers_agree query roots (Err Unbound) (Ok m) p q h k = clash _ q.bound p.bound
-answers_agree query roots (Err Unbound) (Err NoSource) p q h k = clash _ p.declared q
-answers_agree query roots (Err Unbound) (Err RootDiffers) p q h k = clash _ p.root q.root
-answers_agree query roots (Err Unbound) (Err Unbound) p q h k = refl
+answers_agree relations query roots (Err OutOfMemory) b p q h k = absurd (h refl)
+answers_agree relations query roots (Ok n) (Err OutOfMemory) p q h k = absurd (k refl)
+answers_agree relations query roots (Err NoSource) (Err OutOfMemory) p q h k = absurd (k refl)
+answers_agree relations query roots (Err RootDiffers) (Err OutOfMemory) p q h k = absurd (k refl)
+answers_agree relations query roots (Err Unbound) (Err OutOfMemory) p q h k = absurd (k refl)
+answers_agree relations query roots (Ok n) (Ok m) p q h k = ap Ok (p.answer ∙ sym q.answer)
+answers_agree relations query roots (Ok n) (Err NoSource) p q h k = clash _ p.declared q
+answers_agree relations query roots (Ok n) (Err RootDiffers) p q h k = clash _ p.root q.root
+answers_agree relations query roots (Ok n) (Err Unbound) p q h k = clash _ (λ i. p.bound i && p.served i) q.bound
+answers_agree relations query roots (Err NoSource) (Ok m) p q h k = clash _ q.declared p
+answers_agree relations query roots (Err NoSource) (Err NoSource) p q h k = refl
+answers_agree relations query roots (Err NoSource) (Err RootDiffers) p q h k = clash _ q.declared p
+answers_agree relations query roots (Err NoSource) (Err Unbound) p q h k = clash _ q.declared p
+answers_agree relations query roots (Err RootDiffers) (Ok m) p q h k = clash _ q.root p.root
+answers_agree relations query roots (Err RootDiffers) (Err NoSource) p q h k = clash _ p.declared q
+answers_agree relations query roots (Err RootDiffers) (Err RootDiffers) p q h k = refl
+answers_agree relations query roots (Err RootDiffers) (Err Unbound) p q h k = clash _ q.root p.root
+answers_agree relations query roots (Err Unbound) (Ok m) p q h k = clash _ (λ i. q.bound i && q.served i) p.bound
+answers_agree relations query roots (Err Unbound) (Err NoSource) p q h k = clash _ p.declared q
+answers_agree relations query roots (Err Unbound) (Err RootDiffers) p q h k = clash _ p.root q.root
+answers_agree relations query roots (Err Unbound) (Err Unbound) p q h k = refl

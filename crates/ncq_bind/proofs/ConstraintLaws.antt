@@ -1,7 +1,7 @@
 -- A row meets the constraints of a query exactly where it is a binding.
 use Rattle.std.proofs.Common.{◌≡◌, ℕ, suc, ◌+◌, ◌<◌, ◌≤◌, min, max, Bool, true, false, List, [], ◌∷◌, ◌++◌, length, refl, sym, ap, ◌∙◌, subst, arith, append_assoc, length-append, eqb-true}
 use Rattle.std.proofs.lemmas.Bool.{lt-ltb}
-use Rattle.ncq_plan.specs.Residuals.{test_is_within}
+use Rattle.ncq_plan.specs.Residuals.{check_is_within}
 use Rattle.std.specs.Prelude.{◌&&◌, ◌==◌, nat_lt, if◌then◌else◌, ℤ}
 use Rattle.std.specs.List.{list_all, flat_map}
 use Rattle.std.specs.declared.cmp.Ordering.{Ordering}
@@ -22,16 +22,17 @@ use Rattle.std.specs.List.{AllByRecursion}
 use Rattle.ncq_bind.proofs.ListLaws.{each-append}
 use Rattle.std.proofs.lemmas.List.Folds.{list_all-append}
 use Rattle.ncq_base.specs.Intervals.{in_interval}
-use Rattle.ncq_plan.specs.Residuals.{test_holds}
+use Rattle.ncq_plan.specs.Residuals.{check_holds}
+use Rattle.ncq_plan.specs.Relations.{Relations, relation_in, satisfies}
 use Rattle.ncq_xmlql.specs.declared.model.Operand.{Operand}
 use Rattle.ncq_xmlql.specs.declared.model.Operand.TheVariants.{Variable, Literal}
 use Rattle.ncq_xmlql.specs.declared.model.QueryItem.{QueryItem}
-use Rattle.ncq_xmlql.specs.declared.model.QueryItem.TheVariants.{Match, Condition}
+use Rattle.ncq_xmlql.specs.declared.model.QueryItem.TheVariants.{Match, Condition, Satisfies}
 use Rattle.ncq_xmlql.specs.WellFormed.{item_is_whole}
 use Rattle.ncq_bind.specs.declared.constraint.Constraint.{Constraint}
 use Rattle.ncq_bind.specs.declared.constraint.Constraint.TheVariants.{Equal, Bound, Alike, Other}
 use Rattle.ncq_bind.specs.Embeddings.{has_literals}
-use Rattle.ncq_bind.specs.Answers.{all_agree as values_agree, item_holds}
+use Rattle.ncq_bind.specs.Answers.{all_agree as values_agree, argument_atom, item_holds}
 use Rattle.ncq_bind.specs.Constraints.{first_slot, place_constraints, constraints_from, turned, constant_constraint, slots_constraints, item_constraints, constraints_of}
 use Rattle.ncq_bind.specs.Ranges.{one_sided}
 use Rattle.ncq_bind.specs.Bound.{is_bound, item_is_bound}
@@ -42,11 +43,11 @@ use Rattle.ncq_bind.proofs.AtomLaws.{same_itself, same_symmetric, turned_holds}
 use Rattle.ncq_bind.proofs.Slots.{bound_slot, slot_before}
 
 -- what a constraint asks of a row
-abbrev pub constraint_holds : List Value → Constraint → Bool
-constraint_holds row (Equal slot constant) = same_atom (atom_at row slot) constant
-constraint_holds row (Bound slot op number) = in_interval (one_sided op number) (atom_at row slot)
-constraint_holds row (Alike left right) = same_atom (atom_at row left) (atom_at row right)
-constraint_holds row (Other test) = test_holds row test
+abbrev pub constraint_holds : Relations → List Value → Constraint → Bool
+constraint_holds relations row (Equal slot constant) = same_atom (atom_at row slot) constant
+constraint_holds relations row (Bound slot op number) = in_interval (one_sided op number) (atom_at row slot)
+constraint_holds relations row (Alike left right) = same_atom (atom_at row left) (atom_at row right)
+constraint_holds relations row (Other check) = check_holds relations row check
 
 -- ---- atoms
 
@@ -94,10 +95,10 @@ in_order row a c Greater h =
 
 -- ---- places
 
-module _ (row : List Value) (first : List ℕ → ℕ) (value : List ℕ → Value) (ties : (x : List ℕ) → value_at row (first x) ≡ value x) where
+module _ (relations : Relations) (row : List Value) (first : List ℕ → ℕ) (value : List ℕ → Value) (ties : (x : List ℕ) → value_at row (first x) ≡ value x) where
   occurrence : (b : Bool) (x : List ℕ) (slot : ℕ) (v : Value) (more : List Constraint) (h g : Bool)
-      → (first x == slot) ≡ b → value_at row slot ≡ v → list_all (constraint_holds row) more ≡ (h && g)
-      → list_all (constraint_holds row) ((if b then [] else Alike (first x) slot ∷ []) ++ more) ≡ (h && (same_atom (value_atom (value x)) (value_atom v) && g))
+      → (first x == slot) ≡ b → value_at row slot ≡ v → list_all (constraint_holds relations row) more ≡ (h && g)
+      → list_all (constraint_holds relations row) ((if b then [] else Alike (first x) slot ∷ []) ++ more) ≡ (h && (same_atom (value_atom (value x)) (value_atom v) && g))
   occurrence true x slot v more h g t e m =
       let one : value x ≡ v = sym (ties x) ∙ ap (value_at row) (eqb-true (first x) slot t) ∙ e in
       m ∙ ap (λ s. h && (s && g)) (sym (ap (λ w. same_atom (value_atom w) (value_atom v)) one ∙ same_itself (value_atom v)))
@@ -105,7 +106,7 @@ module _ (row : List Value) (first : List ℕ → ℕ) (value : List ℕ → Val
       (λ i. same_atom (value_atom (ties x i)) (value_atom (e i)) && m i) ∙ and_front (same_atom (value_atom (value x)) (value_atom v)) h g
 
   pub places_hold : (slot : ℕ) (places : List Operand) (rest : List Value) → length rest ≡ length places → ((k : ℕ) → value_at row (slot + k) ≡ value_at rest k)
-      → list_all (constraint_holds row) (constraints_from first slot places) ≡ (has_literals places rest && values_agree value places rest)
+      → list_all (constraint_holds relations row) (constraints_from first slot places) ≡ (has_literals places rest && values_agree value places rest)
   places_hold slot [] rest e same = refl
   places_hold slot (o ∷ places) [] e same = absurd cc
   places_hold slot ((Literal text) ∷ places) (v ∷ rest) e same =
@@ -122,11 +123,11 @@ module _ (row : List Value) (first : List ℕ → ℕ) (value : List ℕ → Val
   -- ---- conditions
 
   alike_by : (b : Bool) (a c : ℕ) → (a == c) ≡ b
-      → list_all (constraint_holds row) (if b then [] else Alike (min a c) (max a c) ∷ []) ≡ same_atom (atom_at row a) (atom_at row c)
+      → list_all (constraint_holds relations row) (if b then [] else Alike (min a c) (max a c) ∷ []) ≡ same_atom (atom_at row a) (atom_at row c)
   alike_by true a c e = sym (ap (λ s. same_atom (atom_at row s) (atom_at row c)) (eqb-true a c e) ∙ same_itself (atom_at row c))
   alike_by false a c e = and-true (same_atom (atom_at row (min a c)) (atom_at row (max a c))) ∙ in_order row a c (nat_cmp a c) (ranked a c (nat_cmp a c) refl)
 
-  slots_hold : (op : Op) (a c : ℕ) → list_all (constraint_holds row) (slots_constraints op a c) ≡ holds_of op (atom_at row a) (atom_at row c)
+  slots_hold : (op : Op) (a c : ℕ) → list_all (constraint_holds relations row) (slots_constraints op a c) ≡ holds_of op (atom_at row a) (atom_at row c)
   slots_hold Eq a c = alike_by (a == c) a c refl
   slots_hold Ne a c = and-true (holds_of Ne (atom_at row a) (atom_at row c))
   slots_hold Lt a c = and-true (holds_of Lt (atom_at row a) (atom_at row c))
@@ -134,7 +135,7 @@ module _ (row : List Value) (first : List ℕ → ℕ) (value : List ℕ → Val
   slots_hold Gt a c = and-true (holds_of Gt (atom_at row a) (atom_at row c))
   slots_hold Ge a c = and-true (holds_of Ge (atom_at row a) (atom_at row c))
 
-  constant_holds : (op : Op) (slot : ℕ) (constant : Atom) → constraint_holds row (constant_constraint op slot constant) ≡ holds_of op (atom_at row slot) constant
+  constant_holds : (op : Op) (slot : ℕ) (constant : Atom) → constraint_holds relations row (constant_constraint op slot constant) ≡ holds_of op (atom_at row slot) constant
   constant_holds Eq slot constant = refl
   constant_holds Ne slot constant = refl
   constant_holds Lt slot (Num n) = lt_bound (atom_at row slot) n
@@ -146,25 +147,28 @@ module _ (row : List Value) (first : List ℕ → ℕ) (value : List ℕ → Val
   constant_holds Ge slot (Num n) = ge_bound (atom_at row slot) n
   constant_holds Ge slot (Text t) = refl
 
-  item_holds_by : (item : QueryItem) → item_is_whole item ≡ true → list_all (constraint_holds row) (item_constraints first item) ≡ item_holds value item
+  item_holds_by : (item : QueryItem) → item_is_whole item ≡ true → list_all (constraint_holds relations row) (item_constraints first item) ≡ item_holds relations value item
   item_holds_by (Match root arms source) e = refl
   item_holds_by (Condition (Variable x) op (Variable y)) e =
       slots_hold op (first x) (first y) ∙ (λ i. holds_of op (value_atom (ties x i)) (value_atom (ties y i)))
   item_holds_by (Condition (Variable x) op (Literal text)) e =
-      and-true (constraint_holds row (constant_constraint op (first x) (atom_of text)))
+      and-true (constraint_holds relations row (constant_constraint op (first x) (atom_of text)))
       ∙ constant_holds op (first x) (atom_of text) ∙ ap (λ v. holds_of op (value_atom v) (atom_of text)) (ties x)
   item_holds_by (Condition (Literal text) op (Variable x)) e =
-      and-true (constraint_holds row (constant_constraint (turned op) (first x) (atom_of text)))
+      and-true (constraint_holds relations row (constant_constraint (turned op) (first x) (atom_of text)))
       ∙ constant_holds (turned op) (first x) (atom_of text) ∙ turned_holds op (atom_of text) (atom_at row (first x))
       ∙ ap (λ v. holds_of op (atom_of text) (value_atom v)) (ties x)
   item_holds_by (Condition (Literal s) op (Literal t)) e = absurd cc
+  item_holds_by (Satisfies variable predicate argument) e =
+      and-true (satisfies (relation_in predicate relations) (atom_at row (first variable)) (argument_atom argument))
+      ∙ ap (λ v. satisfies (relation_in predicate relations) (value_atom v) (argument_atom argument)) (ties variable)
 
   pub items_hold : (items : List QueryItem) → list_all item_is_whole items ≡ true
-      → list_all (constraint_holds row) (flat_map (item_constraints first) items) ≡ list_all (item_holds value) items
+      → list_all (constraint_holds relations row) (flat_map (item_constraints first) items) ≡ list_all (item_holds relations value) items
   items_hold [] e = refl
   items_hold (item ∷ items) e =
       let both = both_true (item_is_whole item) (list_all item_is_whole items) e in
-      list_all-append (constraint_holds row) (item_constraints first item) (flat_map (item_constraints first) items)
+      list_all-append (constraint_holds relations row) (item_constraints first item) (flat_map (item_constraints first) items)
       ∙ (λ i. item_holds_by item both.0 i && items_hold items both.1 i)
 
 -- ---- slots within the row
@@ -174,7 +178,7 @@ abbrev pub InRange : ℕ → Constraint → Type 0
 InRange total (Equal slot constant) = slot < total
 InRange total (Bound slot op number) = slot < total
 InRange total (Alike left right) = (left ≤ right) × (right < total)
-InRange total (Other test) = test_is_within total test ≡ true
+InRange total (Other check) = check_is_within total check ≡ true
 
 occurrence_in : (b : Bool) (total f slot : ℕ) → f ≤ slot → slot < total → AllByRecursion (InRange total) (if b then [] else Alike f slot ∷ [])
 occurrence_in true total f slot h k = tt
@@ -236,6 +240,7 @@ item_in places (Condition (Variable x) op (Literal text)) e =
     (constant_in op (length places) (first_slot places x) (atom_of text) (bound_slot places x both.0), tt)
 item_in places (Condition (Literal text) op (Variable x)) e = (constant_in (turned op) (length places) (first_slot places x) (atom_of text) (bound_slot places x e), tt)
 item_in places (Condition (Literal s) op (Literal t)) e = tt
+item_in places (Satisfies variable predicate argument) e = (lt-ltb (first_slot places variable) (length places) (bound_slot places variable e), tt)
 
 items_in : (places : List Operand) (items : List QueryItem) → list_all (item_is_bound places) items ≡ true
     → AllByRecursion (InRange (length places)) (flat_map (item_constraints (first_slot places)) items)

@@ -15,9 +15,9 @@ use Rattle.std.proofs.lemmas.List.Folds.{list_all-append}
 use Rattle.ncq_bind.proofs.ListLaws.{all-flat_map}
 use Rattle.ncq_plan.specs.declared.query.EqualTo.{EqualTo}
 use Rattle.ncq_plan.specs.declared.query.Within.{Within}
-use Rattle.ncq_plan.specs.declared.residual.Test.{Test}
+use Rattle.ncq_plan.specs.declared.residual.Check.{Check}
 use Rattle.ncq_plan.specs.WellFormed.{arms_width, equals_in, ranges_in, ArmFits, ArmsFit}
-use Rattle.ncq_plan.specs.Residuals.{test_is_within}
+use Rattle.ncq_plan.specs.Residuals.{check_is_within}
 use Rattle.ncq_plan.specs.Templates.{attribute_is_within, text_is_within, template_is_within}
 use Rattle.ncq_plan.specs.WellFormed as formed
 use Rattle.ncq_plan.proofs.TemplateLaws.{slot_within, text_within, element_within}
@@ -41,7 +41,7 @@ use Rattle.ncq_xmlql.proofs.Slots.{slots_of_pattern, slots_of_value, slots_of_pa
 use Rattle.ncq_xmlql.specs.declared.model.Operand.{Operand}
 use Rattle.ncq_xmlql.specs.declared.model.Operand.TheVariants.{Variable, Literal}
 use Rattle.ncq_xmlql.specs.declared.model.QueryItem.{QueryItem}
-use Rattle.ncq_xmlql.specs.declared.model.QueryItem.TheVariants.{Match, Condition}
+use Rattle.ncq_xmlql.specs.declared.model.QueryItem.TheVariants.{Match, Condition, Satisfies}
 use Rattle.ncq_bind.specs.declared.open_arm.OpenArm.{OpenArm}
 use Rattle.ncq_bind.specs.declared.constraint.Constraint.{Constraint}
 use Rattle.ncq_bind.specs.declared.constraint.Constraint.TheVariants.{Equal, Bound, Alike, Other}
@@ -51,7 +51,7 @@ use Rattle.ncq_bind.specs.Constraints.{first_slot, place_constraints, constraint
 use Rattle.ncq_bind.specs.Sorted.{sorted_onto, equal_order, pair_order}
 use Rattle.ncq_bind.specs.Ranges.{ranges_onto, one_sided}
 use Rattle.ncq_bind.specs.NormalArms.{in_arm, equal_in, range_in, pair_in, open_arms, normal_arm}
-use Rattle.ncq_bind.specs.NormalQueries.{in_one_arm, inner_test, other_test, residual_of, slot_text_of, slot_attribute_of, slot_template, normal_query}
+use Rattle.ncq_bind.specs.NormalQueries.{in_one_arm, inner_check, other_check, residual_of, slot_text_of, slot_attribute_of, slot_template, normal_query}
 use Rattle.std.proofs.Math.Bool.{and-true}
 use Rattle.ncq_bind.proofs.Bools.{and_itself, all_of_if}
 use Rattle.ncq_base.proofs.Tests.{both_true}
@@ -167,30 +167,30 @@ arms_fit constraints offset (arm ∷ arms) = (first, subst (λ n. ArmsFit (offse
 
 -- ---- the residual
 
-inner_bound : (total : ℕ) (arms : List OpenArm) (c : Constraint) → InRange total c → list_all (test_is_within total) (inner_test arms c) ≡ true
+inner_bound : (total : ℕ) (arms : List OpenArm) (c : Constraint) → InRange total c → list_all (check_is_within total) (inner_check arms c) ≡ true
 inner_bound total arms (Alike left right) h =
-    all_of_if (test_is_within total) (in_one_arm arms left right) _ true
+    all_of_if (check_is_within total) (in_one_arm arms left right) _ true
     (λ e. let l : left < total = omega arith in λ i. lt-ltb left total l i && lt-ltb right total h.1 i) ∙ implied (in_one_arm arms left right)
 inner_bound total arms (Equal slot constant) h = refl
 inner_bound total arms (Bound slot op number) h = refl
 inner_bound total arms (Other test) h = refl
 
-other_bound : (total : ℕ) (c : Constraint) → InRange total c → list_all (test_is_within total) (other_test c) ≡ true
-other_bound total (Other test) h = and-true (test_is_within total test) ∙ h
+other_bound : (total : ℕ) (c : Constraint) → InRange total c → list_all (check_is_within total) (other_check c) ≡ true
+other_bound total (Other check) h = and-true (check_is_within total check) ∙ h
 other_bound total (Equal slot constant) h = refl
 other_bound total (Bound slot op number) h = refl
 other_bound total (Alike left right) h = refl
 
-all_of_each : (total : ℕ) (f : Constraint → List Test) → ((c : Constraint) → InRange total c → list_all (test_is_within total) (f c) ≡ true)
-    → (constraints : List Constraint) → AllByRecursion (InRange total) constraints → list_all (test_is_within total) (flat_map f constraints) ≡ true
+all_of_each : (total : ℕ) (f : Constraint → List Check) → ((c : Constraint) → InRange total c → list_all (check_is_within total) (f c) ≡ true)
+    → (constraints : List Constraint) → AllByRecursion (InRange total) constraints → list_all (check_is_within total) (flat_map f constraints) ≡ true
 all_of_each total f h [] e = refl
 all_of_each total f h (c ∷ constraints) e =
-    list_all-append (test_is_within total) (f c) (flat_map f constraints) ∙ (λ i. h c e.0 i && all_of_each total f h constraints e.1 i)
+    list_all-append (check_is_within total) (f c) (flat_map f constraints) ∙ (λ i. h c e.0 i && all_of_each total f h constraints e.1 i)
 
-pub residual_bound : (total : ℕ) (arms : List OpenArm) (constraints : List Constraint) → AllByRecursion (InRange total) constraints → list_all (test_is_within total) (residual_of arms constraints) ≡ true
+pub residual_bound : (total : ℕ) (arms : List OpenArm) (constraints : List Constraint) → AllByRecursion (InRange total) constraints → list_all (check_is_within total) (residual_of arms constraints) ≡ true
 residual_bound total arms constraints e =
-    list_all-append (test_is_within total) (flat_map (inner_test arms) constraints) (flat_map other_test constraints)
-    ∙ (λ i. all_of_each total (inner_test arms) (inner_bound total arms) constraints e i && all_of_each total other_test (other_bound total) constraints e i)
+    list_all-append (check_is_within total) (flat_map (inner_check arms) constraints) (flat_map other_check constraints)
+    ∙ (λ i. all_of_each total (inner_check arms) (inner_bound total arms) constraints e i && all_of_each total other_check (other_bound total) constraints e i)
 
 -- ---- counts
 
@@ -376,6 +376,7 @@ item_count first (Condition (Variable x) op (Variable y)) = slots_count op (firs
 item_count first (Condition (Variable x) op (Literal text)) = omega arith
 item_count first (Condition (Literal text) op (Variable x)) = omega arith
 item_count first (Condition (Literal s) op (Literal t)) = omega arith
+item_count first (Satisfies variable predicate argument) = omega arith
 
 items_count : (first : List ℕ → ℕ) (items : List QueryItem) → length (flat_map (item_constraints first) items) ≤ conditions items
 items_count first [] = omega arith
@@ -392,6 +393,7 @@ items_count first (item ∷ items) =
 item_arms_count : (item : QueryItem) → length (item_arms item) ≡ counted.item_arms item
 item_arms_count (Match root patterns source) = length-map patterns (λ (p : Pattern). record { pattern = p; source = source })
 item_arms_count (Condition left op right) = refl
+item_arms_count (Satisfies variable predicate argument) = refl
 
 arms_count : (items : List QueryItem) → length (arms_of items) ≡ counted.arms items
 arms_count [] = refl
@@ -446,6 +448,7 @@ patterns_count source (p ∷ patterns) =
 item_slots_count : (item : QueryItem) → length (places_of (item_arms item)) ≡ item_slots item
 item_slots_count (Match root patterns source) = patterns_count source patterns
 item_slots_count (Condition left op right) = refl
+item_slots_count (Satisfies variable predicate argument) = refl
 
 slots_count_is : (items : List QueryItem) → length (places_of (arms_of items)) ≡ slots items
 slots_count_is [] = refl
@@ -462,6 +465,7 @@ some_arm : (items : List QueryItem) → begins_with_match items ≡ true → lis
 some_arm [] b e = absurd cc
 some_arm ((Match root patterns source) ∷ items) b e = arm_of_match patterns source (arms_of items) (both_true (has_arm patterns) (list_all item_is_whole items) e).0
 some_arm ((Condition left op right) ∷ items) b e = absurd cc
+some_arm ((Satisfies variable predicate argument) ∷ items) b e = absurd cc
 
 -- ---- the template
 
@@ -535,6 +539,6 @@ query_formed query begins whole within paths bound template =
       ranges = omega arith;
       arms = arms_fit cs 0 (arms_of items);
       paths = arms_are_formed cs items ∙ paths;
-      residual = ap (λ n. list_all (test_is_within n) (residual_of (open_arms 0 (arms_of items)) cs)) same ∙ residual_bound (length ps) (open_arms 0 (arms_of items)) cs (constraints_in ps items bound);
+      residual = ap (λ n. list_all (check_is_within n) (residual_of (open_arms 0 (arms_of items)) cs)) same ∙ residual_bound (length ps) (open_arms 0 (arms_of items)) cs (constraints_in ps items bound);
       template = ap (λ n. template_is_within n (slot_template (first_slot ps) query.template)) same ∙ template_bound ps query.template template;
     }

@@ -13,6 +13,7 @@ use Rattle.ncq_plan.proofs.Lists.{filter-filter}
 use Rattle.std.proofs.lemmas.List.Folds.{list_all-append}
 use Rattle.ncq_plan.specs.Templates.{constructed}
 use Rattle.ncq_plan.specs.Exprs.{World}
+use Rattle.ncq_plan.specs.Relations.{Relations}
 use Rattle.ncq_plan.specs.Products.{arm_rows, meets, prod}
 use Rattle.ncq_tree.specs.declared.model.Element.{Element}
 use Rattle.ncq_xmlql.specs.declared.model.Pattern.{Pattern}
@@ -60,22 +61,22 @@ rows_stay world constraints offset (arm ∷ arms) = ap (λ v. shape_rows world a
 
 -- ---- one row
 
-module _ (query : Query) (whole : list_all item_is_whole query.items ≡ true) (bound : list_all (item_is_bound (places_of (arms_of query.items))) query.items ≡ true) where
+module _ (relations : Relations) (query : Query) (whole : list_all item_is_whole query.items ≡ true) (bound : list_all (item_is_bound (places_of (arms_of query.items))) query.items ≡ true) where
   -- the constraints hold of a row that has the literals and is a binding, and of no other
   constraints_are : (row : List Value) → HasWidth (places_of (arms_of query.items)) row
-      → list_all (constraint_holds row) (constraints_of (places_of (arms_of query.items)) query.items)
-      ≡ (has_literals (places_of (arms_of query.items)) row && is_binding query.items (places_of (arms_of query.items)) row)
+      → list_all (constraint_holds relations row) (constraints_of (places_of (arms_of query.items)) query.items)
+      ≡ (has_literals (places_of (arms_of query.items)) row && is_binding relations query.items (places_of (arms_of query.items)) row)
   constraints_are row wide =
       let ps = places_of (arms_of query.items) in
-      list_all-append (constraint_holds row) (constraints_from (first_slot ps) 0 ps) (flat_map (item_constraints (first_slot ps)) query.items)
-      ∙ (λ i. places_hold row (first_slot ps) (first_value ps row) (λ x. first_is ps row x wide) 0 ps row wide (λ k. ap (value_at row) (zero-add k)) i
-      && items_hold row (first_slot ps) (first_value ps row) (λ x. first_is ps row x wide) query.items whole i)
-      ∙ and_assoc (has_literals ps row) (values_agree (first_value ps row) ps row) (list_all (item_holds (first_value ps row)) query.items)
+      list_all-append (constraint_holds relations row) (constraints_from (first_slot ps) 0 ps) (flat_map (item_constraints (first_slot ps)) query.items)
+      ∙ (λ i. places_hold relations row (first_slot ps) (first_value ps row) (λ x. first_is ps row x wide) 0 ps row wide (λ k. ap (value_at row) (zero-add k)) i
+      && items_hold relations row (first_slot ps) (first_value ps row) (λ x. first_is ps row x wide) query.items whole i)
+      ∙ and_assoc (has_literals ps row) (values_agree (first_value ps row) ps row) (list_all (item_holds relations (first_value ps row)) query.items)
 
   row_meets : (row : List Value) → HasWidth (places_of (arms_of query.items)) row
-      → meets (normal_query query) row ≡ (has_literals (places_of (arms_of query.items)) row && is_binding query.items (places_of (arms_of query.items)) row)
+      → meets relations (normal_query query) row ≡ (has_literals (places_of (arms_of query.items)) row && is_binding relations query.items (places_of (arms_of query.items)) row)
   row_meets row wide =
-      shared row (arms_of query.items) (constraints_of (places_of (arms_of query.items)) query.items) (constraints_in (places_of (arms_of query.items)) query.items bound)
+      shared relations row (arms_of query.items) (constraints_of (places_of (arms_of query.items)) query.items) (constraints_in (places_of (arms_of query.items)) query.items bound)
       ∙ constraints_are row wide
 
   forest_is : (row : List Value) → HasWidth (places_of (arms_of query.items)) row
@@ -86,21 +87,21 @@ module _ (query : Query) (whole : list_all item_is_whole query.items ≡ true) (
 
   -- ---- all rows
 
-  pub forests_are : ArmLaw → (world : World) → map (constructed (normal_query query).template) (prod (normal_query query) world) ≡ all query world
+  pub forests_are : ArmLaw → (world : World) → map (constructed (normal_query query).template) (prod relations (normal_query query) world) ≡ all relations query world
   forests_are arm_law world =
       let arms = arms_of query.items in
       let ps = places_of arms in
       let split = choices_split arm_law world arms in
       let rows = one_of_each (map (shape_rows world) arms) in
-      ap (λ v. map (constructed (normal_query query).template) (filter (meets (normal_query query)) (one_of_each v))) (rows_stay world (constraints_of ps query.items) 0 arms)
+      ap (λ v. map (constructed (normal_query query).template) (filter (meets relations (normal_query query)) (one_of_each v))) (rows_stay world (constraints_of ps query.items) 0 arms)
       ∙ ap (map (constructed (normal_query query).template))
-      (filters_agree (meets (normal_query query)) (λ row. has_literals ps row && is_binding query.items ps row) rows
-      (each_implied (HasWidth ps) (λ row. meets (normal_query query) row ≡ (has_literals ps row && is_binding query.items ps row)) row_meets rows split.wide)
-      ∙ sym (filter-filter (has_literals ps) (is_binding query.items ps) rows)
-      ∙ ap (filter (is_binding query.items ps)) (sym split.kept))
-      ∙ map_agrees (constructed (normal_query query).template) (made_forest query.template ps) (filter (is_binding query.items ps) (choices world arms))
-      (each_implied (HasWidth ps) (λ row. constructed (normal_query query).template row ≡ made_forest query.template ps row) forest_is (filter (is_binding query.items ps) (choices world arms))
-      (each-filter (HasWidth ps) (is_binding query.items ps) (choices world arms) (choices_wide split)))
+      (filters_agree (meets relations (normal_query query)) (λ row. has_literals ps row && is_binding relations query.items ps row) rows
+      (each_implied (HasWidth ps) (λ row. meets relations (normal_query query) row ≡ (has_literals ps row && is_binding relations query.items ps row)) row_meets rows split.wide)
+      ∙ sym (filter-filter (has_literals ps) (is_binding relations query.items ps) rows)
+      ∙ ap (filter (is_binding relations query.items ps)) (sym split.kept))
+      ∙ map_agrees (constructed (normal_query query).template) (made_forest query.template ps) (filter (is_binding relations query.items ps) (choices world arms))
+      (each_implied (HasWidth ps) (λ row. constructed (normal_query query).template row ≡ made_forest query.template ps row) forest_is (filter (is_binding relations query.items ps) (choices world arms))
+      (each-filter (HasWidth ps) (is_binding relations query.items ps) (choices world arms) (choices_wide split)))
     where
       choices_wide : Splits (places_of (arms_of query.items)) (choices world (arms_of query.items)) (one_of_each (map (shape_rows world) (arms_of query.items)))
           → AllByRecursion (HasWidth (places_of (arms_of query.items))) (choices world (arms_of query.items))

@@ -17,7 +17,7 @@ use Rattle.ncq_xmlql.specs.declared.model.Content.TheVariants.{Parts, Value}
 use Rattle.ncq_xmlql.specs.declared.model.Pattern.{Pattern}
 use Rattle.ncq_xmlql.specs.declared.model.Suffix.{Suffix}
 use Rattle.ncq_xmlql.specs.declared.model.QueryItem.{QueryItem}
-use Rattle.ncq_xmlql.specs.declared.model.QueryItem.TheVariants.{Match, Condition}
+use Rattle.ncq_xmlql.specs.declared.model.QueryItem.TheVariants.{Match, Condition, Satisfies}
 use Rattle.ncq_xmlql.specs.PatternPaths.{pattern_paths, content_paths, item_paths, all_paths}
 use Rattle.ncq_xmlql.proofs.PatternPathLaws.{paths_of_pattern, paths_of_value, paths_of_parts}
 use Rattle.ncq_bind.specs.declared.constraint.Constraint.{Constraint}
@@ -71,6 +71,7 @@ each_arm constraints offset (arm ∷ arms) = λ i. shape_is_formed_where arm.pat
 each_of_item : (item : QueryItem) → list_all arm_paths (item_arms item) ≡ item_paths is_formed item
 each_of_item (Match root patterns source) = list_all-map arm_paths (arm_of source) patterns
 each_of_item (Condition left op right) = refl
+each_of_item (Satisfies variable predicate argument) = refl
 
 each_of_items : (items : List QueryItem) → list_all (λ item. list_all arm_paths (item_arms item)) items ≡ all_paths is_formed items
 each_of_items [] = refl

@@ -12,7 +12,9 @@ use Rattle.ncq_bind.proofs.ListLaws.{each_of_all, all_agree, all-flat_map}
 use Rattle.std.proofs.lemmas.List.Folds.{list_all-append}
 use Rattle.ncq_plan.specs.declared.residual.Side.TheVariants.{Slot}
 use Rattle.ncq_base.specs.Intervals.{in_interval}
-use Rattle.ncq_plan.specs.Residuals.{test_holds, passes}
+use Rattle.ncq_plan.specs.Residuals.{check_holds, passes}
+use Rattle.ncq_plan.specs.Relations.{Relations}
+use Rattle.ncq_plan.specs.declared.residual.Check.TheVariants.{Compare}
 use Rattle.ncq_plan.specs.Products.{equal_holds, range_holds, pair_holds, arm_holds, arms_hold}
 use Rattle.ncq_base.specs.declared.atom.Op.TheVariants.{Eq}
 use Rattle.ncq_bind.specs.declared.open_arm.OpenArm.{OpenArm}
@@ -22,7 +24,7 @@ use Rattle.ncq_bind.specs.Places.{places, shape_of}
 use Rattle.ncq_bind.specs.Answers.{QueryArm, places_of}
 use Rattle.ncq_bind.specs.NormalArms.{in_arm, equal_in, range_in, pair_in, open_arms, normal_arm}
 use Rattle.ncq_bind.specs.Ranges.{one_sided}
-use Rattle.ncq_bind.specs.NormalQueries.{in_one_arm, inner_test, other_test, residual_of}
+use Rattle.ncq_bind.specs.NormalQueries.{in_one_arm, inner_check, other_check, residual_of}
 use Rattle.std.proofs.Math.Bool.{and-true, and_assoc}
 use Rattle.ncq_base.proofs.Tests.{both_true}
 use Rattle.ncq_bind.proofs.Bools.{asked_by_either, all_of_if, all_split}
@@ -61,10 +63,10 @@ behind offset width slot e = let h : offset ≤ slot = grind (arith, nat_tests) 
 behind_pair : (offset width left right : ℕ) → (nat_lt left offset && in_arm offset width right) ≡ true → offset + (right - offset) ≡ right
 behind_pair offset width left right e = behind offset width right (both_true (nat_lt left offset) (in_arm offset width right) e).1
 
-module _ (row : List Value) where
+module _ (relations : Relations) (row : List Value) where
   one_holds : (offset width : ℕ) (c : Constraint)
       → (list_all (equal_holds offset row) (equal_in offset width c) && (list_all (range_holds offset row) (range_in offset width c) && list_all (pair_holds offset row) (pair_in offset width c)))
-      ≡ (not (takes offset width c) || constraint_holds row c)
+      ≡ (not (takes offset width c) || constraint_holds relations row c)
   one_holds offset width (Equal slot constant) =
       and-true (list_all (equal_holds offset row) (equal_in offset width (Equal slot constant)))
       ∙ all_of_if (equal_holds offset row) (in_arm offset width slot) (record { slot = slot - offset; constant = constant }) (same_atom (atom_at row slot) constant)
@@ -79,7 +81,7 @@ module _ (row : List Value) where
   one_holds offset width (Other test) = refl
 
   arm_is : (constraints : List Constraint) (arm : OpenArm)
-      → arm_holds arm.offset row (normal_arm constraints arm) ≡ list_all (λ c. not (takes arm.offset arm.width c) || constraint_holds row c) constraints
+      → arm_holds arm.offset row (normal_arm constraints arm) ≡ list_all (λ c. not (takes arm.offset arm.width c) || constraint_holds relations row c) constraints
   arm_is constraints arm =
       let offset = arm.offset in
       let w = arm.width in
@@ -91,26 +93,26 @@ module _ (row : List Value) where
       ∙ ap (λ v. list_all (λ c. list_all (equal_holds offset row) (equal_in offset w c)) constraints && v)
       (all_split (λ c. list_all (range_holds offset row) (range_in offset w c)) (λ c. list_all (pair_holds offset row) (pair_in offset w c)) constraints))
       ∙ all_agree (λ c. list_all (equal_holds offset row) (equal_in offset w c) && (list_all (range_holds offset row) (range_in offset w c) && list_all (pair_holds offset row) (pair_in offset w c)))
-      (λ c. not (takes offset w c) || constraint_holds row c) constraints
+      (λ c. not (takes offset w c) || constraint_holds relations row c) constraints
       (each_of_all (λ c. (list_all (equal_holds offset row) (equal_in offset w c) && (list_all (range_holds offset row) (range_in offset w c) && list_all (pair_holds offset row) (pair_in offset w c)))
-      ≡ (not (takes offset w c) || constraint_holds row c)) (one_holds offset w) constraints)
+      ≡ (not (takes offset w c) || constraint_holds relations row c)) (one_holds offset w) constraints)
 
   -- constraints that are asked for on two grounds
   either : (constraints : List Constraint) (s t : Constraint → Bool)
-      → (list_all (λ c. not (s c) || constraint_holds row c) constraints && list_all (λ c. not (t c) || constraint_holds row c) constraints)
-      ≡ list_all (λ c. not (s c || t c) || constraint_holds row c) constraints
+      → (list_all (λ c. not (s c) || constraint_holds relations row c) constraints && list_all (λ c. not (t c) || constraint_holds relations row c) constraints)
+      ≡ list_all (λ c. not (s c || t c) || constraint_holds relations row c) constraints
   either constraints s t =
-      sym (all_split (λ c. not (s c) || constraint_holds row c) (λ c. not (t c) || constraint_holds row c) constraints)
-      ∙ all_agree (λ c. (not (s c) || constraint_holds row c) && (not (t c) || constraint_holds row c)) (λ c. not (s c || t c) || constraint_holds row c) constraints
-      (each_of_all (λ c. ((not (s c) || constraint_holds row c) && (not (t c) || constraint_holds row c)) ≡ (not (s c || t c) || constraint_holds row c))
-      (λ c. asked_by_either (s c) (t c) (constraint_holds row c)) constraints)
+      sym (all_split (λ c. not (s c) || constraint_holds relations row c) (λ c. not (t c) || constraint_holds relations row c) constraints)
+      ∙ all_agree (λ c. (not (s c) || constraint_holds relations row c) && (not (t c) || constraint_holds relations row c)) (λ c. not (s c || t c) || constraint_holds relations row c) constraints
+      (each_of_all (λ c. ((not (s c) || constraint_holds relations row c) && (not (t c) || constraint_holds relations row c)) ≡ (not (s c || t c) || constraint_holds relations row c))
+      (λ c. asked_by_either (s c) (t c) (constraint_holds relations row c)) constraints)
 
   all_true : (constraints : List Constraint) → true ≡ list_all (λ (c : Constraint). true) constraints
   all_true [] = refl
   all_true (c ∷ constraints) = all_true constraints
 
   arms_are : (constraints : List Constraint) (offset : ℕ) (arms : List QueryArm)
-      → arms_hold offset row (map (normal_arm constraints) (open_arms offset arms)) ≡ list_all (λ c. not (taken offset arms c) || constraint_holds row c) constraints
+      → arms_hold offset row (map (normal_arm constraints) (open_arms offset arms)) ≡ list_all (λ c. not (taken offset arms c) || constraint_holds relations row c) constraints
   arms_are constraints offset [] = all_true constraints
   arms_are constraints offset (arm ∷ arms) =
       let w = length (places arm.pattern) in
@@ -120,22 +122,22 @@ module _ (row : List Value) where
 
   -- ---- the residual
 
-  left_holds : (arms : List OpenArm) (c : Constraint) → (list_all (test_holds row) (inner_test arms c) && list_all (test_holds row) (other_test c)) ≡ (not (left_over arms c) || constraint_holds row c)
+  left_holds : (arms : List OpenArm) (c : Constraint) → (list_all (check_holds relations row) (inner_check arms c) && list_all (check_holds relations row) (other_check c)) ≡ (not (left_over arms c) || constraint_holds relations row c)
   left_holds arms (Equal slot constant) = refl
   left_holds arms (Bound slot op number) = refl
   left_holds arms (Alike left right) =
-      and-true (list_all (test_holds row) (inner_test arms (Alike left right)))
-      ∙ all_of_if (test_holds row) (in_one_arm arms left right) (record { op = Eq; left = left; right = Slot right }) (same_atom (atom_at row left) (atom_at row right)) (λ e. refl)
-  left_holds arms (Other test) = and-true (test_holds row test)
+      and-true (list_all (check_holds relations row) (inner_check arms (Alike left right)))
+      ∙ all_of_if (check_holds relations row) (in_one_arm arms left right) (Compare (record { op = Eq; left = left; right = Slot right })) (same_atom (atom_at row left) (atom_at row right)) (λ e. refl)
+  left_holds arms (Other check) = and-true (check_holds relations row check)
 
   residual_is : (arms : List OpenArm) (constraints : List Constraint)
-      → passes (residual_of arms constraints) row ≡ list_all (λ c. not (left_over arms c) || constraint_holds row c) constraints
+      → passes relations (residual_of arms constraints) row ≡ list_all (λ c. not (left_over arms c) || constraint_holds relations row c) constraints
   residual_is arms constraints =
-      list_all-append (test_holds row) (flat_map (inner_test arms) constraints) (flat_map other_test constraints)
-      ∙ (λ i. all-flat_map (test_holds row) (inner_test arms) constraints i && all-flat_map (test_holds row) other_test constraints i)
-      ∙ sym (all_split (λ c. list_all (test_holds row) (inner_test arms c)) (λ c. list_all (test_holds row) (other_test c)) constraints)
-      ∙ all_agree (λ c. list_all (test_holds row) (inner_test arms c) && list_all (test_holds row) (other_test c)) (λ c. not (left_over arms c) || constraint_holds row c) constraints
-      (each_of_all (λ c. (list_all (test_holds row) (inner_test arms c) && list_all (test_holds row) (other_test c)) ≡ (not (left_over arms c) || constraint_holds row c)) (left_holds arms) constraints)
+      list_all-append (check_holds relations row) (flat_map (inner_check arms) constraints) (flat_map other_check constraints)
+      ∙ (λ i. all-flat_map (check_holds relations row) (inner_check arms) constraints i && all-flat_map (check_holds relations row) other_check constraints i)
+      ∙ sym (all_split (λ c. list_all (check_holds relations row) (inner_check arms c)) (λ c. list_all (check_holds relations row) (other_check c)) constraints)
+      ∙ all_agree (λ c. list_all (check_holds relations row) (inner_check arms c) && list_all (check_holds relations row) (other_check c)) (λ c. not (left_over arms c) || constraint_holds relations row c) constraints
+      (each_of_all (λ c. (list_all (check_holds relations row) (inner_check arms c) && list_all (check_holds relations row) (other_check c)) ≡ (not (left_over arms c) || constraint_holds relations row c)) (left_holds arms) constraints)
 
 -- ---- nothing is lost
 
@@ -207,13 +209,13 @@ covered arms (Bound slot op number) h = left_true (taken 0 arms (Bound slot op n
 covered arms (Alike left right) h = alike_covered 0 left right arms h.0 (omega arith) (omega arith)
 covered arms (Other test) h = or_true (taken 0 arms (Other test))
 
-asked : (row : List Value) (arms : List QueryArm) (constraints : List Constraint) → AllByRecursion (InRange (length (places_of arms))) constraints
-    → list_all (λ c. not (taken 0 arms c || left_over (open_arms 0 arms) c) || constraint_holds row c) constraints ≡ list_all (constraint_holds row) constraints
-asked row arms [] e = refl
-asked row arms (c ∷ constraints) e = λ i. (not (covered arms c e.0 i) || constraint_holds row c) && asked row arms constraints e.1 i
+asked : (relations : Relations) (row : List Value) (arms : List QueryArm) (constraints : List Constraint) → AllByRecursion (InRange (length (places_of arms))) constraints
+    → list_all (λ c. not (taken 0 arms c || left_over (open_arms 0 arms) c) || constraint_holds relations row c) constraints ≡ list_all (constraint_holds relations row) constraints
+asked relations row arms [] e = refl
+asked relations row arms (c ∷ constraints) e = λ i. (not (covered arms c e.0 i) || constraint_holds relations row c) && asked relations row arms constraints e.1 i
 
 -- the arms and the residual ask what the constraints ask
-pub shared : (row : List Value) (arms : List QueryArm) (constraints : List Constraint) → AllByRecursion (InRange (length (places_of arms))) constraints
-    → (arms_hold 0 row (map (normal_arm constraints) (open_arms 0 arms)) && passes (residual_of (open_arms 0 arms) constraints) row) ≡ list_all (constraint_holds row) constraints
-shared row arms constraints e =
-    (λ i. arms_are row constraints 0 arms i && residual_is row (open_arms 0 arms) constraints i) ∙ either row constraints (taken 0 arms) (left_over (open_arms 0 arms)) ∙ asked row arms constraints e
+pub shared : (relations : Relations) (row : List Value) (arms : List QueryArm) (constraints : List Constraint) → AllByRecursion (InRange (length (places_of arms))) constraints
+    → (arms_hold 0 row (map (normal_arm constraints) (open_arms 0 arms)) && passes relations (residual_of (open_arms 0 arms) constraints) row) ≡ list_all (constraint_holds relations row) constraints
+shared relations row arms constraints e =
+    (λ i. arms_are relations row constraints 0 arms i && residual_is relations row (open_arms 0 arms) constraints i) ∙ either relations row constraints (taken 0 arms) (left_over (open_arms 0 arms)) ∙ asked relations row arms constraints e

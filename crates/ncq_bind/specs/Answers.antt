@@ -1,6 +1,7 @@
 -- The answer of a query over a world. It follows the query as it is written, over whole sources.
-use Rattle.std.specs.Prelude.{ℕ, Bool, true, ◌&&◌, if◌then◌else◌, List, [], ◌∷◌, map}
+use Rattle.std.specs.Prelude.{ℕ, Bool, true, ◌&&◌, if◌then◌else◌, List, [], ◌∷◌, map, Option}
 use Rattle.std.specs.List.{filter, flat_map, list_all}
+use Rattle.std.specs.Option.{unwrap_or}
 use Rattle.ncq_base.specs.declared.atom.Atom.{Atom}
 use Rattle.ncq_base.specs.Atoms.{atom_of, same_atom, holds_of}
 use Rattle.std.specs.Str.{bytes_eq}
@@ -16,11 +17,12 @@ use Rattle.ncq_row.specs.Values.{value_atom, value_text}
 use Rattle.ncq_row.specs.Embeddings.{Row, Rows, one_of_each}
 use Rattle.ncq_plan.specs.Templates.{value_nodes}
 use Rattle.ncq_plan.specs.Exprs.{World}
+use Rattle.ncq_plan.specs.Relations.{Relations, relation_in, satisfies}
 use Rattle.ncq_xmlql.specs.declared.model.Operand.{Operand}
 use Rattle.ncq_xmlql.specs.declared.model.Operand.TheVariants.{Variable, Literal}
 use Rattle.ncq_xmlql.specs.declared.model.Pattern.{Pattern}
 use Rattle.ncq_xmlql.specs.declared.model.QueryItem.{QueryItem}
-use Rattle.ncq_xmlql.specs.declared.model.QueryItem.TheVariants.{Match, Condition}
+use Rattle.ncq_xmlql.specs.declared.model.QueryItem.TheVariants.{Match, Condition, Satisfies}
 use Rattle.ncq_xmlql.specs.declared.model.Query.{Query}
 use Rattle.ncq_xmlql.specs.declared.model.TemplateAttribute.{TemplateAttribute}
 use Rattle.ncq_xmlql.specs.declared.model.Template.{Template}
@@ -46,6 +48,7 @@ arm_of source p = record { pattern = p; source = source }
 abbrev pub item_arms : QueryItem → List QueryArm
 item_arms (Match root patterns source) = map (arm_of source) patterns
 item_arms (Condition left op right) = []
+item_arms (Satisfies variable predicate argument) = []
 
 -- the arms of a query in reading order
 abbrev pub arms_of : List QueryItem → List QueryArm
@@ -88,17 +91,25 @@ abbrev pub operand_atom : (List ℕ → Value) → Operand → Atom
 operand_atom first (Variable x) = value_atom (first x)
 operand_atom first (Literal text) = atom_of text
 
--- of a condition, that it holds
-abbrev pub item_holds : (List ℕ → Value) → QueryItem → Bool
-item_holds first (Match root arms source) = true
-item_holds first (Condition left op right) =
+-- the atom of an argument: that of the empty text where there is none
+abbrev pub argument_atom : Option (List ℕ) → Atom
+argument_atom argument = atom_of (unwrap_or argument [])
+
+-- of a condition, that it holds; one that asks a predicate holds where the predicate has a relation,
+-- in which the variable's atom stands to the argument's
+abbrev pub item_holds : Relations → (List ℕ → Value) → QueryItem → Bool
+item_holds relations first (Match root arms source) = true
+item_holds relations first (Condition left op right) =
     holds_of op (operand_atom first left) (operand_atom first right)
+item_holds relations first (Satisfies variable predicate argument) =
+    satisfies (relation_in predicate relations) (value_atom (first variable))
+    (argument_atom argument)
 
 -- all occurrences of each variable have one atom, and every condition holds
-abbrev pub is_binding : List QueryItem → List Operand → Row → Bool
-is_binding items places row =
+abbrev pub is_binding : Relations → List QueryItem → List Operand → Row → Bool
+is_binding relations items places row =
     all_agree (first_value places row) places row
-    && list_all (item_holds (first_value places row)) items
+    && list_all (item_holds relations (first_value places row)) items
 
 -- the string value of a variable's first value, or the literal
 abbrev pub operand_text : (List ℕ → Value) → Operand → List ℕ
@@ -132,17 +143,18 @@ abbrev pub made_forest : Template → List Operand → Row → List Node
 made_forest template places row = normal (made_nodes (first_value places row) template)
 
 -- All that a query answers: the constructed forest of each choice that is a binding.
-abbrev pub all : Query → World → List (List Node)
-all query world =
+abbrev pub all : Relations → Query → World → List (List Node)
+all relations query world =
     let arms = arms_of query.items in
     map (made_forest query.template (places_of arms))
-    (filter (is_binding query.items (places_of arms)) (choices world arms))
+    (filter (is_binding relations query.items (places_of arms)) (choices world arms))
 
 -- two forests are one where their canonical lines are
 abbrev pub same_forest : List Node → List Node → Bool
 same_forest a b = bytes_eq (pyx a) (pyx b)
 
 -- The answer: all that the query answers, and with DISTINCT each forest of that once.
-abbrev pub answer : Query → World → List (List Node)
-answer query world =
-    if query.distinct then each_once_by same_forest (all query world) else all query world
+abbrev pub answer : Relations → Query → World → List (List Node)
+answer relations query world =
+    if query.distinct then each_once_by same_forest (all relations query world)
+    else all relations query world

@@ -5,7 +5,7 @@ use Rattle.std.specs.Str.{bytes_eq}
 use Rattle.ncq_xmlql.specs.declared.model.Operand.{Operand}
 use Rattle.ncq_xmlql.specs.declared.model.Operand.TheVariants.{Variable, Literal}
 use Rattle.ncq_xmlql.specs.declared.model.QueryItem.{QueryItem}
-use Rattle.ncq_xmlql.specs.declared.model.QueryItem.TheVariants.{Match, Condition}
+use Rattle.ncq_xmlql.specs.declared.model.QueryItem.TheVariants.{Match, Condition, Satisfies}
 use Rattle.ncq_xmlql.specs.declared.model.Query.{Query}
 use Rattle.ncq_xmlql.specs.declared.model.Template.{Template}
 use Rattle.ncq_xmlql.specs.declared.model.Template.TheOpen.{Template-F}
@@ -31,6 +31,7 @@ abbrev pub item_is_bound : List Operand → QueryItem → Bool
 item_is_bound places (Match root arms source) = true
 item_is_bound places (Condition left op right) =
     operand_is_bound places left && operand_is_bound places right
+item_is_bound places (Satisfies variable predicate argument) = is_bound places variable
 
 -- of a template whose content is given, each part with whether its variables have places
 abbrev pub template_bound_layer : List Operand → Template-F (Template × Bool) → Bool

@@ -8,10 +8,12 @@ use Rattle.ncq_base.specs.declared.atom.Op.TheVariants.{Eq, Ne, Lt, Le, Gt, Ge}
 use Rattle.ncq_base.specs.Atoms.{atom_of}
 use Rattle.std.specs.Str.{bytes_eq}
 use Rattle.ncq_plan.specs.declared.residual.Side.TheVariants.{Slot, Constant}
+use Rattle.ncq_plan.specs.declared.residual.Check.TheVariants.{Compare, Satisfies as Asked}
 use Rattle.ncq_xmlql.specs.declared.model.Operand.{Operand}
 use Rattle.ncq_xmlql.specs.declared.model.Operand.TheVariants.{Variable, Literal}
 use Rattle.ncq_xmlql.specs.declared.model.QueryItem.{QueryItem}
-use Rattle.ncq_xmlql.specs.declared.model.QueryItem.TheVariants.{Match, Condition}
+use Rattle.ncq_xmlql.specs.declared.model.QueryItem.TheVariants.{Match, Condition, Satisfies}
+use Rattle.ncq_bind.specs.Answers.{argument_atom}
 use Rattle.ncq_bind.specs.declared.constraint.Constraint.{Constraint}
 use Rattle.ncq_bind.specs.declared.constraint.Constraint.TheVariants.{Equal, Bound, Alike, Other}
 
@@ -46,13 +48,13 @@ turned Ge = Le
 abbrev pub order_constraint : Op → ℕ → Atom → Constraint
 order_constraint op slot (Num n) = Bound slot op n
 order_constraint op slot (Text text) =
-    Other (record { op = op; left = slot; right = Constant (Text text) })
+    Other (Compare (record { op = op; left = slot; right = Constant (Text text) }))
 
 -- a slot compared with a constant
 abbrev pub constant_constraint : Op → ℕ → Atom → Constraint
 constant_constraint Eq slot constant = Equal slot constant
 constant_constraint Ne slot constant =
-    Other (record { op = Ne; left = slot; right = Constant constant })
+    Other (Compare (record { op = Ne; left = slot; right = Constant constant }))
 constant_constraint Lt slot constant = order_constraint Lt slot constant
 constant_constraint Le slot constant = order_constraint Le slot constant
 constant_constraint Gt slot constant = order_constraint Gt slot constant
@@ -65,11 +67,11 @@ alike a b = if a == b then [] else Alike (min a b) (max a b) ∷ []
 -- two slots compared
 abbrev pub slots_constraints : Op → ℕ → ℕ → List Constraint
 slots_constraints Eq a b = alike a b
-slots_constraints Ne a b = Other (record { op = Ne; left = a; right = Slot b }) ∷ []
-slots_constraints Lt a b = Other (record { op = Lt; left = a; right = Slot b }) ∷ []
-slots_constraints Le a b = Other (record { op = Le; left = a; right = Slot b }) ∷ []
-slots_constraints Gt a b = Other (record { op = Gt; left = a; right = Slot b }) ∷ []
-slots_constraints Ge a b = Other (record { op = Ge; left = a; right = Slot b }) ∷ []
+slots_constraints Ne a b = Other (Compare (record { op = Ne; left = a; right = Slot b })) ∷ []
+slots_constraints Lt a b = Other (Compare (record { op = Lt; left = a; right = Slot b })) ∷ []
+slots_constraints Le a b = Other (Compare (record { op = Le; left = a; right = Slot b })) ∷ []
+slots_constraints Gt a b = Other (Compare (record { op = Gt; left = a; right = Slot b })) ∷ []
+slots_constraints Ge a b = Other (Compare (record { op = Ge; left = a; right = Slot b })) ∷ []
 
 -- a condition, by the first slots of its variables; one with a literal on the left is turned round
 abbrev pub condition_constraints : (List ℕ → ℕ) → Operand → Op → Operand → List Constraint
@@ -85,6 +87,8 @@ condition_constraints first (Literal s) op (Literal t) = []
 abbrev pub item_constraints : (List ℕ → ℕ) → QueryItem → List Constraint
 item_constraints first (Match root arms source) = []
 item_constraints first (Condition left op right) = condition_constraints first left op right
+item_constraints first (Satisfies variable predicate argument) =
+    Other (Asked (first variable) predicate (argument_atom argument)) ∷ []
 
 -- what the places ask, then what the conditions ask, each in reading order
 abbrev pub constraints_of : List Operand → List QueryItem → List Constraint

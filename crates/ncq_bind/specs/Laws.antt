@@ -10,6 +10,7 @@ use Rattle.ncq_plan.specs.declared.query.NormalQuery.{NormalQuery}
 use Rattle.ncq_plan.specs.Exprs.{World, rows_in}
 use Rattle.ncq_plan.specs.Plans.{plan_of}
 use Rattle.ncq_plan.specs.Products.{prod}
+use Rattle.ncq_plan.specs.Relations.{Relations}
 use Rattle.ncq_plan.specs.Residuals.{passes}
 use Rattle.ncq_plan.specs.Templates.{constructed}
 use Rattle.ncq_construct.specs.Proper.{WorldIsProper}
@@ -49,33 +50,35 @@ FormedLaw = (p : Pattern) → shape_is_formed (shape_of p) ≡ pattern_paths is_
 -- query's rows are all that the query answers.
 abbrev pub JoiningLaw : Type 0
 JoiningLaw =
-    (query : Query) (world : World) → list_all item_is_whole query.items ≡ true
+    (relations : Relations) (query : Query) (world : World)
+    → list_all item_is_whole query.items ≡ true
     → list_all (item_is_bound (places_of (arms_of query.items))) query.items ≡ true
-    → map (constructed (normal_query query).template) (prod (normal_query query) world)
-    ≡ all query world
+    → map (constructed (normal_query query).template) (prod relations (normal_query query) world)
+    ≡ all relations query world
 
 -- For every statement that binds and every world, the forests made of the rows of the plan that
 -- pass the residual are all that its query answers.
 abbrev pub PlanLaw : Type 0
 PlanLaw =
-    (statement : Statement) (roots : Roots) (normal : NormalQuery) → IsWellFormed statement
-    → Binds statement.query roots (Ok normal) → (world : World)
-    → map (constructed normal.template)
-    (filter (passes normal.residual) (rows_in (plan_of normal) world))
-    ≡ all statement.query world
+    (relations : Relations) (statement : Statement) (roots : Roots) (normal : NormalQuery)
+    → IsWellFormed statement → Binds relations statement.query roots (Ok normal)
+    → (world : World) → map (constructed normal.template)
+    (filter (passes relations normal.residual) (rows_in (plan_of normal) world))
+    ≡ all relations statement.query world
 
 -- For every statement that binds and every world of proper elements, each forest of all that its
 -- query answers is proper, and so is each of the answer.
 abbrev pub ProperLaw : Type 0
 ProperLaw =
-    (statement : Statement) (roots : Roots) (normal : NormalQuery) → IsWellFormed statement
-    → Binds statement.query roots (Ok normal) → (world : World) → WorldIsProper world
-    → (list_all is_proper (all statement.query world) ≡ true)
-    × (list_all is_proper (answer statement.query world) ≡ true)
+    (relations : Relations) (statement : Statement) (roots : Roots) (normal : NormalQuery)
+    → IsWellFormed statement → Binds relations statement.query roots (Ok normal)
+    → (world : World) → WorldIsProper world
+    → (list_all is_proper (all relations statement.query world) ≡ true)
+    × (list_all is_proper (answer relations statement.query world) ≡ true)
 
 -- No two answers of `bind` are right for one query, but for want of memory.
 abbrev pub OneAnswer : Type 0
 OneAnswer =
-    (query : Query) (roots : Roots) (a b : Result NormalQuery BindError)
-    → Binds query roots a → Binds query roots b → a ≢ Err OutOfMemory → b ≢ Err OutOfMemory
-    → a ≡ b
+    (relations : Relations) (query : Query) (roots : Roots) (a b : Result NormalQuery BindError)
+    → Binds relations query roots a → Binds relations query roots b
+    → a ≢ Err OutOfMemory → b ≢ Err OutOfMemory → a ≡ b

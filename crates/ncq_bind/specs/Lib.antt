@@ -5,6 +5,7 @@ pub mod Bound
 pub mod Constraints
 pub mod Sorted
 pub mod Ranges
+pub mod Served
 pub mod NormalArms
 pub mod NormalQueries
 pub mod Bindings

@@ -3,7 +3,8 @@ use Rattle.std.specs.Prelude.{ℕ, Bool, ◌&&◌, if◌then◌else◌, List, []
 use Rattle.std.specs.List.{flat_map, list_any}
 use Rattle.ncq_base.specs.declared.atom.Op.TheVariants.{Eq}
 use Rattle.ncq_plan.specs.declared.residual.Side.TheVariants.{Slot}
-use Rattle.ncq_plan.specs.declared.residual.Test.{Test}
+use Rattle.ncq_plan.specs.declared.residual.Check.{Check}
+use Rattle.ncq_plan.specs.declared.residual.Check.TheVariants.{Compare}
 use Rattle.ncq_plan.specs.declared.template.SlotText.{SlotText}
 use Rattle.ncq_plan.specs.declared.template.SlotText.TheVariants as attribute
 use Rattle.ncq_plan.specs.declared.template.SlotAttribute.{SlotAttribute}
@@ -30,26 +31,26 @@ abbrev pub in_one_arm : List OpenArm → ℕ → ℕ → Bool
 in_one_arm arms left right =
     list_any (λ a. in_arm a.offset a.width left && in_arm a.offset a.width right) arms
 
--- the test that two slots of one arm have one atom
-abbrev pub inner_test : List OpenArm → Constraint → List Test
-inner_test arms (Alike left right) =
+-- the check that two slots of one arm have one atom
+abbrev pub inner_check : List OpenArm → Constraint → List Check
+inner_check arms (Alike left right) =
     if in_one_arm arms left right
-    then record { op = Eq; left = left; right = Slot right } ∷ [] else []
-inner_test arms (Equal slot constant) = []
-inner_test arms (Bound slot op number) = []
-inner_test arms (Other test) = []
+    then Compare (record { op = Eq; left = left; right = Slot right }) ∷ [] else []
+inner_check arms (Equal slot constant) = []
+inner_check arms (Bound slot op number) = []
+inner_check arms (Other check) = []
 
--- any other comparison
-abbrev pub other_test : Constraint → List Test
-other_test (Other test) = test ∷ []
-other_test (Equal slot constant) = []
-other_test (Bound slot op number) = []
-other_test (Alike left right) = []
+-- any other condition
+abbrev pub other_check : Constraint → List Check
+other_check (Other check) = check ∷ []
+other_check (Equal slot constant) = []
+other_check (Bound slot op number) = []
+other_check (Alike left right) = []
 
--- the equalities within one arm, then all other comparisons
-abbrev pub residual_of : List OpenArm → List Constraint → List Test
+-- the equalities within one arm, then all other conditions
+abbrev pub residual_of : List OpenArm → List Constraint → List Check
 residual_of arms constraints =
-    flat_map (inner_test arms) constraints ++ flat_map other_test constraints
+    flat_map (inner_check arms) constraints ++ flat_map other_check constraints
 
 -- the value of an attribute, a variable by its first slot
 abbrev pub slot_text_of : (List ℕ → ℕ) → Operand → SlotText

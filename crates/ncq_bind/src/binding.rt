@@ -6,11 +6,13 @@ ghost use Rattle.ncq_xmlql.specs.WellFormed.{IsWellFormed as StatementIsWellForm
 ghost use Rattle.ncq_plan.specs.WellFormed.{IsWellFormed};
 ghost use Rattle.ncq_bind.specs.Bindings.{Binds, are_declared, have_roots, is_root, roots_in};
 ghost use Rattle.ncq_bind.specs.Bindings.{item_has_root, item_is_declared};
+ghost use Rattle.ncq_plan.specs.Relations.{relations};
 ghost use Rattle.ncq_source.specs.StoreStates.{found};
 
 use crate::query::normal_query;
+use crate::served::are_served;
 use ncq_base::Bytes;
-use ncq_plan::NormalQuery;
+use ncq_plan::{NormalQuery, Predicates};
 use ncq_source::Store;
 use ncq_xmlql::{QueryItem, Statement};
 use std::alloc::{AllocError, Global};
@@ -25,8 +27,9 @@ pub enum BindError {
     /// A root tag is not that of its source.
     #[error("the root differs")]
     RootDiffers,
-    /// A condition or the template uses a variable that no pattern has.
-    #[error("a variable is unbound")]
+    /// A condition or the template uses a variable that no pattern has, or a condition asks a
+    /// predicate that is not there, or with an argument where it wants none, or without one.
+    #[error("a variable or a predicate is unbound")]
     Unbound,
     /// Memory ran out; this may come at any call.
     #[error("out of memory")]
@@ -47,10 +50,17 @@ impl From<AllocError> for BindError {
 /// The normal query of a statement; it is well formed, and its template makes proper forests of
 /// proper values. `NoSource` comes exactly where a match names a source that is not declared, else
 /// `RootDiffers` exactly where a root tag is not that of its source, else `Unbound` exactly where a
-/// condition or the template uses a variable that no pattern has.
-pub fn bind(alloc: Global, statement: &Statement, store: &Store) -> Result<NormalQuery, BindError>
+/// condition or the template uses a variable that no pattern has, or a condition asks a predicate
+/// that is not there, or with an argument where it wants none, or without one where it wants one.
+pub fn bind(
+    alloc: Global,
+    statement: &Statement,
+    store: &Store,
+    predicates: &Predicates,
+) -> Result<NormalQuery, BindError>
     requires { StatementIsWellFormed statement.now }
-    ensures answer { Binds statement.now.query (roots_in store.now) result }
+    ensures answer { Binds (relations predicates.now.items (λ p. p.name) (λ p. p.relation))
+        statement.now.query (roots_in store.now) result }
     ensures formed { IfOk result (λ n. IsWellFormed n) }
     ensures named { IfOk result (λ n. template_is_named n.template ≡ true) }
 {
@@ -60,6 +70,9 @@ pub fn bind(alloc: Global, statement: &Statement, store: &Store) -> Result<Norma
     }
     if !have_roots(store, items) {
         return Err(BindError::RootDiffers);
+    }
+    if !are_served(predicates, items) {
+        return Err(BindError::Unbound);
     }
     match normal_query(alloc, &statement.query)? {
         Some(query) => Ok(query),
@@ -80,7 +93,7 @@ fn is_declared(store: &Store, item: &QueryItem) -> bool
 {
     match item {
         QueryItem::Match { source, .. } => store.find(source.as_slice()).is_some(),
-        QueryItem::Condition { .. } => true,
+        QueryItem::Condition { .. } | QueryItem::Satisfies { .. } => true,
     }
 }
 
@@ -97,7 +110,7 @@ fn item_has_root(store: &Store, item: &QueryItem) -> bool
 {
     match item {
         QueryItem::Match { root, source, .. } => has_root(store, source, root),
-        QueryItem::Condition { .. } => true,
+        QueryItem::Condition { .. } | QueryItem::Satisfies { .. } => true,
     }
 }
 

@@ -31,6 +31,7 @@ fn item_is_bound(names: &Names, item: &QueryItem) -> bool
         QueryItem::Condition { left, right, .. } => {
             operand_is_bound(names, left) && operand_is_bound(names, right)
         }
+        QueryItem::Satisfies { variable, .. } => names.is_bound(variable),
     }
 }
 

@@ -1,14 +1,15 @@
 //! What a query asks of a row.
 ghost use Rattle.std.specs.Prelude.{◌≡◌, ◌++◌, ◌∷◌, [], IfOk, OnOk};
 ghost use Rattle.std.specs.List.{flat_map};
+ghost use Rattle.ncq_bind.specs.Answers.{argument_atom};
 ghost use Rattle.ncq_bind.specs.Constraints.{condition_constraints, constant_constraint};
 ghost use Rattle.ncq_bind.specs.Constraints.{constraints_from, constraints_of, first_slot};
 ghost use Rattle.ncq_bind.specs.Constraints.{item_constraints, order_constraint};
 ghost use Rattle.ncq_bind.specs.Constraints.{place_constraints, slots_constraints, turned};
 
 use crate::names::Names;
-use ncq_base::{Atom, Op, Sequence, atom_of};
-use ncq_plan::{Side, Test};
+use ncq_base::{Atom, Bytes, Copied, Op, Sequence, atom_of};
+use ncq_plan::{Check, Side, Test};
 use ncq_xmlql::{Operand, QueryItem};
 use std::alloc::{AllocError, Global};
 
@@ -22,8 +23,8 @@ pub enum Constraint {
     Bound { slot: usize, op: Op, number: i128 },
     /// The two slots have one atom. The left one is the smaller.
     Alike { left: usize, right: usize },
-    /// Any other comparison.
-    Other { test: Test },
+    /// Any other condition.
+    Other { check: Check },
 }
 
 /// Constraints in the order in which a query has them.
@@ -115,6 +116,20 @@ fn add_item(
         QueryItem::Condition { left, op, right } => {
             add_condition(alloc, names, left, *op, right, constraints)
         }
+        QueryItem::Satisfies {
+            variable,
+            predicate,
+            argument,
+        } => {
+            let argument = argument_atom(alloc, argument)?;
+            constraints.push(Constraint::Other {
+                check: Check::Satisfies {
+                    slot: names.slot(variable),
+                    predicate: predicate.copy(alloc)?,
+                    argument,
+                },
+            })
+        }
     }
 }
 
@@ -168,11 +183,11 @@ fn constant_constraint(op: Op, slot: usize, constant: Atom) -> Constraint
     match op {
         Op::Eq => Constraint::Equal { slot, constant },
         Op::Ne => Constraint::Other {
-            test: Test {
+            check: Check::Compare(Test {
                 op,
                 left: slot,
                 right: Side::Constant(constant),
-            },
+            }),
         },
         Op::Lt | Op::Le | Op::Gt | Op::Ge => order_constraint(op, slot, constant),
     }
@@ -189,11 +204,11 @@ fn order_constraint(op: Op, slot: usize, constant: Atom) -> Constraint
             number: *number,
         },
         Atom::Text(_) => Constraint::Other {
-            test: Test {
+            check: Check::Compare(Test {
                 op,
                 left: slot,
                 right: Side::Constant(constant),
-            },
+            }),
         },
     }
 }
@@ -218,11 +233,21 @@ fn add_slots(
             })
         }
         Op::Ne | Op::Lt | Op::Le | Op::Gt | Op::Ge => constraints.push(Constraint::Other {
-            test: Test {
+            check: Check::Compare(Test {
                 op,
                 left,
                 right: Side::Slot(right),
-            },
+            }),
         }),
+    }
+}
+
+/// The atom of an argument: that of the empty text where there is none.
+fn argument_atom(alloc: Global, argument: &Option<Bytes>) -> Result<Atom, AllocError>
+    ensures { IfOk result (λ a. a ≡ argument_atom argument.now) }
+{
+    match argument {
+        Some(text) => atom_of(alloc, text.as_slice()),
+        None => atom_of(alloc, b""),
     }
 }

@@ -43,7 +43,7 @@ fn gather_item(alloc: Global, item: &QueryItem, to: &mut Gathered) -> Result<(),
 {
     match item {
         QueryItem::Match { arms, source, .. } => { gather_arms(alloc, arms.as_slice(), source, to) }
-        QueryItem::Condition { .. } => Ok(()),
+        QueryItem::Condition { .. } | QueryItem::Satisfies { .. } => Ok(()),
     }
 }
 

@@ -18,6 +18,7 @@ mod places;
 mod query;
 mod range;
 mod residual;
+mod served;
 mod shape;
 mod sorted;
 mod template;

@@ -1,60 +1,60 @@
-//! The tests at the end.
+//! The checks at the end.
 ghost use Rattle.std.specs.Prelude.{◌≡◌, ◌++◌, IfOk, OnOk};
 ghost use Rattle.std.specs.List.{flat_map};
-ghost use Rattle.ncq_bind.specs.NormalQueries.{in_one_arm, inner_test, other_test, residual_of};
+ghost use Rattle.ncq_bind.specs.NormalQueries.{in_one_arm, inner_check, other_check, residual_of};
 
 use crate::arm::in_arm;
 use crate::constraint::Constraint;
 use crate::open_arm::OpenArm;
 use ncq_base::{Copied, Op};
-use ncq_plan::{Side, Test, Tests};
+use ncq_plan::{Check, Checks, Side, Test};
 use std::alloc::{AllocError, Global};
 
-/// The equalities within one arm, then all other comparisons.
+/// The equalities within one arm, then all other conditions.
 pub(crate) fn residual_of(
     alloc: Global,
     arms: &[OpenArm],
     constraints: &[Constraint],
-) -> Result<Tests, AllocError>
-    ensures { IfOk result (λ t. t ≡ residual_of arms.now constraints.now) }
+) -> Result<Checks, AllocError>
+    ensures { IfOk result (λ c. c ≡ residual_of arms.now constraints.now) }
 {
-    let mut tests = Tests::new(alloc);
-    add_inner(arms, constraints, &mut tests)?;
-    add_other(alloc, constraints, &mut tests)?;
-    Ok(tests)
+    let mut checks = Checks::new(alloc);
+    add_inner(arms, constraints, &mut checks)?;
+    add_other(alloc, constraints, &mut checks)?;
+    Ok(checks)
 }
 
 /// Adds the equalities within one arm.
 fn add_inner(
     arms: &[OpenArm],
     constraints: &[Constraint],
-    tests: &mut Tests,
+    checks: &mut Checks,
 ) -> Result<(), AllocError>
-    ensures { OnOk result (tests.new
-        ≡ tests.old ++ flat_map (inner_test arms.now) constraints.now) }
+    ensures { OnOk result (checks.new
+        ≡ checks.old ++ flat_map (inner_check arms.now) constraints.now) }
 {
     for constraint in constraints {
-        add_inner_test(arms, constraint, tests)?;
+        add_inner_check(arms, constraint, checks)?;
     }
     Ok(())
 }
 
 /// Adds the constraint, where it is an equality within one arm.
-fn add_inner_test(
+fn add_inner_check(
     arms: &[OpenArm],
     constraint: &Constraint,
-    tests: &mut Tests,
+    checks: &mut Checks,
 ) -> Result<(), AllocError>
-    ensures { OnOk result (tests.new ≡ tests.old ++ inner_test arms.now constraint.now) }
+    ensures { OnOk result (checks.new ≡ checks.old ++ inner_check arms.now constraint.now) }
 {
     match constraint {
         Constraint::Alike { left, right } => {
             if in_one_arm(arms, *left, *right) {
-                return tests.push(Test {
+                return checks.push(Check::Compare(Test {
                     op: Op::Eq,
                     left: *left,
                     right: Side::Slot(*right),
-                });
+                }));
             }
             Ok(())
         }
@@ -69,41 +69,30 @@ fn in_one_arm(arms: &[OpenArm], left: usize, right: usize) -> bool
     arms.iter().any(|a| in_arm(a.offset, a.width, left) && in_arm(a.offset, a.width, right))
 }
 
-/// Adds all other comparisons.
-fn add_other(alloc: Global, constraints: &[Constraint], tests: &mut Tests) -> Result<(), AllocError>
-    ensures { OnOk result (tests.new ≡ tests.old ++ flat_map other_test constraints.now) }
+/// Adds all other conditions.
+fn add_other(
+    alloc: Global,
+    constraints: &[Constraint],
+    checks: &mut Checks,
+) -> Result<(), AllocError>
+    ensures { OnOk result (checks.new ≡ checks.old ++ flat_map other_check constraints.now) }
 {
     for constraint in constraints {
-        add_other_test(alloc, constraint, tests)?;
+        add_other_check(alloc, constraint, checks)?;
     }
     Ok(())
 }
 
 /// Adds the constraint, where it is one of these.
-fn add_other_test(
+fn add_other_check(
     alloc: Global,
     constraint: &Constraint,
-    tests: &mut Tests,
+    checks: &mut Checks,
 ) -> Result<(), AllocError>
-    ensures { OnOk result (tests.new ≡ tests.old ++ other_test constraint.now) }
+    ensures { OnOk result (checks.new ≡ checks.old ++ other_check constraint.now) }
 {
     match constraint {
-        Constraint::Other { test } => tests.push(copy_test(alloc, test)?),
+        Constraint::Other { check } => checks.push(check.copy(alloc)?),
         _ => Ok(()),
     }
-}
-
-/// An equal test.
-fn copy_test(alloc: Global, test: &Test) -> Result<Test, AllocError>
-    ensures { IfOk result (λ t. t ≡ test.now) }
-{
-    let right = match &test.right {
-        Side::Slot(slot) => Side::Slot(*slot),
-        Side::Constant(constant) => Side::Constant(constant.copy(alloc)?),
-    };
-    Ok(Test {
-        op: test.op,
-        left: test.left,
-        right,
-    })
 }

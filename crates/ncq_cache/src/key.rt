@@ -2,15 +2,15 @@
 ghost use Rattle.std.specs.Prelude.{◌≡◌, IsTrue, ◌↔◌};
 
 use ncq_base::FileId;
-use ncq_plan::{SlotTemplate, Tests, same_template, same_tests};
+use ncq_plan::{Checks, SlotTemplate, same_checks, same_template};
 use std::hash::{Hash, Hasher};
 
 /// What the entries of a notice are made of: the rows of a file up to a change, those behind the
-/// mark or all of them where there is none; the tests that such a row passes; and the template of
+/// mark or all of them where there is none; the checks that such a row passes; and the template of
 /// what it answers.
 pub struct NoticeKey {
     pub file: FileId,
-    pub residual: Tests,
+    pub residual: Checks,
     pub template: SlotTemplate,
     pub mark: Option<u64>,
     pub change: u64,
@@ -38,7 +38,7 @@ fn same_key(a: &NoticeKey, b: &NoticeKey) -> bool
         && a.change == b.change
         && same_mark(a.mark, b.mark)
         && same_template(&a.template, &b.template)
-        && same_tests(a.residual.as_slice(), b.residual.as_slice())
+        && same_checks(a.residual.as_slice(), b.residual.as_slice())
 }
 
 fn same_mark(a: Option<u64>, b: Option<u64>) -> bool
@@ -68,7 +68,7 @@ impl Eq for NoticeKey {
 }
 
 /// A key is placed by its file and its change alone: of the keys that have both there are 64 at
-/// most, and to read the tests and the template costs more than to compare them now and then.
+/// most, and to read the checks and the template costs more than to compare them now and then.
 impl Hash for NoticeKey {
     ghost use Rattle.ncq_base.specs.Exact.{exact_alike};
     ghost use Rattle.ncq_cache.specs.Fed.{numbers_fed};

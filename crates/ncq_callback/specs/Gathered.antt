@@ -1,4 +1,4 @@
--- What is counted of rows that come and go: the answer of each row that passes its tests.
+-- What is counted of rows that come and go: the answer of each row that passes its checks.
 use Rattle.std.specs.Prelude.{ℕ, ℤ, Bool, if◌then◌else◌, List, [], ◌∷◌, map}
 use Rattle.std.specs.List.{filter}
 use Rattle.ncq_base.specs.Keys.{ByBytes}

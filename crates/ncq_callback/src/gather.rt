@@ -1,13 +1,14 @@
 //! Rows in, the entries of a notice out.
 ghost use Rattle.std.specs.Prelude.{◌≡◌, ◌+◌, ◌<◌, ◌^◌, IfOk, OnOk, OnErr, length, true};
 ghost use Rattle.ncq_bag.specs.Bags.{differences, no_counts};
-ghost use Rattle.ncq_plan.specs.Residuals.{passes, tests_are_within};
+ghost use Rattle.ncq_plan.specs.Relations.{relations};
+ghost use Rattle.ncq_plan.specs.Residuals.{passes, checks_are_within};
 ghost use Rattle.ncq_callback.specs.Gathered.{answer_of, with_row};
 
 use crate::notice::Entries;
 use crate::row_bag::RowBag;
 use ncq_construct::passes;
-use ncq_plan::{SlotTemplate, Tests};
+use ncq_plan::{Checks, Predicates, SlotTemplate};
 use ncq_row::Row;
 use std::alloc::{AllocError, Global};
 use std::marker::Model;
@@ -51,25 +52,28 @@ impl Gather {
         self.takes
     }
 
-    /// Takes a row that comes, or one that goes: where it passes the tests, the canonical bytes of
-    /// what the template makes of it stand once more, or once less. After want of memory the
-    /// gather is as before.
+    /// Takes a row that comes, or one that goes: where it passes the checks by these predicates,
+    /// the canonical bytes of what the template makes of it stand once more, or once less. After
+    /// want of memory the gather is as before.
     pub fn take(
         &mut self,
         alloc: Global,
-        tests: &Tests,
+        checks: &Checks,
+        predicates: &Predicates,
         template: &SlotTemplate,
         row: &Row,
         gain: bool,
     ) -> Result<(), AllocError>
-        requires slots { tests_are_within (length row.now) tests.now ≡ true }
+        requires slots { checks_are_within (length row.now) checks.now ≡ true }
         requires room { self.old.adds < 2 ^ 63 }
         ensures counts { OnOk result (self.new.counts
-            ≡ with_row (passes tests.now) (answer_of template.now) self.old.counts row.now gain) }
+            ≡ with_row (passes
+            (relations predicates.now.items (λ p. p.name) (λ p. p.relation)) checks.now)
+            (answer_of template.now) self.old.counts row.now gain) }
         ensures takes { OnOk result (self.new.adds ≡ self.old.adds + 1) }
         ensures err { OnErr result (self.new ≡ self.old) }
     {
-        if passes(tests, row) {
+        if passes(checks, row, predicates) {
             self.bag.add(alloc, template, row, gain)?;
         }
         self.takes += 1;

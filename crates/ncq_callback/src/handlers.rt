@@ -2,37 +2,45 @@
 ghost use Rattle.std.specs.Prelude.{◌≡◌, ◌<◌, ◌++◌, ◌∷◌, ◌↔◌, [], OnOk, OnErr, IfSome, IsSome};
 ghost use Rattle.std.specs.Prelude.{Err, slice_get, position, length};
 ghost use Rattle.std.specs.Str.{bytes_eq};
+ghost use Rattle.ncq_plan.specs.Relations.{relations};
 ghost use Rattle.ncq_callback.specs.Texts.{render};
 ghost use Rattle.ncq_callback.specs.Labels.{labels};
 
 use crate::handler::Handler;
 use crate::notice::{Kind, Notice};
 use ncq_base::Bytes;
+use ncq_plan::{Predicate, Predicates, find_predicate};
 use std::alloc::{AllocError, Global};
 use thiserror::Error;
 
-/// Why a handler was not added.
+/// Why a handler or a predicate was not added.
 #[derive(Clone, Copy, Debug, PartialEq, Eq, Error)]
 pub enum AddError {
-    /// A handler has the name.
-    #[error("a handler has the name")]
+    /// A handler, or a predicate, has the name.
+    #[error("a handler, or a predicate, has the name")]
     NameTaken,
     #[error("out of memory")]
     OutOfMemory,
 }
 
-/// Handlers, each name once. Contracts see the list of their names and kinds.
+/// Handlers, each name once, and predicates, each name once; a handler and a predicate may have one
+/// name. Contracts see the list of the names and kinds of the handlers, and that of the names and
+/// relations of the predicates.
 #[derive(Drop)]
 pub struct Handlers {
     items: Vec<Handler>,
+    predicates: Predicates,
 }
 
 impl Handlers {
     pub fn new(alloc: Global) -> Handlers
-        ensures { labels result.items.items (λ h. h.name) (λ h. h.kind) ≡ [] }
+        ensures handlers { labels result.items.items (λ h. h.name) (λ h. h.kind) ≡ [] }
+        ensures predicates { relations
+            result.predicates.items (λ p. p.name) (λ p. p.relation) ≡ [] }
     {
         Handlers {
             items: Vec::new(alloc),
+            predicates: Vec::new(alloc),
         }
     }
 
@@ -78,11 +86,53 @@ impl Handlers {
             ++ (handler.name, handler.kind) ∷ []) }
         ensures err { OnErr result (labels self.new.items.items (λ h. h.name) (λ h. h.kind)
             ≡ labels self.old.items.items (λ h. h.name) (λ h. h.kind)) }
+        ensures predicates { relations self.new.predicates.items (λ p. p.name) (λ p. p.relation)
+            ≡ relations self.old.predicates.items (λ p. p.name) (λ p. p.relation) }
     {
         if self.find(handler.name().as_slice()).is_some() {
             return Err(AddError::NameTaken);
         }
         match self.items.push(handler) {
+            Ok(()) => Ok(()),
+            Err(_) => Err(AddError::OutOfMemory),
+        }
+    }
+
+    /// The predicates, in the order in which they were added.
+    pub fn predicates(&self) -> &Predicates
+        ensures { result.now ≡ self.now.predicates }
+    {
+        &self.predicates
+    }
+
+    /// The place of the predicate of this name: none exactly where there is none.
+    pub fn find_predicate(&self, name: &[u8]) -> Option<usize>
+        ensures { result ≡ position (λ p. bytes_eq name.now p.0)
+            (relations self.now.predicates.items (λ p. p.name) (λ p. p.relation)) }
+    {
+        find_predicate(&self.predicates, name)
+    }
+
+    /// One more predicate behind the others. `NameTaken` comes exactly where a predicate has its
+    /// name. After an error the predicates are as they were; the handlers stay.
+    pub fn add_predicate(&mut self, predicate: Predicate) -> Result<(), AddError>
+        ensures taken { result ≡ Err AddError.NameTaken
+            ↔ IsSome (position (λ p. bytes_eq predicate.name p.0)
+            (relations self.old.predicates.items (λ p. p.name) (λ p. p.relation))) }
+        ensures ok { OnOk result
+            (relations self.new.predicates.items (λ p. p.name) (λ p. p.relation)
+            ≡ relations self.old.predicates.items (λ p. p.name) (λ p. p.relation)
+            ++ (predicate.name, predicate.relation) ∷ []) }
+        ensures err { OnErr result
+            (relations self.new.predicates.items (λ p. p.name) (λ p. p.relation)
+            ≡ relations self.old.predicates.items (λ p. p.name) (λ p. p.relation)) }
+        ensures handlers { labels self.new.items.items (λ h. h.name) (λ h. h.kind)
+            ≡ labels self.old.items.items (λ h. h.name) (λ h. h.kind) }
+    {
+        if self.find_predicate(predicate.name().as_slice()).is_some() {
+            return Err(AddError::NameTaken);
+        }
+        match self.predicates.push(predicate) {
             Ok(()) => Ok(()),
             Err(_) => Err(AddError::OutOfMemory),
         }

@@ -1,7 +1,8 @@
 //! Notices, and the handlers that write them.
 //! Rows come in, each as one that comes or one that goes; how often each answer stands more or less
 //! is counted, and that makes the entries of a notice. A handler appends the text of a notice: it
-//! keeps beside its closure that a call appends the text of its kind.
+//! keeps beside its closure that a call appends the text of its kind. Predicates, which the checks
+//! of a row may name, are handed in with the handlers.
 //!
 //! `print_notice` and `count_notice` may as well be called with another argument: their texts have
 //! none.

@@ -3,6 +3,7 @@ ghost use Rattle.std.specs.Prelude.{◌≡◌, ◌<◌, ◌∷◌, [], true, IfO
 ghost use Rattle.std.specs.List.{list_all};
 ghost use Rattle.ncq_path.specs.Formed.{is_formed};
 ghost use Rattle.ncq_row.specs.Formed.{shape_is_formed};
+ghost use Rattle.ncq_plan.specs.Relations.{relates};
 ghost use Rattle.ncq_callback.specs.Facts.{Writes};
 ghost use Rattle.ncq_callback.specs.Texts.{render};
 
@@ -11,9 +12,12 @@ use crate::{
     print_notice,
 };
 use ncq_bag::{Difference, Differences};
-use ncq_base::{Op, Steps, atom_of, bytes_of};
+use ncq_base::{Atom, Op, Steps, atom_of, bytes_of};
 use ncq_path::Path;
-use ncq_plan::{Side, SlotTemplate, Test, Tests};
+use ncq_plan::{
+    AtomTest, Check, Checks, Predicate, Predicates, Relation, Side, SlotTemplate, Test, multiple,
+    starts,
+};
 use ncq_row::{Names, Row, Rows, Shape, ShapeContent, ShapeSuffix, Shapes, match_shape};
 use ncq_tree::{Attributes, Element, Forest, Node};
 use std::alloc::{AllocError, Global};
@@ -137,12 +141,12 @@ fn the_rows(rt: &HostRuntime) -> Result<Rows, AllocError> {
     rows::<Brand>(rt, Blank::new(1), &shape, &element)
 }
 
-fn lone_test(alloc: Global, test: Test) -> Result<Tests, AllocError>
-    ensures { IfOk result (λ tests. tests ≡ test ∷ []) }
+fn lone_check(alloc: Global, check: Check) -> Result<Checks, AllocError>
+    ensures { IfOk result (λ checks. checks ≡ check ∷ []) }
 {
-    let mut tests = Tests::new(alloc);
-    tests.push(test)?;
-    Ok(tests)
+    let mut checks = Checks::new(alloc);
+    checks.push(check)?;
+    Ok(checks)
 }
 
 /// Takes a row under the test that its value is not `no`.
@@ -162,8 +166,9 @@ fn take_other(
         left: 0,
         right,
     };
-    let tests = lone_test(alloc, test)?;
-    gather.take(alloc, &tests, template, row, gain)
+    let checks = lone_check(alloc, Check::Compare(test))?;
+    let predicates = Predicates::new(alloc);
+    gather.take(alloc, &checks, &predicates, template, row, gain)
 }
 
 /// Takes a row under each of the templates.
@@ -615,5 +620,108 @@ fn handlers_write_the_text_of_their_kind(rt: HostRuntime) -> Result<(), Fail> {
     assert!(rt; second == Err(AddError::NameTaken));
     expect_kinds(&rt, &handlers);
     expect_texts(&rt, alloc, &handlers)?;
+    Ok(())
+}
+
+/// Names, and the place of the predicate of the name.
+const PLACES: &[(&str, Option<usize>)] = &[
+    ("starts", Some(0)),
+    ("multiple", Some(1)),
+    ("print", None),
+    ("start", None),
+    ("", None),
+];
+
+/// Two predicates are there, and each name leads to its own.
+fn expect_two_predicates(rt: &impl Abort, handlers: &Handlers) {
+    assert!(rt; handlers.predicates().len() == 2);
+    for (name, place) in PLACES {
+        assert!(rt;
+            handlers.find_predicate(name.as_bytes()) == *place,
+            "{name}"
+        );
+    }
+}
+
+/// One more predicate of this name.
+fn put_predicate(
+    alloc: Global,
+    handlers: &mut Handlers,
+    name: &str,
+    relation: Relation,
+    test: AtomTest,
+) -> Result<(), AddError>
+    requires callable { AtomTest.IsAlwaysCallable test }
+    requires tells { (value : _) (argument : _) (result : _)
+        → AtomTest.post test value argument result
+        → result ≡ relates relation value.now argument.now }
+{
+    match bytes_of(alloc, name.as_bytes()) {
+        Ok(name) => handlers.add_predicate(Predicate::new(name, relation, test)),
+        Err(_) => Err(AddError::OutOfMemory),
+    }
+}
+
+#[test]
+fn a_predicate_has_a_name_of_its_own(rt: HostRuntime) -> Result<(), Fail> {
+    let alloc = rt.alloc();
+    let mut handlers = Handlers::new(alloc);
+    let begins: AtomTest = Box::new(
+        alloc,
+        |value: &Atom, argument: &Atom| -> bool
+            ensures { result ≡ relates Relation.Prefix value.now argument.now }
+        { starts(value, argument) },
+    )?;
+    put_predicate(alloc, &mut handlers, "starts", Relation::Prefix, begins)?;
+    let divides: AtomTest = Box::new(
+        alloc,
+        |value: &Atom, argument: &Atom| -> bool
+            ensures { result ≡ relates Relation.Multiple value.now argument.now }
+        { multiple(value, argument) },
+    )?;
+    put_predicate(
+        alloc,
+        &mut handlers,
+        "multiple",
+        Relation::Multiple,
+        divides,
+    )?;
+    let again: AtomTest = Box::new(
+        alloc,
+        |value: &Atom, argument: &Atom| -> bool
+            ensures { result ≡ relates Relation.Multiple value.now argument.now }
+        { multiple(value, argument) },
+    )?;
+    let third = put_predicate(alloc, &mut handlers, "starts", Relation::Multiple, again);
+    assert!(rt; third == Err(AddError::NameTaken));
+    expect_two_predicates(&rt, &handlers);
+    Ok(())
+}
+
+#[test]
+fn a_handler_and_a_predicate_have_one_name(rt: HostRuntime) -> Result<(), Fail> {
+    let alloc = rt.alloc();
+    let mut handlers = Handlers::new(alloc);
+    let print: Call = Box::new(
+        alloc,
+        |argument: &[u8], notice: &Notice, out: &mut Vec<u8>| -> Result<(), AllocError>
+            ensures { Writes
+                (render Kind.Print argument.now
+                notice.now.name notice.now.instant notice.now.entries)
+                out.old.items out.new.items result }
+        { print_notice(argument, notice, out) },
+    )?;
+    put(alloc, &mut handlers, Kind::Print, print)?;
+    let begins: AtomTest = Box::new(
+        alloc,
+        |value: &Atom, argument: &Atom| -> bool
+            ensures { result ≡ relates Relation.Prefix value.now argument.now }
+        { starts(value, argument) },
+    )?;
+    put_predicate(alloc, &mut handlers, "print", Relation::Prefix, begins)?;
+    assert!(rt; handlers.find(b"print") == Some(0));
+    assert!(rt; handlers.find_predicate(b"print") == Some(0));
+    assert!(rt; handlers.len() == 1);
+    assert!(rt; handlers.predicates().len() == 1);
     Ok(())
 }

@@ -1,5 +1,5 @@
-//! What a query answers for a row: whether the row passes the tests, and what the template makes of
-//! it.
+//! What a query answers for a row: whether the row passes the checks, and what the template makes
+//! of it.
 //! Rows come in; forests in normal form, or their canonical bytes, go out. The bytes are written
 //! without making the forest. Where names and values are proper, so is the forest.
 #![tactic(auto)]

@@ -26,12 +26,13 @@ use Rattle.ncq_source.specs.Sections.{is_named}
 use Rattle.ncq_source.specs.declared.change.Section.{Section}
 use Rattle.ncq_xmlql.specs.declared.model.Pattern.{Pattern}
 use Rattle.ncq_xmlql.specs.declared.model.QueryItem.{QueryItem}
-use Rattle.ncq_xmlql.specs.declared.model.QueryItem.TheVariants.{Match, Condition}
+use Rattle.ncq_xmlql.specs.declared.model.QueryItem.TheVariants.{Match, Condition, Satisfies}
 use Rattle.ncq_xmlql.specs.declared.model.Statement.{Statement}
 use Rattle.ncq_engine.specs.DistinctCounts.{all_over}
 use Rattle.ncq_engine.specs.Firing.{source_of, sources_of}
 use Rattle.ncq_engine.specs.History.{History, Source, changes, elements_of, is_delta_of, last_change, source_in, sources, up_to, with_items, with_sections, world}
 use Rattle.ncq_engine.proofs.HistoryLaws.{key_is, key_itself}
+use Rattle.ncq_plan.specs.Relations.{Relations}
 use Rattle.ncq_engine.proofs.Worlds.{new_is_empty}
 
 -- no bytes stand more often in a list than they do
@@ -63,12 +64,13 @@ each_alike w v ((Match root patterns source) ∷ items) agree =
     ∙ (λ i. arms_alike w v source here patterns i ++ rest i)
     ∙ sym (map-append (arm_embeddings v) (map (arm_of source) patterns) (arms_of items))
 each_alike w v ((Condition left op right) ∷ items) agree = each_alike w v items agree
+each_alike w v ((Satisfies variable predicate argument) ∷ items) agree = each_alike w v items agree
 
 -- all that it answers over two lists of sources that agree on those of the statement
-pub same_all : (statement : Statement) (here there : List Source) → AgreeOn (sources_of statement) (world here) (world there) → all_over statement.query here ≡ all_over statement.query there
-same_all statement here there agree =
+pub same_all : (relations : Relations) (statement : Statement) (here there : List Source) → AgreeOn (sources_of statement) (world here) (world there) → all_over relations statement.query here ≡ all_over relations statement.query there
+same_all relations statement here there agree =
     let items = statement.query.items in
-    λ i. map pyx (map (made_forest statement.query.template (places_of (arms_of items))) (filter (is_binding items (places_of (arms_of items))) (one_of_each (each_alike (world here) (world there) items agree i))))
+    λ i. map pyx (map (made_forest statement.query.template (places_of (arms_of items))) (filter (is_binding relations items (places_of (arms_of items))) (one_of_each (each_alike (world here) (world there) items agree i))))
 
 -- what differs from a text differs from one that is the same
 pub apart_too : (a b c : List ℕ) → bytes_eq a b ≡ true → bytes_eq a c ≡ false → bytes_eq c b ≡ false

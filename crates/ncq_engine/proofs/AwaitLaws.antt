@@ -11,7 +11,7 @@ use Rattle.ncq_bag.specs.declared.bag.Difference.{Difference}
 use Rattle.ncq_book.specs.declared.subscription.Subscription.{Subscription as Kept}
 use Rattle.ncq_book.specs.Books.{is_of, subscription_of}
 use Rattle.ncq_callback.specs.Gathered.{answer_of, counts_after}
-use Rattle.ncq_callback.specs.Labels.{Label}
+use Rattle.ncq_callback.specs.Labels.{Handed}
 use Rattle.ncq_delta.specs.Leads.{unnumbered}
 use Rattle.ncq_distinct.specs.DistinctTables.{AreRising, DistinctTable, HaveSameCounts, waiting_at}
 use Rattle.ncq_event.specs.declared.firing.Firing.{Firing}
@@ -20,29 +20,30 @@ use Rattle.ncq_plan.specs.Residuals.{passes}
 use Rattle.ncq_shelf.specs.KeptFiles.{Files}
 use Rattle.ncq_source.specs.StoreStates.{StoreState}
 use Rattle.ncq_engine.specs.Engines.{entries_text, news_in, news_of, notice_text, told_in}
+use Rattle.ncq_plan.specs.Relations.{Relations}
 use Rattle.ncq_engine.specs.Tellings.{AwaitMore, Awaits, AwaitsNews, awaited_of, firing_text, is_fired, text_of}
 
 -- what the rows of a subscription tell rises
-pub news_rise : (store : StoreState) (files : Files) (m : Kept) → AreRising (news_in store files m)
-news_rise store files m =
+pub news_rise : (relations : Relations) (store : StoreState) (files : Files) (m : Kept) → AreRising (news_in relations store files m)
+news_rise relations store files m =
     differences_are_rising
-    (counts_after (passes m.query.residual) (answer_of m.query.template) empty (unnumbered (news_of store files m)))
+    (counts_after (passes relations m.query.residual) (answer_of m.query.template) empty (unnumbered (news_of store files m)))
 
 -- what is told follows from the counts alone
-module _ (labels : List Label) (store : StoreState) (files : Files) (old new : DistinctTable) (same : HaveSameCounts old new) where
-  told_same : (m : Kept) → told_in store files new m ≡ told_in store files old m
-  told_same m = λ i. if m.distinct then turns (same m.install i) (news_in store files m) else news_in store files m
+module _ (handed : Handed) (store : StoreState) (files : Files) (old new : DistinctTable) (same : HaveSameCounts old new) where
+  told_same : (m : Kept) → told_in handed.relations store files new m ≡ told_in handed.relations store files old m
+  told_same m = λ i. if m.distinct then turns (same m.install i) (news_in handed.relations store files m) else news_in handed.relations store files m
 
   pub notice_same : (m : Kept) (instant : ℕ)
-      → notice_text labels store files new m instant ≡ notice_text labels store files old m instant
-  notice_same m instant = ap (entries_text labels m instant) (told_same m)
+      → notice_text handed store files new m instant ≡ notice_text handed store files old m instant
+  notice_same m instant = ap (entries_text handed m instant) (told_same m)
 
-  text_same : (instant : ℕ) (o : Option Kept) → text_of labels store files new instant o ≡ text_of labels store files old instant o
+  text_same : (instant : ℕ) (o : Option Kept) → text_of handed store files new instant o ≡ text_of handed store files old instant o
   text_same instant None = refl
   text_same instant (Some m) = notice_same m instant
 
   pub firing_same : (subscriptions : List Kept)
-      → ◌≡◌ {A = Firing → List ℕ} (firing_text labels store files new subscriptions) (firing_text labels store files old subscriptions)
+      → ◌≡◌ {A = Firing → List ℕ} (firing_text handed store files new subscriptions) (firing_text handed store files old subscriptions)
   firing_same subscriptions = λ i firing. text_same firing.instant (subscription_of firing.install subscriptions) i
 
 -- a subscription that is found has the install number
@@ -63,9 +64,9 @@ fired_more : (done : List Firing) (firing : Firing) (m : Kept) → is_fired (don
 fired_more done firing m =
     list_any-append (λ f. is_of f.install m) done (firing ∷ []) ∙ ap (λ t. is_fired done m || t) (or-false (is_of firing.install m))
 
-module _ (store : StoreState) (live_table : LiveState) where
+module _ (relations : Relations) (store : StoreState) (live_table : LiveState) where
   abbrev awaited : List Firing → Option Kept → List Difference
-  awaited = awaited_of store live_table.table.files
+  awaited = awaited_of relations store live_table.table.files
 
   abbrev found : ℕ → Option Kept
   found install = subscription_of install live_table.subscriptions
@@ -86,11 +87,11 @@ module _ (store : StoreState) (live_table : LiveState) where
         fired_more done firing other ∙ (λ i. is_fired done other || differs i) ∙ or-false (is_fired done other)
 
     abbrev news : List Difference
-    news = news_in store live_table.table.files m
+    news = news_in relations store live_table.table.files m
 
     -- what its rows tell waits too
-    pub awaits_more : (old new : DistinctTable) → AwaitsNews store live_table.table.files m old new
-        → Awaits store live_table done old → Awaits store live_table (done ++ firing ∷ []) new
+    pub awaits_more : (old new : DistinctTable) → AwaitsNews relations store live_table.table.files m old new
+        → Awaits relations store live_table done old → Awaits relations store live_table (done ++ firing ∷ []) new
     awaits_more old new told waits any = told any ∙ by (nat_eq any m.install) refl
       where
         others : nat_eq any m.install ≡ false → (o : Option Kept) → found any ≡ o → awaited done o ≡ awaited (done ++ firing ∷ []) o
@@ -98,7 +99,7 @@ module _ (store : StoreState) (live_table : LiveState) where
         others differs (Some n) e =
             let its = found_install any live_table.subscriptions n e in
             let apart : is_of firing.install n ≡ false = grind (arith, nat_tests, differs, its, own) in
-            λ i. if n.distinct && sym (fired_other n apart) i then news_in store live_table.table.files n else []
+            λ i. if n.distinct && sym (fired_other n apart) i then news_in relations store live_table.table.files n else []
 
         -- where it is plain nothing waited for it
         its_own : (d : Bool) → waiting_at old any ≡ (if d && is_fired done m then news else [])
@@ -121,5 +122,5 @@ module _ (store : StoreState) (live_table : LiveState) where
             ∙ waits any ∙ others differs (found any) refl
 
   pub more_one : (firing : Firing) (m : Kept) → found firing.install ≡ Some m → (old new : DistinctTable)
-      → AwaitsNews store live_table.table.files m old new → AwaitMore store live_table (firing ∷ []) old new
+      → AwaitsNews relations store live_table.table.files m old new → AwaitMore relations store live_table (firing ∷ []) old new
   more_one firing m is_its old new told done = awaits_more firing m is_its done old new told

@@ -42,7 +42,7 @@ module _ (old : EngineState) (table : TableState) (cache : List Cached) (follows
     follows = λ h s. a.follows h (follows h s);
     answer = λ h s. a.answer h (follows h s);
     counted = a.counted;
-    labels = a.labels;
+    handed = a.handed;
     places = λ h s.
         let p = a.places h (follows h s) in
         record { between = record { begins = p.between.begins; ends = p.between.ends }; spans = p.spans };
@@ -51,10 +51,10 @@ module _ (old : EngineState) (table : TableState) (cache : List Cached) (follows
     refused = λ h s. a.refused h (follows h s);
     follows = λ h s. a.follows h (follows h s);
     counted = a.counted;
-    labels = a.labels;
+    handed = a.handed;
     unwritten = a.unwritten;
   }
-  applies_from command out (Err OutOfMemory) new out' a = record { follows = λ h s. a.follows h (follows h s); uncounted = a.uncounted; labels = a.labels; front = a.front }
+  applies_from command out (Err OutOfMemory) new out' a = record { follows = λ h s. a.follows h (follows h s); uncounted = a.uncounted; handed = a.handed; front = a.front }
 
 -- where that engine stands for what the other stands for, the work is the same
 pub work_from : (old : EngineState) (table : TableState) (cache : List Cached) → ((h : History) → Stands old h → Stands (record old { table = table; cache = cache }) h)
@@ -67,7 +67,7 @@ pub stands_still : (old mid : EngineState) → ((h : History) → Follows old h 
 stands_still old mid follows bounded shares counts (inl same) h s = subst (λ (e : EngineState). Stands e h) (sym same) s
 stands_still old mid follows bounded shares counts (inr nothing) h s =
     let f = follows h s.follows in
-    record { follows = f; bounded = bounded h f; shares = shares; cached = subst (AreToldRight h mid.table) (sym nothing) tt; counts = counts; alike = λ bare. kept_alike mid.labels h bare (live h) mid.subscriptions f.subscriptions }
+    record { follows = f; bounded = bounded h f; shares = shares; cached = subst (AreToldRight mid.handed.relations h mid.table) (sym nothing) tt; counts = counts; alike = λ bare. kept_alike mid.handed h bare (live h) mid.subscriptions f.subscriptions }
 
 -- a change keeps the bases
 pub bases_fed : (store : StoreState) (change : List Portion) (old new : EngineState) → AreFed store change old.table.files new.table.files → KeepBases old new

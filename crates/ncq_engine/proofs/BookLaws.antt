@@ -4,7 +4,7 @@ use Rattle.std.specs.Prelude.{Option, Some, None, nat_le, is_some, IsSome, if◌
 use Rattle.std.specs.List.{filter, flat_map, list_any, AllByRecursion}
 use Rattle.ncq_book.specs.declared.subscription.Subscription.{Subscription as Kept}
 use Rattle.ncq_book.specs.Books.{InstallsRise, subscription_of, timing_of}
-use Rattle.ncq_callback.specs.Labels.{Label}
+use Rattle.ncq_callback.specs.Labels.{Handed}
 use Rattle.ncq_distinct.specs.DistinctTables.{DistinctTable}
 use Rattle.ncq_event.specs.declared.firing.Firing.{Firing}
 use Rattle.ncq_event.specs.Calendars.{due_firings}
@@ -69,13 +69,13 @@ module _ (store : StoreState) (now to : ℕ) (subscriptions : List Kept) (rise :
   move_there = subst (AllByRecursion (λ f. IsSome (subscription_of f.install subscriptions))) (sym move_is)
       (each_ordered (λ f. IsSome (subscription_of f.install subscriptions)) (firings_of (moved_instant store now to) subscriptions) (fires_found (moved_instant store now to) subscriptions subscriptions (found_each subscriptions rise)))
 
-  pub move_text : (labels : List Label) (files : Files) (distinct : DistinctTable) → flat_map (firing_text labels store files distinct subscriptions) slice
-      ≡ flat_map (λ (t : NoticeText). t.text) (ordered_by (λ (t : NoticeText). t.firing) (told_of labels store files distinct (moved_instant store now to) subscriptions))
-  move_text labels files distinct = move_texts labels store files distinct subscriptions now to rise slice move_is
+  pub move_text : (handed : Handed) (files : Files) (distinct : DistinctTable) → flat_map (firing_text handed store files distinct subscriptions) slice
+      ≡ flat_map (λ (t : NoticeText). t.text) (ordered_by (λ (t : NoticeText). t.firing) (told_of handed store files distinct (moved_instant store now to) subscriptions))
+  move_text handed files distinct = move_texts handed store files distinct subscriptions now to rise slice move_is
 
-  pub move_place : (labels : List Label) (files : Files) (distinct : DistinctTable) (from : ℕ) → firing_spans labels store files distinct subscriptions from slice
-      ≡ told_spans from (ordered_by (λ (t : NoticeText). t.firing) (told_of labels store files distinct (moved_instant store now to) subscriptions))
-  move_place labels files distinct from = move_places labels store files distinct subscriptions now to rise slice move_is from
+  pub move_place : (handed : Handed) (files : Files) (distinct : DistinctTable) (from : ℕ) → firing_spans handed store files distinct subscriptions from slice
+      ≡ told_spans from (ordered_by (λ (t : NoticeText). t.firing) (told_of handed store files distinct (moved_instant store now to) subscriptions))
+  move_place handed files distinct from = move_places handed store files distinct subscriptions now to rise slice move_is from
 
   -- those fire that have an instant
   pub move_fires : AllByRecursion (λ m. list_any (λ f. f.install == m.install) slice ≡ is_some (moved_instant store now to m)) subscriptions
@@ -104,13 +104,13 @@ module _ (store : StoreState) (now : ℕ) (olds : List Kept) (made : Kept) (rise
   pub create_there : AllByRecursion (λ f. IsSome (subscription_of f.install (olds ++ made ∷ []))) slice
   create_there = subst (AllByRecursion (λ f. IsSome (subscription_of f.install all))) (sym create_is) (fires_found instant all all (found_each all rise))
 
-  pub create_text : (labels : List Label) (files : Files) (distinct : DistinctTable) → flat_map (firing_text labels store files distinct (olds ++ made ∷ [])) slice
-      ≡ flat_map (λ (t : NoticeText). t.text) (told_of labels store files distinct (created_instant now made.install) (olds ++ made ∷ []))
-  create_text labels files distinct = told_texts labels store files distinct all instant rise slice create_is
+  pub create_text : (handed : Handed) (files : Files) (distinct : DistinctTable) → flat_map (firing_text handed store files distinct (olds ++ made ∷ [])) slice
+      ≡ flat_map (λ (t : NoticeText). t.text) (told_of handed store files distinct (created_instant now made.install) (olds ++ made ∷ []))
+  create_text handed files distinct = told_texts handed store files distinct all instant rise slice create_is
 
-  pub create_place : (labels : List Label) (files : Files) (distinct : DistinctTable) (from : ℕ) → firing_spans labels store files distinct (olds ++ made ∷ []) from slice
-      ≡ told_spans from (told_of labels store files distinct (created_instant now made.install) (olds ++ made ∷ []))
-  create_place labels files distinct from = told_places labels store files distinct all instant rise slice create_is from
+  pub create_place : (handed : Handed) (files : Files) (distinct : DistinctTable) (from : ℕ) → firing_spans handed store files distinct (olds ++ made ∷ []) from slice
+      ≡ told_spans from (told_of handed store files distinct (created_instant now made.install) (olds ++ made ∷ []))
+  create_place handed files distinct from = told_places handed store files distinct all instant rise slice create_is from
 
   -- it fires where it has an instant
   pub create_fires : AllByRecursion (λ m. list_any (λ f. f.install == m.install) slice ≡ is_some (created_instant now made.install m)) (olds ++ made ∷ [])

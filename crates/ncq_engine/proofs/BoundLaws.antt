@@ -3,7 +3,7 @@ use Rattle.std.proofs.Common.{◌≡◌, ℕ, ◌*◌, ◌≤◌, List, [], ◌�
 use Rattle.std.specs.Prelude.{Option, Some, IfSome}
 use Rattle.std.specs.List.{AllByRecursion}
 use Rattle.ncq_book.specs.declared.subscription.Subscription.{Subscription as Kept}
-use Rattle.ncq_callback.specs.Labels.{Label}
+use Rattle.ncq_callback.specs.Labels.{Handed}
 use Rattle.ncq_group.specs.Tables.{Facts, TableState}
 use Rattle.ncq_live.specs.Shares.{Shares}
 use Rattle.ncq_shelf.specs.Contents.{AreUpTo}
@@ -23,14 +23,14 @@ use Rattle.ncq_engine.proofs.InvariantLaws.{Invariant}
 use Rattle.ncq_engine.proofs.Keeping.{mark_is}
 use Rattle.ncq_engine.proofs.PlanningLaws.{kept_alike}
 
-module _ (labels : List Label) (h : History) (store : StoreState) (table : TableState) (last : (name : List ℕ) → last_in store name ≡ last_change name h) (rising : IsRising h) where
-  marked_one : (s : Subscription) (m : Kept) → Keeps labels h s m → CanTell labels store table m → IsMarked table.files h s m
+module _ (handed : Handed) (h : History) (store : StoreState) (table : TableState) (last : (name : List ℕ) → last_in store name ≡ last_change name h) (rising : IsRising h) where
+  marked_one : (s : Subscription) (m : Kept) → Keeps handed h s m → CanTell handed store table m → IsMarked table.files h s m
   marked_one s m k can file at =
       let one : can.file ≡ file = (let e : Some can.file ≡ Some file = sym can.at ∙ at in cc) in
       subst (λ (f : KeptFile). IfSome (mark s h) (λ number. f.content.base ≤ number)) one
-      (subst (λ (o : Option ℕ). IfSome o (λ number. can.file.content.base ≤ number)) (mark_is labels h s m k rising store last) can.base)
+      (subst (λ (o : Option ℕ). IfSome o (λ number. can.file.content.base ≤ number)) (mark_is handed h s m k rising store last) can.base)
 
-  pub marked_each : (subs : List Subscription) (ms : List Kept) → Pairwise (Keeps labels h) subs ms → AllByRecursion (CanTell labels store table) ms → Pairwise (IsMarked table.files h) subs ms
+  pub marked_each : (subs : List Subscription) (ms : List Kept) → Pairwise (Keeps handed h) subs ms → AllByRecursion (CanTell handed store table) ms → Pairwise (IsMarked table.files h) subs ms
   marked_each [] [] p can = tt
   marked_each [] (m ∷ ms) p can = absurd p
   marked_each (s ∷ subs) [] p can = absurd p
@@ -40,7 +40,7 @@ pub bounded : (e : EngineState) → Invariant e → Facts e.table → (h : Histo
 bounded e holds facts h s = record {
   number = same;
   up_to = subst (λ n. AreUpTo n e.table.files) same facts.up_to;
-  marks = marked_each e.labels h e.store e.table s.last s.rising (live h) e.subscriptions s.subscriptions holds.can;
+  marks = marked_each e.handed h e.store e.table s.last s.rising (live h) e.subscriptions s.subscriptions holds.can;
   few_changes = (let a = holds.changes in let b = s.changes in let l : changes h ≤ e.count = omega (arith, a, b) in l);
   few_creates = (let a = holds.creates_too in let b = s.creates in let l : creates h ≤ e.count = omega (arith, a, b) in l);
   few_files = (let a = holds.next in let b = s.creates in let l : e.table.next_file ≤ 256 * creates h = omega (arith, a, b) in l);
@@ -50,15 +50,17 @@ bounded e holds facts h s = record {
     same = holds.number ∙ s.changes
 
 -- so an engine that follows a history, shares its files, keeps of what was told what is right, and counts of those with DISTINCT alone stands for it
-pub stands_of : (e : EngineState) (h : History) → Follows e h → IsBounded e h → Shares e.subscriptions e.table → AreToldRight h e.table e.cache → KeepsCounts e.subscriptions e.distinct → Stands e h
+pub stands_of : (e : EngineState) (h : History) → Follows e h → IsBounded e h → Shares e.subscriptions e.table → AreToldRight e.handed.relations h e.table e.cache → KeepsCounts e.subscriptions e.distinct → Stands e h
 stands_of e h follows bounded shares cached counts =
-    record { follows = follows; bounded = bounded; shares = shares; cached = cached; counts = counts; alike = λ bare. kept_alike e.labels h bare (live h) e.subscriptions follows.subscriptions }
+    record { follows = follows; bounded = bounded; shares = shares; cached = cached; counts = counts; alike = λ bare. kept_alike e.handed h bare (live h) e.subscriptions follows.subscriptions }
 
 -- behind a command that keeps what is kept an engine stands for what it follows
-pub stands_behind : (old e : EngineState) {earlier later : History} → Goes earlier later → Stands old earlier → Follows e later → IsBounded e later → Shares e.subscriptions e.table → AllServe e.table e.cache → KeepsCounts e.subscriptions e.distinct → KeepsCache old e → Stands e later
-stands_behind old e {later = later} goes s follows bounded shares serve counts keeps =
+pub stands_behind : (old e : EngineState) {earlier later : History} → e.handed ≡ old.handed → Goes earlier later → Stands old earlier → Follows e later → IsBounded e later → Shares e.subscriptions e.table → AllServe e.handed.relations e.table e.cache → KeepsCounts e.subscriptions e.distinct → KeepsCache old e → Stands e later
+stands_behind old e {later = later} same goes s follows bounded shares serve counts keeps =
+    let serve_old = subst (λ (k : Handed). AllServe k.relations e.table e.cache) same serve in
     stands_of e later follows bounded shares
-    (cached_right goes old.table e.table old.cache e.cache follows.contents bounded.up_to bounded.number serve keeps s.cached) counts
+    (subst (λ (k : Handed). AreToldRight k.relations later e.table e.cache) (sym same)
+    (cached_right old.handed.relations goes old.table e.table old.cache e.cache follows.contents bounded.up_to bounded.number serve_old keeps s.cached)) counts
 
 -- where the notices of the last answer stand is no matter
 pub stands_with : (e e' : EngineState) (places : List Span) → e' ≡ record e { spans = places } → (h : History) → Stands e h → Stands e' h

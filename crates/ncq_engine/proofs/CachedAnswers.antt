@@ -10,18 +10,23 @@ use Rattle.ncq_group.specs.Tables.{TableState}
 use Rattle.ncq_shelf.specs.KeptFiles.{KeptFile}
 use Rattle.ncq_source.specs.declared.change.Portion.{Portion}
 use Rattle.ncq_source.specs.StoreStates.{StoreState}
+use Rattle.ncq_callback.specs.Labels.{Handed}
+use Rattle.ncq_distinct.specs.DistinctTables.{DistinctTable}
+use Rattle.ncq_event.specs.declared.firing.Firing.{Firing}
+use Rattle.ncq_live.specs.LiveTables.{LiveState}
 use Rattle.ncq_engine.specs.Applies.{KeepsCache}
 use Rattle.ncq_engine.specs.Cached.{AllServe, Grows, IsFresh, IsOfOld, KeepsPairs}
 use Rattle.ncq_engine.specs.Stands.{EngineState}
-use Rattle.ncq_engine.specs.Tellings.{AreOf}
+use Rattle.ncq_engine.specs.Tellings.{AreOf, Awaits}
 use Rattle.ncq_engine.proofs.CachedLaws.{each_contained, fresh_serves, keeps_grown, of_itself, serve_left}
+use Rattle.ncq_plan.specs.Relations.{Relations}
 use Rattle.ncq_engine.proofs.Lists.{each_more}
 
 -- an engine with the same files that keeps the same
 pub keeps_same : (old new : EngineState) → new.table ≡ old.table → new.cache ≡ old.cache → KeepsCache old new
 keeps_same old new table cache =
-    subst (λ (p : TableState × List Cached). KeepsPairs old.table old.cache p.0 p.1) (λ i. (sym table i, sym cache i))
-    (each_more (Contains old.cache) (λ pair. IsFresh old.table pair.0 pair.1 ⊎ (Contains old.cache pair × IsOfOld old.table old.table pair.0.file.0))
+    subst (λ (p : TableState × List Cached). KeepsPairs old.handed.relations old.table old.cache p.0 p.1) (λ i. (sym table i, sym cache i))
+    (each_more (Contains old.cache) (λ pair. IsFresh old.handed.relations old.table pair.0 pair.1 ⊎ (Contains old.cache pair × IsOfOld old.table old.table pair.0.file.0))
     (λ pair there. inr (there, of_itself old.table pair.0.file.0)) old.cache (each_contained old.cache))
 
 -- so does the engine itself
@@ -42,12 +47,12 @@ keeps_refused None old new count some none = subst (λ (e : EngineState). KeepsC
 keeps_refused (Some x) old new count some none = keeps_counted old new count some
 
 -- an engine that keeps nothing
-pub keeps_none : (old : EngineState) (table : TableState) (cache : List Cached) → cache ≡ [] → KeepsPairs old.table old.cache table cache
-keeps_none old table cache nothing = subst (KeepsPairs old.table old.cache table) (sym nothing) tt
+pub keeps_none : (old : EngineState) (table : TableState) (cache : List Cached) → cache ≡ [] → KeepsPairs old.handed.relations old.table old.cache table cache
+keeps_none old table cache nothing = subst (KeepsPairs old.handed.relations old.table old.cache table) (sym nothing) tt
 
 -- somebody was told, and the files are the same
-pub keeps_told : (old table : TableState) (pairs cache : List Cached) → table ≡ old → AllServe old pairs → Grows old pairs cache → KeepsPairs old pairs table cache
-keeps_told old table pairs cache same serve grows = subst (λ t. KeepsPairs old pairs t cache) (sym same) (keeps_grown old old pairs cache serve (λ number below. of_itself old number) grows)
+pub keeps_told : (relations : Relations) (old table : TableState) (pairs cache : List Cached) → table ≡ old → AllServe relations old pairs → Grows relations old pairs cache → KeepsPairs relations old pairs table cache
+keeps_told relations old table pairs cache same serve grows = subst (λ t. KeepsPairs relations old pairs t cache) (sym same) (keeps_grown relations old old pairs cache serve (λ number below. of_itself old number) grows)
 
 -- files that were fed
 pub of_old_fed : (store : StoreState) (change : List Portion) (old new : TableState) → AreFed store change old.files new.files → (number : ℕ) → IsOfOld old new number
@@ -61,37 +66,48 @@ of_old_fed store change old new fed number file at = by (get old.files number) r
         let is : file ≡ f.0 = cc in
         (was, e, ap (λ (k : KeptFile). k.expr) is ∙ ap (λ (k : KeptFile). k.expr) f.2.behind)
 
-pub keeps_fed : (store : StoreState) (change : List Portion) (old new : TableState) (pairs cache : List Cached) → AreFed store change old.files new.files → AllServe old pairs → Grows new pairs cache → KeepsPairs old pairs new cache
-keeps_fed store change old new pairs cache fed serve = keeps_grown old new pairs cache serve (λ number below. of_old_fed store change old new fed number)
+pub keeps_fed : (relations : Relations) (store : StoreState) (change : List Portion) (old new : TableState) (pairs cache : List Cached) → AreFed store change old.files new.files → AllServe relations old pairs → Grows relations new pairs cache → KeepsPairs relations old pairs new cache
+keeps_fed relations store change old new pairs cache fed serve = keeps_grown relations old new pairs cache serve (λ number below. of_old_fed store change old new fed number)
 
 -- files that are left
-module _ (old new : TableState) (left : AreOf old.files new.files) (number : new.number ≡ old.number) (next : new.next_file ≡ old.next_file) where
+module _ (relations : Relations) (old new : TableState) (left : AreOf old.files new.files) (number : new.number ≡ old.number) (next : new.next_file ≡ old.next_file) where
   of_old_left : (at : ℕ) → IsOfOld old new at
   of_old_left at file here = let was = left at file here in (was.0, was.1, was.2.0)
 
-  fresh_left : (key : NoticeKey) (entries : List Difference) → IsFresh old key entries → IsFresh new key entries
+  fresh_left : (key : NoticeKey) (entries : List Difference) → IsFresh relations old key entries → IsFresh relations new key entries
   fresh_left key entries fresh =
-      let serves = serve_left old new ((key, entries) ∷ []) left number next (fresh_serves old key entries fresh, tt) in
+      let serves = serve_left relations old new ((key, entries) ∷ []) left number next (fresh_serves relations old key entries fresh, tt) in
       serves.0.fresh (fresh.change ∙ sym number)
 
   -- somebody was told, and then subscriptions went with their files
-  pub keeps_left : (pairs cache : List Cached) → Grows old pairs cache → KeepsPairs old pairs new cache
+  pub keeps_left : (pairs cache : List Cached) → Grows relations old pairs cache → KeepsPairs relations old pairs new cache
   keeps_left pairs =
-      each_more (λ pair. Contains pairs pair ⊎ IsFresh old pair.0 pair.1) (λ pair. IsFresh new pair.0 pair.1 ⊎ (Contains pairs pair × IsOfOld old new pair.0.file.0))
+      each_more (λ pair. Contains pairs pair ⊎ IsFresh relations old pair.0 pair.1) (λ pair. IsFresh relations new pair.0 pair.1 ⊎ (Contains pairs pair × IsOfOld old new pair.0.file.0))
       (λ pair c. elim c [
         | inl there ↦ inr (there, of_old_left pair.0.file.0)
         | inr fresh ↦ inl (fresh_left pair.0 pair.1 fresh)
       ])
 
 -- what was kept before was kept still, or was all given up
-pub keeps_behind : (old mid new : EngineState) → (mid ≡ old) ⊎ (mid.cache ≡ []) → KeepsCache mid new → KeepsCache old new
-keeps_behind old mid new (inl same) keeps = subst (λ (e : EngineState). KeepsCache e new) same keeps
-keeps_behind old mid new (inr nothing) keeps =
-    each_more (λ pair. IsFresh new.table pair.0 pair.1 ⊎ (Contains mid.cache pair × IsOfOld mid.table new.table pair.0.file.0)) (λ pair. IsFresh new.table pair.0 pair.1 ⊎ (Contains old.cache pair × IsOfOld old.table new.table pair.0.file.0))
+pub keeps_behind : (old mid new : EngineState) → mid.handed ≡ old.handed → (mid ≡ old) ⊎ (mid.cache ≡ []) → KeepsCache mid new → KeepsCache old new
+keeps_behind old mid new handed (inl same) keeps = subst (λ (e : EngineState). KeepsCache e new) same keeps
+keeps_behind old mid new handed (inr nothing) keeps =
+    each_more (λ pair. IsFresh old.handed.relations new.table pair.0 pair.1 ⊎ (Contains mid.cache pair × IsOfOld mid.table new.table pair.0.file.0)) (λ pair. IsFresh old.handed.relations new.table pair.0 pair.1 ⊎ (Contains old.cache pair × IsOfOld old.table new.table pair.0.file.0))
     (λ pair c. elim c [
       | inl fresh ↦ inl fresh
       | inr there ↦ absurd (none_there pair (subst (λ pairs. Contains pairs pair) nothing there.0))
-    ]) new.cache keeps
+    ]) new.cache (subst (λ (k : Handed). KeepsPairs k.relations mid.table mid.cache new.table new.cache) handed keeps)
   where
     none_there : (pair : Cached) → Contains [] pair → ⊥
     none_there pair (k, below, is) = let bad : ⊥ = omega (arith, below) in bad
+
+-- what is said by the relations that were handed in is said by those that the engine keeps
+module _ (own given : Handed) (same : own ≡ given) where
+  pub grows_as : (table : TableState) (old new : List Cached) → Grows given.relations table old new → Grows own.relations table old new
+  grows_as table old new = subst (λ (k : Handed). Grows k.relations table old new) (sym same)
+
+  pub serve_as : (table : TableState) (pairs : List Cached) → AllServe own.relations table pairs → AllServe given.relations table pairs
+  serve_as table pairs = subst (λ (k : Handed). AllServe k.relations table pairs) same
+
+  pub awaits_as : (store : StoreState) (live_table : LiveState) (firings : List Firing) (distinct : DistinctTable) → Awaits given.relations store live_table firings distinct → Awaits own.relations store live_table firings distinct
+  awaits_as store live_table firings distinct = subst (λ (k : Handed). Awaits k.relations store live_table firings distinct) (sym same)

@@ -5,7 +5,7 @@ use Rattle.std.specs.List.{AllByRecursion}
 use Rattle.ncq_book.specs.declared.subscription.Subscription.{Subscription as Kept}
 use Rattle.ncq_book.specs.Books.{watchers_of, watches}
 use Rattle.ncq_cache.specs.Cached.{Cached}
-use Rattle.ncq_callback.specs.Labels.{Label}
+use Rattle.ncq_callback.specs.Labels.{Handed}
 use Rattle.ncq_change.specs.Stores.{world_in}
 use Rattle.ncq_distinct.specs.DistinctTables.{DistinctTable}
 use Rattle.ncq_event.specs.declared.firing.Firing.{Firing}
@@ -13,6 +13,7 @@ use Rattle.ncq_feed.specs.Feeds.{AreFed, IsPreparedFrom, NamesTheFed, world_afte
 use Rattle.ncq_group.specs.Tables.{TableState, Facts}
 use Rattle.ncq_live.specs.LiveTables.{LiveState}
 use Rattle.ncq_script.specs.declared.command.Command.TheVariants.{Delta}
+use Rattle.ncq_plan.specs.Relations.{Relations}
 use Rattle.ncq_shelf.specs.Contents.{AreUpTo, Fits}
 use Rattle.ncq_shelf.specs.KeptFiles.{Files}
 use Rattle.ncq_source.specs.Changes.Trial.{Good}
@@ -56,10 +57,10 @@ abbrev pub fed_firings : LiveState → List ℕ → List Firing
 fed_firings live_table list = started_of live_table (watchers_of list live_table.subscriptions)
 
 -- who is asked enough is asked as it fires, or its rows tell nothing
-asked_as : (store : StoreState) (files : Files) (fed : List ℕ) (changed : List Section) (clock : ℕ) (firings : List Firing) (ms : List Kept) → AllByRecursion (AsksEnough store files fed changed clock) ms
-    → AllByRecursion (λ m. is_fired firings m ≡ (watches fed m && nat_le m.timing.start clock)) ms → AllByRecursion (IsAskedAs store files firings (changed_instant changed clock)) ms
-asked_as store files fed changed clock firings =
-    each_both (AsksEnough store files fed changed clock) (λ m. is_fired firings m ≡ (watches fed m && nat_le m.timing.start clock)) (IsAskedAs store files firings (changed_instant changed clock))
+asked_as : (relations : Relations) (store : StoreState) (files : Files) (fed : List ℕ) (changed : List Section) (clock : ℕ) (firings : List Firing) (ms : List Kept) → AllByRecursion (AsksEnough relations store files fed changed clock) ms
+    → AllByRecursion (λ m. is_fired firings m ≡ (watches fed m && nat_le m.timing.start clock)) ms → AllByRecursion (IsAskedAs relations store files firings (changed_instant changed clock)) ms
+asked_as relations store files fed changed clock firings =
+    each_both (AsksEnough relations store files fed changed clock) (λ m. is_fired firings m ≡ (watches fed m && nat_le m.timing.start clock)) (IsAskedAs relations store files firings (changed_instant changed clock))
     (λ m enough fires. elim enough [
       | inl same ↦ inl (fires ∙ same ∙ sym (some_if (is_told_change changed clock m) clock))
       | inr none ↦ inr none
@@ -105,41 +106,41 @@ module _ {e : EngineState} {ready : StoreState} {changed : List Section} {change
     abbrev still : LiveState
     still = record { table = table; subscriptions = e.subscriptions; instant = e.clock }
 
-    can : AllByRecursion (CanTell e.labels ready table) e.subscriptions
+    can : AllByRecursion (CanTell e.handed ready table) e.subscriptions
     can = can_fed (mid_engine e ready) change (world_after ready change) table holds_mid f.fed f.fits f.number
 
     -- the subscriptions can be told of the files as they are fed
-    pub can_tell : (known : List Label) → e.labels ≡ known → AllByRecursion (CanTell known ready table) live_table.subscriptions
+    pub can_tell : (known : Handed) → e.handed ≡ known → AllByRecursion (CanTell known ready table) live_table.subscriptions
     can_tell known handled =
         subst (λ (ms : List Kept). AllByRecursion (CanTell known ready table) ms) (sym f.subscriptions)
-        (subst (λ (l : List Label). AllByRecursion (CanTell l ready table) e.subscriptions) handled can)
+        (subst (λ (l : Handed). AllByRecursion (CanTell l ready table) e.subscriptions) handled can)
 
     -- what is kept of what was told serves
-    pub served : AllServe table e.cache
-    served = serve_fed e.table table e.cache f.number f.next_file r.holds.serve
+    pub served : AllServe e.handed.relations table e.cache
+    served = serve_fed e.handed.relations e.table table e.cache f.number f.next_file r.holds.serve
 
-    pub changed_keeps : (cache : List Cached) → Grows table e.cache cache → KeepsPairs e.table e.cache table cache
-    changed_keeps cache = keeps_fed ready change e.table table e.cache cache f.fed r.holds.serve
+    pub changed_keeps : (cache : List Cached) → Grows e.handed.relations table e.cache cache → KeepsPairs e.handed.relations e.table e.cache table cache
+    changed_keeps cache = keeps_fed e.handed.relations ready change e.table table e.cache cache f.fed r.holds.serve
 
     -- what waited for them was settled
-    still_settled : (distinct : DistinctTable) → HasSettled ready live_table (fed_firings live_table list) e.distinct distinct → HasSettled ready still (fed_firings still list) e.distinct distinct
+    still_settled : (distinct : DistinctTable) → HasSettled e.handed.relations ready live_table (fed_firings live_table list) e.distinct distinct → HasSettled e.handed.relations ready still (fed_firings still list) e.distinct distinct
     still_settled distinct =
-        subst (λ (l : LiveState). HasSettled ready l (fed_firings l list) e.distinct distinct) (λ i. record { table = table; subscriptions = f.subscriptions i; instant = f.instant i })
+        subst (λ (l : LiveState). HasSettled e.handed.relations ready l (fed_firings l list) e.distinct distinct) (λ i. record { table = table; subscriptions = f.subscriptions i; instant = f.instant i })
 
     last_fed : (h : History) → Follows e h → (asked : List ℕ) → last_in ready asked ≡ last_change asked h
     last_fed h s asked = last_alike e.store ready asked r.alike.sources ∙ s.last asked
 
-    enough : (h : History) → Follows e h → AreContents table.files (Delta changed ∷ h) → AreUpTo (changes (Delta changed ∷ h)) table.files → AllByRecursion (AsksEnough ready table.files list changed e.clock) e.subscriptions
+    enough : (h : History) → Follows e h → AreContents table.files (Delta changed ∷ h) → AreUpTo (changes (Delta changed ∷ h)) table.files → AllByRecursion (AsksEnough e.handed.relations ready table.files list changed e.clock) e.subscriptions
     enough h s contents upto =
-        asks_enough e.labels h changed e.clock s.clock ready table (last_fed h s) s.rising contents upto list (subst (λ n. NamesTheFed n table.files list) (r.alike.changes ∙ s.changes) f.named) e.subscriptions s.subscriptions can
+        asks_enough e.handed h changed e.clock s.clock ready table (last_fed h s) s.rising contents upto list (subst (λ n. NamesTheFed n table.files list) (r.alike.changes ∙ s.changes) f.named) e.subscriptions s.subscriptions can
 
     -- and the counts follow
-    counts_fed : (distinct : DistinctTable) → HasSettled ready still (fed_firings still list) e.distinct distinct
-        → (h : History) → Follows e h → AreContents table.files (Delta changed ∷ h) → AreUpTo (changes (Delta changed ∷ h)) table.files → AreCounted (Delta changed ∷ h) distinct
+    counts_fed : (distinct : DistinctTable) → HasSettled e.handed.relations ready still (fed_firings still list) e.distinct distinct
+        → (h : History) → Follows e h → AreContents table.files (Delta changed ∷ h) → AreUpTo (changes (Delta changed ∷ h)) table.files → AreCounted e.handed.relations (Delta changed ∷ h) distinct
     counts_fed distinct settles h s contents upto =
-        counts_follow e.labels h (Delta changed) ready still (last_fed h s) s.rising contents upto (changed_instant changed e.clock) (fed_firings still list) e.distinct distinct settles (live h) e.subscriptions
-        (fires_each e.labels h changed e.clock s.clock (live h) e.subscriptions s.subscriptions (installed h)) can (found_each e.subscriptions r.holds.rise)
-        (asked_as ready table.files list changed e.clock (fed_firings still list) e.subscriptions (enough h s contents upto) (change_fires e.clock e.subscriptions list r.holds.rise (found_each e.subscriptions r.holds.rise)))
+        counts_follow e.handed h (Delta changed) ready still (last_fed h s) s.rising contents upto (changed_instant changed e.clock) (fed_firings still list) e.distinct distinct settles (live h) e.subscriptions
+        (fires_each e.handed h changed e.clock s.clock (live h) e.subscriptions s.subscriptions (installed h)) can (found_each e.subscriptions r.holds.rise)
+        (asked_as e.handed.relations ready table.files list changed e.clock (fed_firings still list) e.subscriptions (enough h s contents upto) (change_fires e.clock e.subscriptions list r.holds.rise (found_each e.subscriptions r.holds.rise)))
         s.counted
 
     module _ (after : StoreState) (committed : IsCommitted ready change after) where
@@ -174,34 +175,34 @@ module _ {e : EngineState} {ready : StoreState} {changed : List Section} {change
           invariant_changed (mid_engine e ready) change after table holds_mid committed.changes (let l : ready.changes + 1 ≤ e.count + 1 = omega (arith, few, same) in l) last_more lasts_after f.fed fits_after f.facts.up_to f.number f.next_file
 
       -- what holds behind the commit
-      pub holds_changed : (cache : List Cached) (distinct : DistinctTable) → Grows table e.cache cache → HasSettled ready live_table (fed_firings live_table list) e.distinct distinct → Invariant (changed_engine e after live_table cache distinct)
+      pub holds_changed : (cache : List Cached) (distinct : DistinctTable) → Grows e.handed.relations table e.cache cache → HasSettled e.handed.relations ready live_table (fed_firings live_table list) e.distinct distinct → Invariant (changed_engine e after live_table cache distinct)
       holds_changed cache distinct grows settles =
           let s = still_settled distinct settles in
-          subst (λ (ms : List Kept). IsEngine after (e.count + 1) e.creates e.labels ms table cache distinct) (sym f.subscriptions)
+          subst (λ (ms : List Kept). IsEngine after (e.count + 1) e.creates e.handed ms table cache distinct) (sym f.subscriptions)
           (invariant_counts (record e { store = after; count = e.count + 1; table = table; cache = cache }) distinct
-          (counts_settled ready still (fed_firings still list) e.distinct s.waited distinct r.holds.counts s.waits s.same s.settled)
-          (invariant_cached (record e { store = after; count = e.count + 1; table = table }) cache (grown_serve table e.cache cache served grows) changed_holds))
+          (counts_settled e.handed.relations ready still (fed_firings still list) e.distinct s.waited distinct r.holds.counts s.waits s.same s.settled)
+          (invariant_cached (record e { store = after; count = e.count + 1; table = table }) cache (grown_serve e.handed.relations table e.cache cache served grows) changed_holds))
 
-      changed_applies : (distinct : DistinctTable) → HasSettled ready still (fed_firings still list) e.distinct distinct → (out out' : List ℕ) (answered : Answered)
-          → IsAnswered (e.count + 1) e.labels ready e.distinct still (fed_firings still list) out out' answered
+      changed_applies : (distinct : DistinctTable) → HasSettled e.handed.relations ready still (fed_firings still list) e.distinct distinct → (out out' : List ℕ) (answered : Answered)
+          → IsAnswered (e.count + 1) e.handed ready e.distinct still (fed_firings still list) out out' answered
           → Applies e (Delta changed) out (Ok answered) (record e { store = after; count = e.count + 1; table = table; distinct = distinct }) out'
       changed_applies distinct settles out out' answered told =
           change_accepted e ready after table changed change r.alike r.known r.tried made committed f.fed
           (subst (λ n. Fits n (world_in after) table.files) number_is fits_after) (subst (λ n. AreUpTo n table.files) number_is f.facts.up_to) can
           distinct (counts_fed distinct settles)
-          (firings_text e.labels ready e.distinct still (fed_firings still list)) answered.spans out (out ++ ok_text (e.count + 1)) out'
+          (firings_text e.handed ready e.distinct still (fed_firings still list)) answered.spans out (out ++ ok_text (e.count + 1)) out'
           (λ h s contents upto. (
-            fed_text e.labels ready table.files e.distinct list changed e.clock e.subscriptions r.holds.rise (enough h s contents upto),
-            told.spans ∙ fed_spans e.labels ready table.files e.distinct list changed e.clock e.subscriptions r.holds.rise (enough h s contents upto) (length (out ++ ok_text (e.count + 1))),
+            fed_text e.handed ready table.files e.distinct list changed e.clock e.subscriptions r.holds.rise (enough h s contents upto),
+            told.spans ∙ fed_spans e.handed ready table.files e.distinct list changed e.clock e.subscriptions r.holds.rise (enough h s contents upto) (length (out ++ ok_text (e.count + 1))),
           ))
           answered _ refl told.written refl (λ i. record { from = told.from i; to = told.to i; spans = answered.spans })
 
       -- the answer to the change, by what was told of the files as they were fed
-      pub change_answers : (known : List Label) → e.labels ≡ known → (out out' : List ℕ) (answered : Answered) (cache : List Cached) (distinct : DistinctTable)
-          → HasSettled ready live_table (fed_firings live_table list) e.distinct distinct → IsAnswered (e.count + 1) known ready e.distinct live_table (fed_firings live_table list) out out' answered
+      pub change_answers : (known : Handed) → e.handed ≡ known → (out out' : List ℕ) (answered : Answered) (cache : List Cached) (distinct : DistinctTable)
+          → HasSettled e.handed.relations ready live_table (fed_firings live_table list) e.distinct distinct → IsAnswered (e.count + 1) known ready e.distinct live_table (fed_firings live_table list) out out' answered
           → Applies e (Delta changed) out (Ok answered) (changed_engine e after live_table cache distinct) out'
       change_answers known handled out out' answered cache distinct settles told =
           subst (λ (p : List Kept × ℕ). Applies e (Delta changed) out (Ok answered) (record e { store = after; clock = p.1; count = e.count + 1; subscriptions = p.0; table = table; cache = cache; distinct = distinct }) out') (λ i. (sym f.subscriptions i, sym f.instant i))
           (applies_cached e (Delta changed) out (Ok answered) (record e { store = after; count = e.count + 1; table = table; distinct = distinct }) out' cache
           (changed_applies distinct (still_settled distinct settles) out out' answered
-          (subst (λ (p : LiveState × List Label). IsAnswered (e.count + 1) p.1 ready e.distinct p.0 (fed_firings p.0 list) out out' answered) (λ i. (record { table = table; subscriptions = f.subscriptions i; instant = f.instant i }, sym handled i)) told)))
+          (subst (λ (p : LiveState × Handed). IsAnswered (e.count + 1) p.1 ready e.distinct p.0 (fed_firings p.0 list) out out' answered) (λ i. (record { table = table; subscriptions = f.subscriptions i; instant = f.instant i }, sym handled i)) told)))

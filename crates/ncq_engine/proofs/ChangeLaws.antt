@@ -5,7 +5,7 @@ use Rattle.std.specs.Option.{option_and_then}
 use Rattle.std.proofs.Math.Seq.{take-length}
 use Rattle.std.proofs.lemmas.Bool.Decides.{nat_tests}
 use Rattle.std.specs.List.{flat_map, AllByRecursion}
-use Rattle.ncq_callback.specs.Labels.{Label}
+use Rattle.ncq_callback.specs.Labels.{Handed}
 use Rattle.ncq_distinct.specs.DistinctTables.{DistinctTable}
 use Rattle.ncq_event.specs.declared.firing.Firing.{Firing}
 use Rattle.ncq_change.specs.Stores.{world_in}
@@ -65,16 +65,16 @@ and_swap false b c = refl
 abbrev pub changed_instant : List Section → ℕ → Kept → Option ℕ
 changed_instant changed clock m = if is_told_change changed clock m then Some clock else None
 
-module _ (labels : List Label) (h : History) (changed : List Section) (clock : ℕ) (at_now : clock ≡ now h) where
-  fires_one : (s : Subscription) (m : Kept) → Keeps labels h s m → s.install ≤ creates h → changed_instant changed clock m ≡ fires s h (Delta changed)
+module _ (handed : Handed) (h : History) (changed : List Section) (clock : ℕ) (at_now : clock ≡ now h) where
+  fires_one : (s : Subscription) (m : Kept) → Keeps handed h s m → s.install ≤ creates h → changed_instant changed clock m ≡ fires s h (Delta changed)
   fires_one s m k before =
       let here : is_installed s h ≡ true = grind (arith, nat_tests, before) in
       (λ i. if (k.timing i).every == 0 && nat_le (k.timing i).start (at_now i) && are_named changed (k.sources i) then Some (at_now i) else None)
       ∙ (λ i. if and_swap (s.statement.every == 0) (nat_le s.start (now h)) (are_named changed (sources_of s.statement)) i then Some (now h) else None)
       ∙ (λ i. if sym here i && is_told_of changed s h then Some (now h) else None)
 
-  pub fires_each : (subs : List Subscription) (ms : List Kept) → Pairwise (Keeps labels h) subs ms → Installed h subs
-      → Pairwise (λ s m. Keeps labels h s m × (changed_instant changed clock m ≡ fires s h (Delta changed))) subs ms
+  pub fires_each : (subs : List Subscription) (ms : List Kept) → Pairwise (Keeps handed h) subs ms → Installed h subs
+      → Pairwise (λ s m. Keeps handed h s m × (changed_instant changed clock m ≡ fires s h (Delta changed))) subs ms
   fires_each [] [] p i = tt
   fires_each [] (m ∷ ms) p i = absurd p
   fires_each (s ∷ subs) [] p i = absurd p
@@ -86,12 +86,12 @@ some_if true n = refl
 some_if false n = refl
 
 -- a change writes nothing down
-keep_noted : (labels : List Label) (h : History) (changed : List Section) (subs : List Subscription) (ms : List Kept) → Installed (Delta changed ∷ h) subs → Pairwise (Keeps labels h) subs ms → AllByRecursion (FiresFirst h) subs
-    → Pairwise (Keeps labels (Delta changed ∷ h)) subs ms
-keep_noted labels h changed [] [] i p f = tt
-keep_noted labels h changed [] (m ∷ ms) i p f = absurd p
-keep_noted labels h changed (s ∷ subs) [] i p f = absurd p
-keep_noted labels h changed (s ∷ subs) (m ∷ ms) i p f = (keeps_noted labels h (Delta changed) s m i.0 p.0 (delta_notes s h changed f.0), keep_noted labels h changed subs ms i.1 p.1 f.1)
+keep_noted : (handed : Handed) (h : History) (changed : List Section) (subs : List Subscription) (ms : List Kept) → Installed (Delta changed ∷ h) subs → Pairwise (Keeps handed h) subs ms → AllByRecursion (FiresFirst h) subs
+    → Pairwise (Keeps handed (Delta changed ∷ h)) subs ms
+keep_noted handed h changed [] [] i p f = tt
+keep_noted handed h changed [] (m ∷ ms) i p f = absurd p
+keep_noted handed h changed (s ∷ subs) [] i p f = absurd p
+keep_noted handed h changed (s ∷ subs) (m ∷ ms) i p f = (keeps_noted handed h (Delta changed) s m i.0 p.0 (delta_notes s h changed f.0), keep_noted handed h changed subs ms i.1 p.1 f.1)
 
 fires_now : (h : History) (changed : List Section) (s : Subscription) (d : ℕ) → fires s h (Delta changed) ≡ Some d → d ≡ now h
 fires_now h changed s d e = by (is_installed s h && is_told_of changed s h) e
@@ -143,8 +143,8 @@ module _ (engine : EngineState) (ready after_store : StoreState) (fed : TableSta
     same_world : world (sources (Delta changed ∷ h)) ≡ world_in after_store
     same_world = world_is after_store (sources (Delta changed ∷ h)) sources_are
 
-    firing : Pairwise (λ s m. Keeps engine.labels h s m × (changed_instant changed engine.clock m ≡ fires s h (Delta changed))) (live h) engine.subscriptions
-    firing = fires_each engine.labels h changed engine.clock s.clock (live h) engine.subscriptions s.subscriptions (installed h)
+    firing : Pairwise (λ s m. Keeps engine.handed h s m × (changed_instant changed engine.clock m ≡ fires s h (Delta changed))) (live h) engine.subscriptions
+    firing = fires_each engine.handed h changed engine.clock s.clock (live h) engine.subscriptions s.subscriptions (installed h)
 
     -- the last changes as the store with room tells them
     last_ready : (asked : List ℕ) → last_in ready asked ≡ last_change asked h
@@ -157,7 +157,7 @@ module _ (engine : EngineState) (ready after_store : StoreState) (fed : TableSta
         s.contents
 
     -- the engine with its files and counts after the change
-    pub delta_follows : AreContents fed.files (Delta changed ∷ h) → (distinct' : DistinctTable) → AreCounted (Delta changed ∷ h) distinct'
+    pub delta_follows : AreContents fed.files (Delta changed ∷ h) → (distinct' : DistinctTable) → AreCounted engine.handed.relations (Delta changed ∷ h) distinct'
         → Follows (record engine { store = after_store; count = engine.count + 1; table = fed; distinct = distinct' }) (Delta changed ∷ h)
     delta_follows contents distinct' counted = record {
       sources = sources_are;
@@ -165,44 +165,44 @@ module _ (engine : EngineState) (ready after_store : StoreState) (fed : TableSta
       changes = changes_are;
       clock = s.clock;
       creates = s.creates ∙ sym (zero-add (creates_of h));
-      subscriptions = keep_noted engine.labels h changed (live h) engine.subscriptions (installed (Delta changed ∷ h)) s.subscriptions (all_fired h);
+      subscriptions = keep_noted engine.handed h changed (live h) engine.subscriptions (installed (Delta changed ∷ h)) s.subscriptions (all_fired h);
       contents = contents;
       counted = counted;
       rising = rises_quietly h (Delta changed) refl s.rising;
     }
 
-    list_is : AreContents fed.files (Delta changed ∷ h) → AreUpTo (changes (Delta changed ∷ h)) fed.files → AllByRecursion (CanTell engine.labels ready fed) engine.subscriptions
-        → told_of engine.labels ready fed.files engine.distinct (changed_instant changed engine.clock) engine.subscriptions ≡ map (noticed engine.labels h (Delta changed)) (firings h (Delta changed))
-    list_is contents upto can = told_list engine.labels h (Delta changed) ready fed.files engine.distinct (changed_instant changed engine.clock) (live h) engine.subscriptions
-        (tells_each engine.labels h (Delta changed) ready fed engine.distinct last_ready s.rising contents upto (changed_instant changed engine.clock) (live h) engine.subscriptions firing can s.counted)
+    list_is : AreContents fed.files (Delta changed ∷ h) → AreUpTo (changes (Delta changed ∷ h)) fed.files → AllByRecursion (CanTell engine.handed ready fed) engine.subscriptions
+        → told_of engine.handed ready fed.files engine.distinct (changed_instant changed engine.clock) engine.subscriptions ≡ map (noticed engine.handed h (Delta changed)) (firings h (Delta changed))
+    list_is contents upto can = told_list engine.handed h (Delta changed) ready fed.files engine.distinct (changed_instant changed engine.clock) (live h) engine.subscriptions
+        (tells_each engine.handed h (Delta changed) ready fed engine.distinct last_ready s.rising contents upto (changed_instant changed engine.clock) (live h) engine.subscriptions firing can s.counted)
 
     -- what is told, and where it stands
-    pub delta_texts : AreContents fed.files (Delta changed ∷ h) → AreUpTo (changes (Delta changed ∷ h)) fed.files → AllByRecursion (CanTell engine.labels ready fed) engine.subscriptions
-        → flat_map (λ (t : NoticeText). t.text) (told_of engine.labels ready fed.files engine.distinct (changed_instant changed engine.clock) engine.subscriptions) ≡ notices (language_of engine.labels) h (Delta changed)
+    pub delta_texts : AreContents fed.files (Delta changed ∷ h) → AreUpTo (changes (Delta changed ∷ h)) fed.files → AllByRecursion (CanTell engine.handed ready fed) engine.subscriptions
+        → flat_map (λ (t : NoticeText). t.text) (told_of engine.handed ready fed.files engine.distinct (changed_instant changed engine.clock) engine.subscriptions) ≡ notices (language_of engine.handed) h (Delta changed)
     delta_texts contents upto can =
         ap (flat_map (λ (t : NoticeText). t.text)) (list_is contents upto can)
-        ∙ texts_of engine.labels h (Delta changed) (firings h (Delta changed))
-        ∙ ap (flat_map (notice_at (language_of engine.labels) h (Delta changed))) (sym (told_in_order h changed))
+        ∙ texts_of engine.handed h (Delta changed) (firings h (Delta changed))
+        ∙ ap (flat_map (notice_at (language_of engine.handed) h (Delta changed))) (sym (told_in_order h changed))
 
-    pub delta_spans : AreContents fed.files (Delta changed ∷ h) → AreUpTo (changes (Delta changed ∷ h)) fed.files → AllByRecursion (CanTell engine.labels ready fed) engine.subscriptions
-        → (from : ℕ) → told_spans from (told_of engine.labels ready fed.files engine.distinct (changed_instant changed engine.clock) engine.subscriptions) ≡ spans (language_of engine.labels) h (Delta changed) from
+    pub delta_spans : AreContents fed.files (Delta changed ∷ h) → AreUpTo (changes (Delta changed ∷ h)) fed.files → AllByRecursion (CanTell engine.handed ready fed) engine.subscriptions
+        → (from : ℕ) → told_spans from (told_of engine.handed ready fed.files engine.distinct (changed_instant changed engine.clock) engine.subscriptions) ≡ spans (language_of engine.handed) h (Delta changed) from
     delta_spans contents upto can from =
         ap (told_spans from) (list_is contents upto can)
-        ∙ spans_are engine.labels h (Delta changed) from (firings h (Delta changed))
-        ∙ ap (fired_spans engine.labels h (Delta changed) from) (sym (told_in_order h changed))
+        ∙ spans_are engine.handed h (Delta changed) from (firings h (Delta changed))
+        ∙ ap (fired_spans engine.handed h (Delta changed) from) (sym (told_in_order h changed))
 
   -- the texts, and where they stand, are those of the subscriptions that the change concerns
   abbrev pub AreOfConcerned : List ℕ → ℕ → List Span → Type 0
   AreOfConcerned texts from places = (h : History) → Follows engine h → AreContents fed.files (Delta changed ∷ h) → AreUpTo (changes (Delta changed ∷ h)) fed.files
-      → (texts ≡ flat_map (λ (t : NoticeText). t.text) (told_of engine.labels ready fed.files engine.distinct (changed_instant changed engine.clock) engine.subscriptions))
-      × (places ≡ told_spans from (told_of engine.labels ready fed.files engine.distinct (changed_instant changed engine.clock) engine.subscriptions))
+      → (texts ≡ flat_map (λ (t : NoticeText). t.text) (told_of engine.handed ready fed.files engine.distinct (changed_instant changed engine.clock) engine.subscriptions))
+      × (places ≡ told_spans from (told_of engine.handed ready fed.files engine.distinct (changed_instant changed engine.clock) engine.subscriptions))
 
   -- the counts behind the change are right
   abbrev pub AreCountedBehind : DistinctTable → Type 0
-  AreCountedBehind distinct' = (h : History) → Follows engine h → AreContents fed.files (Delta changed ∷ h) → AreUpTo (changes (Delta changed ∷ h)) fed.files → AreCounted (Delta changed ∷ h) distinct'
+  AreCountedBehind distinct' = (h : History) → Follows engine h → AreContents fed.files (Delta changed ∷ h) → AreUpTo (changes (Delta changed ∷ h)) fed.files → AreCounted engine.handed.relations (Delta changed ∷ h) distinct'
 
   -- an accepted change, from what the calls give
-  pub change_accepted : AreFed ready change engine.table.files fed.files → Fits (engine.store.changes + 1) (world_in after_store) fed.files → AreUpTo (engine.store.changes + 1) fed.files → AllByRecursion (CanTell engine.labels ready fed) engine.subscriptions
+  pub change_accepted : AreFed ready change engine.table.files fed.files → Fits (engine.store.changes + 1) (world_in after_store) fed.files → AreUpTo (engine.store.changes + 1) fed.files → AllByRecursion (CanTell engine.handed ready fed) engine.subscriptions
       → (distinct' : DistinctTable) → AreCountedBehind distinct'
       → (texts : List ℕ) (places : List Span) (out out1 out' : List ℕ) → AreOfConcerned texts (length out1) places → (applied first : Answered)
       → out1 ≡ out ++ ok_text (engine.count + 1) → out' ≡ out1 ++ texts
@@ -215,7 +215,7 @@ module _ (engine : EngineState) (ready after_store : StoreState) (fed : TableSta
         follows = λ h s. delta_follows h s (contents_are h s done fits) distinct' (counted h s (contents_are h s done fits) (upto_now h s));
         tells = λ h s. (concerned h s (contents_are h s done fits) (upto_now h s)).0 ∙ delta_texts h s (contents_are h s done fits) (upto_now h s) can;
         stand = λ h s. ap (λ (a : Answered). a.spans) applied_is ∙ (concerned h s (contents_are h s done fits) (upto_now h s)).1 ∙ delta_spans h s (contents_are h s done fits) (upto_now h s) can (length out1)
-            ∙ ap (spans (language_of engine.labels) h (Delta changed)) (sym begins);
+            ∙ ap (spans (language_of engine.handed) h (Delta changed)) (sym begins);
         ends = λ h s. refl;
         counted = refl;
         named = refl;

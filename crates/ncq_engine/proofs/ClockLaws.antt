@@ -3,7 +3,7 @@ use Rattle.std.proofs.Common.{◌≡◌, ℕ, ◌+◌, ◌≤◌, true, false, n
 use Rattle.std.specs.Prelude.{Option, Some, None, Ok, if◌then◌else◌, nat_lt, is_some}
 use Rattle.std.proofs.lemmas.Bool.Decides.{nat_tests}
 use Rattle.std.specs.List.{filter, flat_map, list_any, AllByRecursion}
-use Rattle.ncq_callback.specs.Labels.{Label}
+use Rattle.ncq_callback.specs.Labels.{Handed}
 use Rattle.ncq_distinct.specs.DistinctTables.{DistinctTable}
 use Rattle.ncq_event.specs.Instants.{due, is_expired}
 use Rattle.ncq_event.specs.Orders.{ordered_by}
@@ -34,7 +34,7 @@ use Rattle.ncq_engine.proofs.MarkLaws.{clock_quiet}
 use Rattle.ncq_engine.proofs.ToldLaws.{noticed, tells_each, told_list, told_of, told_spans, told_spans_are, told_text_is}
 use Rattle.ncq_engine.specs.Spans.{spans}
 
-module _ (labels : List Label) (h : History) (store : StoreState) (last : (name : List ℕ) → last_in store name ≡ last_change name h) (rising : IsRising h) (clock instant : ℕ) (at_now : clock ≡ now h) where
+module _ (handed : Handed) (h : History) (store : StoreState) (last : (name : List ℕ) → last_in store name ≡ last_change name h) (rising : IsRising h) (clock instant : ℕ) (at_now : clock ≡ now h) where
   news_any : (number : ℕ) (names : List (List ℕ)) → list_any (λ source. nat_lt number (last_in store source)) names ≡ list_any (λ source. nat_lt number (last_change source h)) names
   news_any number [] = refl
   news_any number (name ∷ names) = λ i. nat_lt number (last name i) || news_any number names i
@@ -44,15 +44,15 @@ module _ (labels : List Label) (h : History) (store : StoreState) (last : (name 
   news_is (Some number) statement = news_any number (sources_of statement)
 
   -- a move of the clock fires a subscription where it fires its subscription
-  moved_one : (s : Subscription) (m : Kept) → Keeps labels h s m → s.install ≤ creates_of h → moved_instant store clock instant m ≡ fires s h (Clock instant)
+  moved_one : (s : Subscription) (m : Kept) → Keeps handed h s m → s.install ≤ creates_of h → moved_instant store clock instant m ≡ fires s h (Clock instant)
   moved_one s m k before =
       let here : is_installed s h ≡ true = grind (arith, nat_tests, before) in
-      (λ i. if has_news_in store (mark_is labels h s m k rising store last i) (k.sources i) then due (k.timing i) (at_now i) instant else None)
+      (λ i. if has_news_in store (mark_is handed h s m k rising store last i) (k.sources i) then due (k.timing i) (at_now i) instant else None)
       ∙ (λ i. if news_is (mark s h) s.statement i then due (timing_of s) (now h) instant else None)
       ∙ (λ i. if sym here i && has_news (mark s h) s.statement h then due (timing_of s) (now h) instant else None)
 
-  pub moved_each : (subs : List Subscription) (ms : List Kept) → Pairwise (Keeps labels h) subs ms → Installed h subs
-      → Pairwise (λ s m. Keeps labels h s m × (moved_instant store clock instant m ≡ fires s h (Clock instant))) subs ms
+  pub moved_each : (subs : List Subscription) (ms : List Kept) → Pairwise (Keeps handed h) subs ms → Installed h subs
+      → Pairwise (λ s m. Keeps handed h s m × (moved_instant store clock instant m ≡ fires s h (Clock instant))) subs ms
   moved_each [] [] p i = tt
   moved_each [] (m ∷ ms) p i = absurd p
   moved_each (s ∷ subs) [] p i = absurd p
@@ -67,8 +67,8 @@ module _ (labels : List Label) (h : History) (store : StoreState) (last : (name 
       by (Some number) e = absurd (let bad : Some at ≡ None = sym fired ∙ clock_quiet s h instant based rising number e in cc)
 
   -- so the test that the code makes agrees
-  pub moved_agree : (subs : List Subscription) (ms : List Kept) → Pairwise (λ s m. Keeps labels h s m × (moved_instant store clock instant m ≡ fires s h (Clock instant))) subs ms
-      → Pairwise (λ s m. Keeps labels h s m × (Agrees (is_some (moved_instant store clock instant m)) (fires s h (Clock instant)) × IsFirst s h (Clock instant))) subs ms
+  pub moved_agree : (subs : List Subscription) (ms : List Kept) → Pairwise (λ s m. Keeps handed h s m × (moved_instant store clock instant m ≡ fires s h (Clock instant))) subs ms
+      → Pairwise (λ s m. Keeps handed h s m × (Agrees (is_some (moved_instant store clock instant m)) (fires s h (Clock instant)) × IsFirst s h (Clock instant))) subs ms
   moved_agree [] [] p = tt
   moved_agree [] (m ∷ ms) p = absurd p
   moved_agree (s ∷ subs) [] p = absurd p
@@ -85,7 +85,7 @@ expired_names instant ms = flat_map (λ m. expired_line m.name) (filter (λ m. i
 module _ (engine : EngineState) (instant : ℕ) where
   -- what the code tells the subscriptions
   abbrev pub moved_list : List NoticeText
-  moved_list = told_of engine.labels engine.store engine.table.files engine.distinct (moved_instant engine.store engine.clock instant) engine.subscriptions
+  moved_list = told_of engine.handed engine.store engine.table.files engine.distinct (moved_instant engine.store engine.clock instant) engine.subscriptions
 
   abbrev pub moved_text : List ℕ
   moved_text = flat_map (λ (t : NoticeText). t.text) (ordered_by (λ (t : NoticeText). t.firing) moved_list)
@@ -96,24 +96,24 @@ module _ (engine : EngineState) (instant : ℕ) where
 
   -- the counts behind the move are right
   abbrev pub AreCountedBehind : DistinctTable → Type 0
-  AreCountedBehind distinct' = (h : History) → Follows engine h → AreContents engine.table.files (Clock instant ∷ h) → AreUpTo (changes (Clock instant ∷ h)) engine.table.files → AreCounted (Clock instant ∷ h) distinct'
+  AreCountedBehind distinct' = (h : History) → Follows engine h → AreContents engine.table.files (Clock instant ∷ h) → AreUpTo (changes (Clock instant ∷ h)) engine.table.files → AreCounted engine.handed.relations (Clock instant ∷ h) distinct'
 
-  module _ (upto : AreUpTo engine.store.changes engine.table.files) (can : AllByRecursion (CanTell engine.labels engine.store engine.table) engine.subscriptions) (h : History) (s : Follows engine h) where
+  module _ (upto : AreUpTo engine.store.changes engine.table.files) (can : AllByRecursion (CanTell engine.handed engine.store engine.table) engine.subscriptions) (h : History) (s : Follows engine h) where
     changes_are : engine.store.changes ≡ changes (Clock instant ∷ h)
     changes_are = s.changes ∙ sym (zero-add (changes h))
 
-    firing : Pairwise (λ s m. Keeps engine.labels h s m × (moved_instant engine.store engine.clock instant m ≡ fires s h (Clock instant))) (live h) engine.subscriptions
-    firing = moved_each engine.labels h engine.store s.last s.rising engine.clock instant s.clock (live h) engine.subscriptions s.subscriptions (installed h)
+    firing : Pairwise (λ s m. Keeps engine.handed h s m × (moved_instant engine.store engine.clock instant m ≡ fires s h (Clock instant))) (live h) engine.subscriptions
+    firing = moved_each engine.handed h engine.store s.last s.rising engine.clock instant s.clock (live h) engine.subscriptions s.subscriptions (installed h)
 
-    kept : Pairwise (Keeps engine.labels (Clock instant ∷ h)) (live h) moved_subscriptions
+    kept : Pairwise (Keeps engine.handed (Clock instant ∷ h)) (live h) moved_subscriptions
     kept =
-        keep_all engine.labels h (Clock instant) engine.store changes_are (λ m. is_some (moved_instant engine.store engine.clock instant m)) (live h) engine.subscriptions
+        keep_all engine.handed h (Clock instant) engine.store changes_are (λ m. is_some (moved_instant engine.store engine.clock instant m)) (live h) engine.subscriptions
         (installed_more (Clock instant) h (live h) (installed h))
-        (moved_agree engine.labels h engine.store s.last s.rising engine.clock instant s.clock (live h) engine.subscriptions firing)
+        (moved_agree engine.handed h engine.store s.last s.rising engine.clock instant s.clock (live h) engine.subscriptions firing)
 
     -- so do those that are left
-    pub left_kept : Pairwise (Keeps engine.labels (Clock instant ∷ h)) (live (Clock instant ∷ h)) (unexpired instant moved_subscriptions)
-    left_kept = pairwise_filter (Keeps engine.labels (Clock instant ∷ h)) (λ s. not (is_expired (timing_of s) instant)) (λ m. not (is_expired m.timing instant))
+    pub left_kept : Pairwise (Keeps engine.handed (Clock instant ∷ h)) (live (Clock instant ∷ h)) (unexpired instant moved_subscriptions)
+    left_kept = pairwise_filter (Keeps engine.handed (Clock instant ∷ h)) (λ s. not (is_expired (timing_of s) instant)) (λ m. not (is_expired m.timing instant))
         (λ s m k. ap (λ t. not (is_expired t instant)) (sym k.timing)) (live h) moved_subscriptions kept
 
     upto_now : AreUpTo (changes (Clock instant ∷ h)) engine.table.files
@@ -137,24 +137,24 @@ module _ (engine : EngineState) (instant : ℕ) where
       rising = ((let c = s.clock in let l : now h ≤ instant = grind (arith, nat_tests, later, c) in l), s.rising);
     }
 
-    list_is : moved_list ≡ map (noticed engine.labels h (Clock instant)) (firings h (Clock instant))
-    list_is = told_list engine.labels h (Clock instant) engine.store engine.table.files engine.distinct (moved_instant engine.store engine.clock instant) (live h) engine.subscriptions
-        (tells_each engine.labels h (Clock instant) engine.store engine.table engine.distinct s.last s.rising contents_are upto_now (moved_instant engine.store engine.clock instant) (live h) engine.subscriptions firing can s.counted)
+    list_is : moved_list ≡ map (noticed engine.handed h (Clock instant)) (firings h (Clock instant))
+    list_is = told_list engine.handed h (Clock instant) engine.store engine.table.files engine.distinct (moved_instant engine.store engine.clock instant) (live h) engine.subscriptions
+        (tells_each engine.handed h (Clock instant) engine.store engine.table engine.distinct s.last s.rising contents_are upto_now (moved_instant engine.store engine.clock instant) (live h) engine.subscriptions firing can s.counted)
 
     -- what is told, and where it stands
-    clock_texts : moved_text ≡ notices (language_of engine.labels) h (Clock instant)
-    clock_texts = told_text_is engine.labels h (Clock instant) moved_list list_is
+    clock_texts : moved_text ≡ notices (language_of engine.handed) h (Clock instant)
+    clock_texts = told_text_is engine.handed h (Clock instant) moved_list list_is
 
-    clock_spans : (from : ℕ) → told_spans from (ordered_by (λ (t : NoticeText). t.firing) moved_list) ≡ spans (language_of engine.labels) h (Clock instant) from
-    clock_spans from = told_spans_are engine.labels h (Clock instant) moved_list list_is from
+    clock_spans : (from : ℕ) → told_spans from (ordered_by (λ (t : NoticeText). t.firing) moved_list) ≡ spans (language_of engine.handed) h (Clock instant) from
+    clock_spans from = told_spans_are engine.handed h (Clock instant) moved_list list_is from
 
     -- the lines of those that expire
     clock_ends : expired_names instant moved_subscriptions ≡ expired_text (Clock instant) h
     clock_ends =
-        sym (pairwise_texts (Keeps engine.labels (Clock instant ∷ h)) (λ s. is_expired (timing_of s) instant) (λ m. is_expired m.timing instant) (λ s m k. ap (λ t. is_expired t instant) (sym k.timing))
+        sym (pairwise_texts (Keeps engine.handed (Clock instant ∷ h)) (λ s. is_expired (timing_of s) instant) (λ m. is_expired m.timing instant) (λ s m k. ap (λ t. is_expired t instant) (sym k.timing))
         (λ s. expired_line s.statement.name) (λ m. expired_line m.name) (λ s m k. ap expired_line (sym k.name)) (live h) moved_subscriptions kept)
 
-  pub clock_accepted : AreUpTo engine.store.changes engine.table.files → AllByRecursion (CanTell engine.labels engine.store engine.table) engine.subscriptions
+  pub clock_accepted : AreUpTo engine.store.changes engine.table.files → AllByRecursion (CanTell engine.handed engine.store engine.table) engine.subscriptions
       → (distinct' : DistinctTable) → AreCountedBehind distinct'
       → (out first second third : List ℕ) (left : List Kept) (after : TableState) (applied : Answered) → nat_lt instant engine.clock ≡ false → left ≡ unexpired instant moved_subscriptions → AreOf engine.table.files after.files
       → first ≡ out ++ ok_text (engine.count + 1) → second ≡ first ++ moved_text → third ≡ second ++ expired_names instant moved_subscriptions
@@ -167,7 +167,7 @@ module _ (engine : EngineState) (instant : ℕ) where
         accepted = λ h s. (λ i. refused_if (nat_lt instant (sym s.clock i)) refusal.Clock) ∙ ap (λ t. refused_if t refusal.Clock) later;
         follows = λ h s. clock_follows upto can h s later after fewer distinct' counted;
         tells = λ h s. clock_texts upto can h s;
-        stand = λ h s. places ∙ clock_spans upto can h s (length first) ∙ ap (spans (language_of engine.labels) h (Clock instant)) (sym from);
+        stand = λ h s. places ∙ clock_spans upto can h s (length first) ∙ ap (spans (language_of engine.handed) h (Clock instant)) (sym from);
         ends = λ h s. clock_ends upto can h s;
         counted = refl;
         named = refl;

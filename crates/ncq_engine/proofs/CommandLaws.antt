@@ -74,9 +74,9 @@ module _ (engine : EngineState) (out : List ℕ) (applied : Answered) (out' : Li
           changes = declares.changes ∙ s.changes ∙ sym (zero-add (changes h));
           clock = s.clock;
           creates = s.creates ∙ sym (zero-add (creates_of h));
-          subscriptions = keep_quiet engine.labels h (Declare name root key) (λ _. refl) engine.subscriptions s.subscriptions;
+          subscriptions = keep_quiet engine.handed h (Declare name root key) (λ _. refl) engine.subscriptions s.subscriptions;
           contents = contents_stay engine.table.files h (Declare name root key) (zero-add (changes h)) s.contents;
-          counted = counted_quietly h (Declare name root key) (λ _. refl) engine.distinct (live h) s.counted;
+          counted = counted_quietly engine.handed.relations h (Declare name root key) (λ _. refl) engine.distinct (live h) s.counted;
           rising = rises_quietly h (Declare name root key) refl s.rising;
         };
         tells = λ h s. ap (flat_map _) (sym (told_nobody h (Declare name root key) (λ _. refl)));
@@ -86,11 +86,11 @@ module _ (engine : EngineState) (out : List ℕ) (applied : Answered) (out' : Li
         named = refl;
       }) text places
 
-  named_alike : (name : List ℕ) (h : History) (s : Subscription) (m : Kept) → Keeps engine.labels h s m → is_named name s ≡ bytes_eq name m.name
+  named_alike : (name : List ℕ) (h : History) (s : Subscription) (m : Kept) → Keeps engine.handed h s m → is_named name s ≡ bytes_eq name m.name
   named_alike name h s m k = ap (bytes_eq name) (sym k.name)
 
-  pub taken_is : (name : List ℕ) (h : History) → Pairwise (Keeps engine.labels h) (live h) engine.subscriptions → is_taken name h ≡ list_any (λ m. bytes_eq name m.name) engine.subscriptions
-  taken_is name h p = pairwise_any (Keeps engine.labels h) (is_named name) (λ m. bytes_eq name m.name) (named_alike name h) (live h) engine.subscriptions p
+  pub taken_is : (name : List ℕ) (h : History) → Pairwise (Keeps engine.handed h) (live h) engine.subscriptions → is_taken name h ≡ list_any (λ m. bytes_eq name m.name) engine.subscriptions
+  taken_is name h p = pairwise_any (Keeps engine.handed h) (is_named name) (λ m. bytes_eq name m.name) (named_alike name h) (live h) engine.subscriptions p
 
   -- the subscription of the name is gone, and its files and counts with it
   pub delete_accepted : (name : List ℕ) (left : List Kept) (table' : TableState) → list_any (λ m. bytes_eq name m.name) engine.subscriptions ≡ true → left ≡ filter (λ m. not (bytes_eq name m.name)) engine.subscriptions → AreOf engine.table.files table'.files
@@ -108,8 +108,8 @@ module _ (engine : EngineState) (out : List ℕ) (applied : Answered) (out' : Li
           creates = s.creates ∙ sym (zero-add (creates_of h));
           subscriptions = left_kept h s;
           contents = contents_left engine.table.files table'.files (Delete name ∷ h) fewer (contents_stay engine.table.files h (Delete name) (zero-add (changes h)) s.contents);
-          counted = counted_left engine.labels (Delete name ∷ h) installs engine.distinct distinct' removed (live (Delete name ∷ h)) left (left_kept h s) stay
-              (each_filter (IsCounted (Delete name ∷ h) engine.distinct) (λ s. not (is_named name s)) (live h) (counted_quietly h (Delete name) (λ _. refl) engine.distinct (live h) s.counted));
+          counted = counted_left engine.handed (Delete name ∷ h) installs engine.distinct distinct' removed (live (Delete name ∷ h)) left (left_kept h s) stay
+              (each_filter (IsCounted engine.handed.relations (Delete name ∷ h) engine.distinct) (λ s. not (is_named name s)) (live h) (counted_quietly engine.handed.relations h (Delete name) (λ _. refl) engine.distinct (live h) s.counted));
           rising = rises_quietly h (Delete name) refl s.rising;
         };
         tells = λ h s. ap (flat_map _) (sym (told_nobody h (Delete name) (λ _. refl)));
@@ -119,10 +119,10 @@ module _ (engine : EngineState) (out : List ℕ) (applied : Answered) (out' : Li
         named = refl;
       }) text places
     where
-      left_kept : (h : History) → Follows engine h → Pairwise (Keeps engine.labels (Delete name ∷ h)) (live (Delete name ∷ h)) left
-      left_kept h s = subst (λ (ms : List Kept). Pairwise (Keeps engine.labels (Delete name ∷ h)) (live (Delete name ∷ h)) ms) (sym gone)
-          (pairwise_filter (Keeps engine.labels (Delete name ∷ h)) (λ s. not (is_named name s)) (λ m. not (bytes_eq name m.name)) (λ s m k. ap (λ t. not (bytes_eq name t)) (sym k.name)) (live h) engine.subscriptions
-          (keep_quiet engine.labels h (Delete name) (λ _. refl) engine.subscriptions s.subscriptions))
+      left_kept : (h : History) → Follows engine h → Pairwise (Keeps engine.handed (Delete name ∷ h)) (live (Delete name ∷ h)) left
+      left_kept h s = subst (λ (ms : List Kept). Pairwise (Keeps engine.handed (Delete name ∷ h)) (live (Delete name ∷ h)) ms) (sym gone)
+          (pairwise_filter (Keeps engine.handed (Delete name ∷ h)) (λ s. not (is_named name s)) (λ m. not (bytes_eq name m.name)) (λ s m k. ap (λ t. not (bytes_eq name t)) (sym k.name)) (live h) engine.subscriptions
+          (keep_quiet engine.handed h (Delete name) (λ _. refl) engine.subscriptions s.subscriptions))
 
 module _ (engine : EngineState) (out : List ℕ) (result : Result Answered ApplyError) (new : EngineState) (out' : List ℕ)
     (same : new ≡ record engine { count = engine.count + 1 }) (untouched : out' ≡ out) where
@@ -137,7 +137,7 @@ module _ (engine : EngineState) (out : List ℕ) (result : Result Answered Apply
   pub delete_refused : (name : List ℕ) → result ≡ Err (Refused refusal.NoName) → list_any (λ m. bytes_eq name m.name) engine.subscriptions ≡ false → Applies engine (Delete name) out result new out'
   delete_refused name is none = refuses engine (Delete name) refusal.NoName out result new out' is same untouched (λ h s.
       ap (λ t. refused_if (not t) refusal.NoName)
-      (pairwise_any (Keeps engine.labels h) (is_named name) (λ m. bytes_eq name m.name) (λ s m k. ap (bytes_eq name) (sym k.name)) (live h) engine.subscriptions s.subscriptions ∙ none))
+      (pairwise_any (Keeps engine.handed h) (is_named name) (λ m. bytes_eq name m.name) (λ s m k. ap (bytes_eq name) (sym k.name)) (live h) engine.subscriptions s.subscriptions ∙ none))
 
   -- commands that are refused whatever the history
   pub malformed_refused : (why : Refusal) → result ≡ Err (Refused why) → Applies engine (Malformed why) out result new out'

@@ -47,7 +47,7 @@ module _ (e : EngineState) (number : ℕ) (file next : KeptFile) (table : TableS
     | inr differs ↦ held other kept (sym (others other differs) ∙ there)
   ])
 
-  can_still : (w : World) → Fits table.number w table.files → (m : Kept) → CanTell e.labels e.store e.table m → IsUnder e.store number least m → CanTell e.labels e.store table m
+  can_still : (w : World) → Fits table.number w table.files → (m : Kept) → CanTell e.handed e.store e.table m → IsUnder e.store number least m → CanTell e.handed e.store table m
   can_still w fits_now m can under = elim (cases_eq m.file.0 number) [
     | inl is ↦
         let one : can.file ≡ file = one_value (subst (λ n. get e.table.files n ≡ Some can.file) is can.at) at in
@@ -97,14 +97,14 @@ module _ (e : EngineState) (number : ℕ) (file next : KeptFile) (table : TableS
         changes = i.changes;
         creates_too = i.creates_too;
         lasts = i.lasts;
-        can = each_both (CanTell e.labels e.store e.table) (IsUnder e.store number least) (CanTell e.labels e.store table) (can_still (world_in e.store) fits_now) e.subscriptions i.can (least_under e.store number e.subscriptions);
+        can = each_both (CanTell e.handed e.store e.table) (IsUnder e.store number least) (CanTell e.handed e.store table) (can_still (world_in e.store) fits_now) e.subscriptions i.can (least_under e.store number e.subscriptions);
         rise = i.rise;
         installed = i.installed;
         number = same ∙ i.number;
         fits = fits_now;
         sound = sounds i.sound;
         next = (let n = i.next in let l : table.next_file ≤ 256 * e.creates = omega (arith, n, next_file) in l);
-        serve = none_serve table e.cache nothing;
+        serve = none_serve e.handed.relations table e.cache nothing;
         counts = i.counts;
       }
 

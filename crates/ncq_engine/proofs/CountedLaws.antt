@@ -11,7 +11,7 @@ use Rattle.ncq_bag.proofs.CallerLemmas.{tells_distinct}
 use Rattle.ncq_bind.specs.Answers.{all}
 use Rattle.ncq_book.specs.declared.subscription.Subscription.{Subscription as Kept}
 use Rattle.ncq_book.specs.Books.{InstallsRise, subscription_of, watchers_of, watches}
-use Rattle.ncq_callback.specs.Labels.{Label}
+use Rattle.ncq_callback.specs.Labels.{Handed}
 use Rattle.ncq_distinct.specs.DistinctTables.{counts_at, waiting_at, DistinctTable, HaveSameCounts}
 use Rattle.ncq_event.specs.Calendars.{firing_at}
 use Rattle.ncq_event.specs.declared.firing.Firing.{Firing}
@@ -35,42 +35,43 @@ use Rattle.ncq_engine.proofs.KeptCounts.{AreRemoved}
 use Rattle.ncq_engine.proofs.Lists.{each_more}
 use Rattle.ncq_engine.proofs.NotedLaws.{any_flip}
 use Rattle.ncq_engine.proofs.NoticeLaws.{news_is}
+use Rattle.ncq_plan.specs.Relations.{Relations}
 use Rattle.ncq_engine.proofs.Worlds.{world_at_mark}
 
 -- a subscription behind a command
-module _ (h : History) (command : Command) (old new : DistinctTable) (s : Subscription) where
-  at_mark_still : (o : Option ℕ) → mark s h ≡ o → all_at s.statement.query (command ∷ h) o ≡ all_at s.statement.query h o
+module _ (relations : Relations) (h : History) (command : Command) (old new : DistinctTable) (s : Subscription) where
+  at_mark_still : (o : Option ℕ) → mark s h ≡ o → all_at relations s.statement.query (command ∷ h) o ≡ all_at relations s.statement.query h o
   at_mark_still None e = refl
-  at_mark_still (Some number) e = ap (λ w. map pyx (all s.statement.query w)) (world_at_mark number command h (mark_few s h number e))
+  at_mark_still (Some number) e = ap (λ w. map pyx (all relations s.statement.query w)) (world_at_mark number command h (mark_few s h number e))
 
   -- one that does not fire keeps its mark
-  pub counted_kept : fires s h command ≡ None → counts_at new s.install ≡ counts_at old s.install → IsCounted h old s → IsCounted (command ∷ h) new s
+  pub counted_kept : fires s h command ≡ None → counts_at new s.install ≡ counts_at old s.install → IsCounted relations h old s → IsCounted relations (command ∷ h) new s
   counted_kept quiet same counted asked = λ key. ap (λ counts. stands counts key) same ∙ counted asked key ∙ ap (count_in key) (sym answers)
     where
-      answers : all_at s.statement.query (command ∷ h) (mark s (command ∷ h)) ≡ all_at s.statement.query h (mark s h)
-      answers = (λ i. all_at s.statement.query (command ∷ h) (marked (quiet i) (changes (command ∷ h)) (mark s h))) ∙ at_mark_still (mark s h) refl
+      answers : all_at relations s.statement.query (command ∷ h) (mark s (command ∷ h)) ≡ all_at relations s.statement.query h (mark s h)
+      answers = (λ i. all_at relations s.statement.query (command ∷ h) (marked (quiet i) (changes (command ∷ h)) (mark s h))) ∙ at_mark_still (mark s h) refl
 
   -- one that fires has the counts of now
-  pub counted_fired : (instant : ℕ) → fires s h command ≡ Some instant → counts_at new s.install ≡ after (counts_at old s.install) (all_news s h command) → IsCounted h old s → IsCounted (command ∷ h) new s
+  pub counted_fired : (instant : ℕ) → fires s h command ≡ Some instant → counts_at new s.install ≡ after (counts_at old s.install) (all_news relations s h command) → IsCounted relations h old s → IsCounted relations (command ∷ h) new s
   counted_fired instant fired same counted asked =
       λ key. ap (λ counts. stands counts key) same
-      ∙ (tells_distinct (counts_at old s.install) (all_over s.statement.query (sources (command ∷ h))) (all_at s.statement.query h (mark s h)) (counted asked)).after key
+      ∙ (tells_distinct (counts_at old s.install) (all_over relations s.statement.query (sources (command ∷ h))) (all_at relations s.statement.query h (mark s h)) (counted asked)).after key
       ∙ ap (count_in key) (sym answers)
     where
       whole : up_to (changes (command ∷ h)) (command ∷ h) ≡ command ∷ h
       whole = up_to_whole (changes (command ∷ h)) (command ∷ h) (let w : nat_le (changes (command ∷ h)) (changes (command ∷ h)) ≡ true = grind (arith, nat_tests) in w)
 
-      answers : all_at s.statement.query (command ∷ h) (mark s (command ∷ h)) ≡ all_over s.statement.query (sources (command ∷ h))
-      answers = (λ i. all_at s.statement.query (command ∷ h) (marked (fired i) (changes (command ∷ h)) (mark s h))) ∙ ap (λ (g : History). all_over s.statement.query (sources g)) whole
+      answers : all_at relations s.statement.query (command ∷ h) (mark s (command ∷ h)) ≡ all_over relations s.statement.query (sources (command ∷ h))
+      answers = (λ i. all_at relations s.statement.query (command ∷ h) (marked (fired i) (changes (command ∷ h)) (mark s h))) ∙ ap (λ (g : History). all_over relations s.statement.query (sources g)) whole
 
   -- one whose counts change by what its rows tell, where it is asked: as it fires, or its rows tell nothing
-  module _ (news : List Difference) (is_news : news ≡ all_news s h command) (asked : Bool)
-      (settled : counts_at new s.install ≡ after (counts_at old s.install) (if asked then news else [])) (counted : IsCounted h old s) where
+  module _ (news : List Difference) (is_news : news ≡ all_news relations s h command) (asked : Bool)
+      (settled : counts_at new s.install ≡ after (counts_at old s.install) (if asked then news else [])) (counted : IsCounted relations h old s) where
     nothing : news ≡ [] → (b : Bool) → (if b then news else []) ≡ []
     nothing none true = none
     nothing none false = refl
 
-    by : (o : Option ℕ) → fires s h command ≡ o → (asked ≡ is_some o) ⊎ (news ≡ []) → IsCounted (command ∷ h) new s
+    by : (o : Option ℕ) → fires s h command ≡ o → (asked ≡ is_some o) ⊎ (news ≡ []) → IsCounted relations (command ∷ h) new s
     by None e (inl same) = counted_kept e (settled ∙ (λ i. after (counts_at old s.install) (if same i then news else []))) counted
     by None e (inr none) = counted_kept e (settled ∙ ap (after (counts_at old s.install)) (nothing none asked)) counted
     by (Some instant) e (inl same) =
@@ -78,49 +79,49 @@ module _ (h : History) (command : Command) (old new : DistinctTable) (s : Subscr
     by (Some instant) e (inr none) =
         counted_fired instant e (settled ∙ ap (after (counts_at old s.install)) (nothing none asked ∙ sym none ∙ is_news)) counted
 
-    pub counted_asked : (asked ≡ is_some (fires s h command)) ⊎ (news ≡ []) → IsCounted (command ∷ h) new s
+    pub counted_asked : (asked ≡ is_some (fires s h command)) ⊎ (news ≡ []) → IsCounted relations (command ∷ h) new s
     counted_asked told = by (fires s h command) refl told
 
 -- what waited for the firings was settled
-pub record HasSettled (store : StoreState) (live_table : LiveState) (firings : List Firing) (old new : DistinctTable) : Type 0 where
+pub record HasSettled (relations : Relations) (store : StoreState) (live_table : LiveState) (firings : List Firing) (old new : DistinctTable) : Type 0 where
   pub waited : DistinctTable
   pub same : HaveSameCounts old waited
-  pub waits : Awaits store live_table firings waited
+  pub waits : Awaits relations store live_table firings waited
   pub settled : (any : ℕ) → counts_at new any ≡ after (counts_at waited any) (waiting_at waited any)
 
 -- the counts of a subscription then
-pub settled_at : (store : StoreState) (live_table : LiveState) (firings : List Firing) (old new : DistinctTable) → HasSettled store live_table firings old new → (m : Kept) → subscription_of m.install live_table.subscriptions ≡ Some m
-    → counts_at new m.install ≡ after (counts_at old m.install) (if m.distinct && is_fired firings m then news_in store live_table.table.files m else [])
-settled_at store live_table firings old new s m found =
-    s.settled m.install ∙ (λ i. after (s.same m.install i) ((s.waits m.install ∙ ap (awaited_of store live_table.table.files firings) found) i))
+pub settled_at : (relations : Relations) (store : StoreState) (live_table : LiveState) (firings : List Firing) (old new : DistinctTable) → HasSettled relations store live_table firings old new → (m : Kept) → subscription_of m.install live_table.subscriptions ≡ Some m
+    → counts_at new m.install ≡ after (counts_at old m.install) (if m.distinct && is_fired firings m then news_in relations store live_table.table.files m else [])
+settled_at relations store live_table firings old new s m found =
+    s.settled m.install ∙ (λ i. after (s.same m.install i) ((s.waits m.install ∙ ap (awaited_of relations store live_table.table.files firings) found) i))
 
 -- a subscription is asked as it fires, or its rows tell nothing
-abbrev pub IsAskedAs : StoreState → Files → List Firing → (Kept → Option ℕ) → Kept → Type 0
-IsAskedAs store files firings instant m = (is_fired firings m ≡ is_some (instant m)) ⊎ (news_in store files m ≡ [])
+abbrev pub IsAskedAs : Relations → StoreState → Files → List Firing → (Kept → Option ℕ) → Kept → Type 0
+IsAskedAs relations store files firings instant m = (is_fired firings m ≡ is_some (instant m)) ⊎ (news_in relations store files m ≡ [])
 
 -- the counts of all subscriptions follow a command at which these fire
-module _ (labels : List Label) (h : History) (command : Command) (store : StoreState) (live_table : LiveState)
+module _ (handed : Handed) (h : History) (command : Command) (store : StoreState) (live_table : LiveState)
     (last : (name : List ℕ) → last_in store name ≡ last_change name h) (rising : IsRising h) (contents : AreContents live_table.table.files (command ∷ h))
-    (upto : AreUpTo (changes (command ∷ h)) live_table.table.files) (instant : Kept → Option ℕ) (firings : List Firing) (old new : DistinctTable) (settles : HasSettled store live_table firings old new) where
+    (upto : AreUpTo (changes (command ∷ h)) live_table.table.files) (instant : Kept → Option ℕ) (firings : List Firing) (old new : DistinctTable) (settles : HasSettled handed.relations store live_table firings old new) where
   abbrev Fires : Subscription → Kept → Type 0
-  Fires s m = Keeps labels h s m × (instant m ≡ fires s h command)
+  Fires s m = Keeps handed h s m × (instant m ≡ fires s h command)
 
-  follows_one : (s : Subscription) (m : Kept) → Fires s m → CanTell labels store live_table.table m → subscription_of m.install live_table.subscriptions ≡ Some m
-      → IsAskedAs store live_table.table.files firings instant m → IsCounted h old s → IsCounted (command ∷ h) new s
+  follows_one : (s : Subscription) (m : Kept) → Fires s m → CanTell handed store live_table.table m → subscription_of m.install live_table.subscriptions ≡ Some m
+      → IsAskedAs handed.relations store live_table.table.files firings instant m → IsCounted handed.relations h old s → IsCounted handed.relations (command ∷ h) new s
   follows_one s m f can found asks counted asked =
       let k = f.0 in
-      counted_asked h command old new s (news_in store live_table.table.files m) (news_is labels h command store live_table.table last rising contents upto s m k can) (is_fired firings m)
-      (subst (λ install. counts_at new install ≡ after (counts_at old install) (if is_fired firings m then news_in store live_table.table.files m else [])) k.install
-      (settled_at store live_table firings old new settles m found
-      ∙ (λ i. after (counts_at old m.install) (if (k.distinct ∙ asked) i && is_fired firings m then news_in store live_table.table.files m else []))))
+      counted_asked handed.relations h command old new s (news_in handed.relations store live_table.table.files m) (news_is handed h command store live_table.table last rising contents upto s m k can) (is_fired firings m)
+      (subst (λ install. counts_at new install ≡ after (counts_at old install) (if is_fired firings m then news_in handed.relations store live_table.table.files m else [])) k.install
+      (settled_at handed.relations store live_table firings old new settles m found
+      ∙ (λ i. after (counts_at old m.install) (if (k.distinct ∙ asked) i && is_fired firings m then news_in handed.relations store live_table.table.files m else []))))
       counted (told asks) asked
     where
-      told : IsAskedAs store live_table.table.files firings instant m → (is_fired firings m ≡ is_some (fires s h command)) ⊎ (news_in store live_table.table.files m ≡ [])
+      told : IsAskedAs handed.relations store live_table.table.files firings instant m → (is_fired firings m ≡ is_some (fires s h command)) ⊎ (news_in handed.relations store live_table.table.files m ≡ [])
       told (inl same) = inl (same ∙ ap is_some f.1)
       told (inr none) = inr none
 
-  pub counts_follow : (subs : List Subscription) (ms : List Kept) → Pairwise Fires subs ms → AllByRecursion (CanTell labels store live_table.table) ms → AreFound live_table.subscriptions ms
-      → AllByRecursion (IsAskedAs store live_table.table.files firings instant) ms → AllByRecursion (IsCounted h old) subs → AllByRecursion (IsCounted (command ∷ h) new) subs
+  pub counts_follow : (subs : List Subscription) (ms : List Kept) → Pairwise Fires subs ms → AllByRecursion (CanTell handed store live_table.table) ms → AreFound live_table.subscriptions ms
+      → AllByRecursion (IsAskedAs handed.relations store live_table.table.files firings instant) ms → AllByRecursion (IsCounted handed.relations h old) subs → AllByRecursion (IsCounted handed.relations (command ∷ h) new) subs
   counts_follow [] [] p can found asks counted = tt
   counts_follow [] (m ∷ ms) p can found asks counted = absurd p
   counts_follow (s ∷ subs) [] p can found asks counted = absurd p
@@ -128,10 +129,10 @@ module _ (labels : List Label) (h : History) (command : Command) (store : StoreS
       (follows_one s m p.0 can.0 found.0 asks.0 counted.0, counts_follow subs ms p.1 can.1 found.1 asks.1 counted.1)
 
 -- where nobody fires and the counts are the same, they stay right
-pub counted_quietly : (h : History) (command : Command) → ((s : Subscription) → fires s h command ≡ None) → (distinct : DistinctTable) (subs : List Subscription)
-    → AllByRecursion (IsCounted h distinct) subs → AllByRecursion (IsCounted (command ∷ h) distinct) subs
-counted_quietly h command quiet distinct =
-    each_more (IsCounted h distinct) (IsCounted (command ∷ h) distinct) (λ s counted. counted_kept h command distinct distinct s (quiet s) refl counted)
+pub counted_quietly : (relations : Relations) (h : History) (command : Command) → ((s : Subscription) → fires s h command ≡ None) → (distinct : DistinctTable) (subs : List Subscription)
+    → AllByRecursion (IsCounted relations h distinct) subs → AllByRecursion (IsCounted relations (command ∷ h) distinct) subs
+counted_quietly relations h command quiet distinct =
+    each_more (IsCounted relations h distinct) (IsCounted relations (command ∷ h) distinct) (λ s counted. counted_kept relations h command distinct distinct s (quiet s) refl counted)
 
 -- those that are left are none of those that went
 pub stay_out : (installs : List ℕ) (ms : List Kept) → AllByRecursion (λ m. list_any (nat_eq m.install) installs ≡ false) (without installs ms)
@@ -143,16 +144,16 @@ stay_out installs (m ∷ ms) =
     ] refl
 
 -- and keep their counts
-module _ (labels : List Label) (h : History) (installs : List ℕ) (old new : DistinctTable) (removed : AreRemoved installs old new) where
-  pub counted_left : (subs : List Subscription) (ms : List Kept) → Pairwise (Keeps labels h) subs ms → AllByRecursion (λ m. list_any (nat_eq m.install) installs ≡ false) ms
-      → AllByRecursion (IsCounted h old) subs → AllByRecursion (IsCounted h new) subs
+module _ (handed : Handed) (h : History) (installs : List ℕ) (old new : DistinctTable) (removed : AreRemoved installs old new) where
+  pub counted_left : (subs : List Subscription) (ms : List Kept) → Pairwise (Keeps handed h) subs ms → AllByRecursion (λ m. list_any (nat_eq m.install) installs ≡ false) ms
+      → AllByRecursion (IsCounted handed.relations h old) subs → AllByRecursion (IsCounted handed.relations h new) subs
   counted_left [] [] p out counted = tt
   counted_left [] (m ∷ ms) p out counted = absurd p
   counted_left (s ∷ subs) [] p out counted = absurd p
   counted_left (s ∷ subs) (m ∷ ms) p out counted =
       let same : counts_at new s.install ≡ counts_at old s.install =
       subst (λ install. counts_at new install ≡ counts_at old install) p.0.install (removed m.install ∙ (λ i. if out.0 i then empty else counts_at old m.install)) in
-      (λ asked. subst (λ counts. AreCountsOf counts (all_at s.statement.query h (mark s h))) (sym same) (counted.0 asked), counted_left subs ms p.1 out.1 counted.1)
+      (λ asked. subst (λ counts. AreCountsOf counts (all_at handed.relations s.statement.query h (mark s h))) (sym same) (counted.0 asked), counted_left subs ms p.1 out.1 counted.1)
 
 -- the firings at a change are those of the subscriptions that watch a file that got rows and have started
 module _ (clock : ℕ) (all : List Kept) (fed : List ℕ) where

@@ -11,7 +11,7 @@ use Rattle.ncq_book.specs.declared.subscription.Subscription.{Subscription as Ke
 use Rattle.ncq_book.specs.Books.{alike, InstallsRise, is_of, subscription_of}
 use Rattle.ncq_book.proofs.Lists.{each_leads}
 use Rattle.ncq_cache.specs.Cached.{Cached}
-use Rattle.ncq_callback.specs.Labels.{Label}
+use Rattle.ncq_callback.specs.Labels.{Handed}
 use Rattle.ncq_change.specs.Stores.{world_in}
 use Rattle.ncq_distinct.specs.DistinctTables.{DistinctTable}
 use Rattle.ncq_event.specs.declared.firing.Firing.{Firing}
@@ -83,19 +83,19 @@ pub record IsStarting (live_table : LiveState) (install : ℕ) (firings : List F
   pub slice_is : firings ≡ kept
 
 -- what was written
-pub record IsToldFirst (inside : EngineState) (known : List Label) (live_table : LiveState) (firings : List Firing) (line out' : List ℕ) (places : List Span) : Type 0 where
+pub record IsToldFirst (inside : EngineState) (known : Handed) (live_table : LiveState) (firings : List Firing) (line out' : List ℕ) (places : List Span) : Type 0 where
   pub text : out' ≡ line ++ flat_map (firing_text known inside.store live_table.table.files inside.distinct live_table.subscriptions) firings
   pub stand : places ≡ firing_spans known inside.store live_table.table.files inside.distinct live_table.subscriptions (length line) firings
 
 -- the statement and what was found of it
 pub record IsRead (e : EngineState) (statement : Statement) (query : NormalQuery) (action : ℕ) : Type 0 where
   pub whole : IsWhole statement
-  pub binds : Binds statement.query (roots_in e.store) (Ok query)
+  pub binds : Binds e.handed.relations statement.query (roots_in e.store) (Ok query)
   pub formed : IsWellFormed query
-  pub within : action < length e.labels
-  pub kind : kind_at e.labels action ≡ kind_in statement.action e.labels
-  pub named : name_at e.labels action ≡ Some statement.action
-  pub fitting : is_at_odds (kind_in statement.action e.labels) statement.argument ≡ false
+  pub within : action < length e.handed.labels
+  pub kind : kind_at e.handed.labels action ≡ kind_in statement.action e.handed.labels
+  pub named : name_at e.handed.labels action ≡ Some statement.action
+  pub fitting : is_at_odds (kind_in statement.action e.handed.labels) statement.argument ≡ false
   pub free : list_any (λ m. bytes_eq statement.name m.name) e.subscriptions ≡ false
   pub timely : is_expired (timed statement e.clock) (timed statement e.clock).start ≡ false
 
@@ -120,9 +120,9 @@ module _ (e : EngineState) (statement : Statement) (query : NormalQuery) (action
     fits_now : Fits live_table.table.number (world_in e.store) live_table.table.files
     fits_now = subst (λ n. Fits n (world_in e.store) live_table.table.files) (sym inn.installed.same) inn.fits
 
-    own_can : CanTell e.labels e.store live_table.table (own inn.file)
+    own_can : CanTell e.handed e.store live_table.table (own inn.file)
     own_can =
-        can_new e.labels e.store live_table.table (world_in e.store) fits_now (own inn.file) read.formed read.within refl inn.installed.stands
+        can_new e.handed e.store live_table.table (world_in e.store) fits_now (own inn.file) read.formed read.within refl inn.installed.stands
         (λ any. asked_is statement read.whole any ∙ ap (λ (q : NormalQuery). latest_in any (scanned_by (plan_of q))) (sym read.binds.answer)
         ∙ ap (latest_in any) (sym (either_scans (choice_of query (alike (bare_of query) e.subscriptions)) query read.formed.some)))
 
@@ -134,7 +134,7 @@ module _ (e : EngineState) (statement : Statement) (query : NormalQuery) (action
     rise : InstallsRise all
     rise = added.rise
 
-    can : AllByRecursion (CanTell e.labels e.store live_table.table) all
+    can : AllByRecursion (CanTell e.handed e.store live_table.table) all
     can = added.can
 
     upto : AreUpTo e.store.changes live_table.table.files
@@ -151,35 +151,35 @@ module _ (e : EngineState) (statement : Statement) (query : NormalQuery) (action
       abbrev told_table : LiveState
       told_table = record { table = live_table.table; subscriptions = all; instant = e.clock }
 
-      noted_holds : (distinct : DistinctTable) → HasSettled e.store told_table firings e.distinct distinct
+      noted_holds : (distinct : DistinctTable) → HasSettled e.handed.relations e.store told_table firings e.distinct distinct
           → Invariant (record e { count = e.count + 1; creates = e.creates + 1; subscriptions = noted_by e.store.changes firings all; table = live_table.table; distinct = distinct })
       noted_holds distinct s =
           subst (λ (ms : List Kept). Invariant (record e { count = e.count + 1; creates = e.creates + 1; subscriptions = ms; table = live_table.table; distinct = distinct })) (sym noted_is)
           (invariant_noted e.store (λ m. is_some (created_instant e.clock (e.creates + 1) m)) (record e { count = e.count + 1; creates = e.creates + 1; subscriptions = all; table = live_table.table; distinct = distinct }) refl inn.facts.up_to
-          (invariant_counts (record e { count = e.count + 1; creates = e.creates + 1; subscriptions = all; table = live_table.table }) distinct (counts_settled e.store told_table firings e.distinct s.waited distinct added.counts s.waits s.same s.settled) added))
+          (invariant_counts (record e { count = e.count + 1; creates = e.creates + 1; subscriptions = all; table = live_table.table }) distinct (counts_settled e.handed.relations e.store told_table firings e.distinct s.waited distinct added.counts s.waits s.same s.settled) added))
 
       -- the counts follow
-      counts_created : (distinct : DistinctTable) → HasSettled e.store told_table firings e.distinct distinct
-          → (h : History) → Follows e h → AreContents live_table.table.files (Create statement ∷ h) → AreUpTo (changes (Create statement ∷ h)) live_table.table.files → AreCounted (Create statement ∷ h) distinct
+      counts_created : (distinct : DistinctTable) → HasSettled e.handed.relations e.store told_table firings e.distinct distinct
+          → (h : History) → Follows e h → AreContents live_table.table.files (Create statement ∷ h) → AreUpTo (changes (Create statement ∷ h)) live_table.table.files → AreCounted e.handed.relations (Create statement ∷ h) distinct
       counts_created distinct settles h s contents upto_now =
-          counts_follow e.labels h (Create statement) e.store told_table s.last s.rising contents upto_now (created_instant e.clock (e.creates + 1)) firings e.distinct distinct settles (live h ++ created statement h ∷ []) all
+          counts_follow e.handed h (Create statement) e.store told_table s.last s.rising contents upto_now (created_instant e.clock (e.creates + 1)) firings e.distinct distinct settles (live h ++ created statement h ∷ []) all
           (firing e live_table.table statement query action inn.file read.whole read.binds read.kind read.named inn.installed holds.number inn.fits upto can holds.installed holds.counts h s) can (found_each all rise)
-          (each_more (λ m. list_any (λ f. f.install == m.install) firings ≡ is_some (created_instant e.clock (e.creates + 1) m)) (IsAskedAs e.store live_table.table.files firings (created_instant e.clock (e.creates + 1)))
+          (each_more (λ m. list_any (λ f. f.install == m.install) firings ≡ is_some (created_instant e.clock (e.creates + 1) m)) (IsAskedAs e.handed.relations e.store live_table.table.files firings (created_instant e.clock (e.creates + 1)))
           (λ m fires. inl (any_flip m firings ∙ fires)) all
           (create_fires e.store e.clock e.subscriptions (own inn.file) rise (below inn.file) starting.installs starting.kept firings starting.installs_is starting.kept_is starting.slice_is))
-          (each_push (IsCounted h e.distinct) (live h) (created statement h) s.counted
+          (each_push (IsCounted e.handed.relations h e.distinct) (live h) (created statement h) s.counted
           (own_counted e live_table.table statement query action inn.file read.whole read.binds read.kind read.named inn.installed holds.number inn.fits upto can holds.installed holds.counts h s))
 
-      applies : (distinct : DistinctTable) → HasSettled e.store told_table firings e.distinct distinct → (out line out' : List ℕ) (places : List Span) (applied : Answered) → line ≡ out ++ ok_text (e.count + 1)
-          → IsToldFirst (counted_engine e) e.labels told_table firings line out' places
+      applies : (distinct : DistinctTable) → HasSettled e.handed.relations e.store told_table firings e.distinct distinct → (out line out' : List ℕ) (places : List Span) (applied : Answered) → line ≡ out ++ ok_text (e.count + 1)
+          → IsToldFirst (counted_engine e) e.handed told_table firings line out' places
           → applied.from ≡ length line → applied.to ≡ length out' → applied.spans ≡ places
           → Applies e (Create statement) out (Ok applied) (record e { count = e.count + 1; creates = e.creates + 1; subscriptions = noted_by e.store.changes firings all; table = live_table.table; distinct = distinct }) out'
       applies distinct settles out line out' places applied line_is told from to notices =
           create_accepted e live_table.table statement query action inn.file read.whole read.binds read.kind read.named inn.installed holds.number inn.fits upto
           read.fitting read.free read.timely can holds.installed holds.counts distinct (counts_created distinct settles) out line out' applied (noted_by e.store.changes firings all) line_is
-          (told.text ∙ ap (λ text. line ++ text) (create_text e.store e.clock e.subscriptions (own inn.file) rise (below inn.file) starting.installs starting.kept firings starting.installs_is starting.kept_is starting.slice_is e.labels live_table.table.files e.distinct))
+          (told.text ∙ ap (λ text. line ++ text) (create_text e.store e.clock e.subscriptions (own inn.file) rise (below inn.file) starting.installs starting.kept firings starting.installs_is starting.kept_is starting.slice_is e.handed live_table.table.files e.distinct))
           from to
-          (notices ∙ told.stand ∙ create_place e.store e.clock e.subscriptions (own inn.file) rise (below inn.file) starting.installs starting.kept firings starting.installs_is starting.kept_is starting.slice_is e.labels live_table.table.files e.distinct (length line))
+          (notices ∙ told.stand ∙ create_place e.store e.clock e.subscriptions (own inn.file) rise (below inn.file) starting.installs starting.kept firings starting.installs_is starting.kept_is starting.slice_is e.handed live_table.table.files e.distinct (length line))
           noted_is
 
 -- what was read of a subscription's statement
@@ -207,20 +207,20 @@ pub above_is : (e : EngineState) (statement : Statement) (m : Kept) → IsSubscr
 above_is e statement m i holds = above_all e.creates e.subscriptions m.install holds.installed (ap (λ (k : Kept). k.install) i.made)
 
 -- it is one, as the calls of a create tell
-pub subscription_of_it : (e : EngineState) (known : List Label) → e.labels ≡ known → (statement : Statement) (query : NormalQuery) (action : ℕ) (timing : Timing) (subscription : Kept) → timing ≡ timed statement e.clock
+pub subscription_of_it : (e : EngineState) (known : Handed) → e.handed ≡ known → (statement : Statement) (query : NormalQuery) (action : ℕ) (timing : Timing) (subscription : Kept) → timing ≡ timed statement e.clock
     → subscription ≡ new_subscription statement query (alike (bare_of query) e.subscriptions) timing action e.creates subscription.file
-    → IsWhole statement → Binds statement.query (roots_in e.store) (Ok query) → IsWellFormed query → action < length known → kind_at known action ≡ kind_in statement.action known → name_at known action ≡ Some statement.action
-    → is_at_odds (kind_at known action) statement.argument ≡ false → list_any (λ m. bytes_eq statement.name m.name) e.subscriptions ≡ false → is_expired timing timing.start ≡ false
+    → IsWhole statement → Binds e.handed.relations statement.query (roots_in e.store) (Ok query) → IsWellFormed query → action < length known.labels → kind_at known.labels action ≡ kind_in statement.action known.labels → name_at known.labels action ≡ Some statement.action
+    → is_at_odds (kind_at known.labels action) statement.argument ≡ false → list_any (λ m. bytes_eq statement.name m.name) e.subscriptions ≡ false → is_expired timing timing.start ≡ false
     → IsSubscriptionOf e statement subscription
 subscription_of_it e known handled statement query action timing subscription now one whole binds formed within kind named fits free late =
     subst (IsSubscriptionOf e statement) (sym subscription_is) (record {
       whole = whole;
       binds = binds;
       formed = formed;
-      within = subst (λ (l : List Label). action < length l) (sym handled) within;
-      kind = subst (λ (l : List Label). kind_at l action ≡ kind_in statement.action l) (sym handled) kind;
-      action = subst (λ (l : List Label). name_at l action ≡ Some statement.action) (sym handled) named;
-      fitting = subst (λ (l : List Label). is_at_odds (kind_in statement.action l) statement.argument ≡ false) (sym handled) (ap (λ k. is_at_odds k statement.argument) (sym kind) ∙ fits);
+      within = subst (λ (l : Handed). action < length l.labels) (sym handled) within;
+      kind = subst (λ (l : Handed). kind_at l.labels action ≡ kind_in statement.action l.labels) (sym handled) kind;
+      action = subst (λ (l : Handed). name_at l.labels action ≡ Some statement.action) (sym handled) named;
+      fitting = subst (λ (l : Handed). is_at_odds (kind_in statement.action l.labels) statement.argument ≡ false) (sym handled) (ap (λ k. is_at_odds k statement.argument) (sym kind) ∙ fits);
       free = free;
       timely = subst (λ (t : Timing). is_expired t t.start ≡ false) now late;
       made = refl;
@@ -266,14 +266,14 @@ module _ {e : EngineState} {statement : Statement} {m : Kept} {plan : Expr} {liv
   full = e.subscriptions ++ made_with inn.file ∷ []
 
   -- the subscriptions can be told
-  pub come_can : (known : List Label) → e.labels ≡ known → AllByRecursion (CanTell known e.store live_table.table) live_table.subscriptions
+  pub come_can : (known : Handed) → e.handed ≡ known → AllByRecursion (CanTell known e.store live_table.table) live_table.subscriptions
   come_can known handled =
       subst (λ (ms : List Kept). AllByRecursion (CanTell known e.store live_table.table) ms) (sym inn.subscriptions)
-      (subst (λ (l : List Label). AllByRecursion (CanTell l e.store live_table.table) full) handled (can e statement m.query m.action c.holds read live_table inn))
+      (subst (λ (l : Handed). AllByRecursion (CanTell l e.store live_table.table) full) handled (can e statement m.query m.action c.holds read live_table inn))
 
   -- what is kept of what was told serves
-  pub come_serve : AllServe live_table.table e.cache
-  come_serve = serve_installed (plan_new e m.query) e.table live_table.table inn.file.0 inn.installed inn.installed.order e.cache c.holds.serve
+  pub come_serve : AllServe e.handed.relations live_table.table e.cache
+  come_serve = serve_installed e.handed.relations (plan_new e m.query) e.table live_table.table inn.file.0 inn.installed inn.installed.order e.cache c.holds.serve
 
   module _ (firings : List Firing) (started : firings ≡ flat_map (started_at live_table.instant live_table.subscriptions) ((e.creates + 1) ∷ []))
       (after : LiveState) (noted : after ≡ record live_table { subscriptions = noted_by e.store.changes firings live_table.subscriptions }) where
@@ -285,29 +285,29 @@ module _ {e : EngineState} {statement : Statement} {m : Kept} {plan : Expr} {liv
     after_is = noted ∙ (λ i. record { table = live_table.table; subscriptions = noted_by e.store.changes firings (inn.subscriptions i); instant = inn.instant i })
 
     -- what waited for it was settled
-    full_settled : (distinct : DistinctTable) → HasSettled e.store live_table firings e.distinct distinct → HasSettled e.store (record { table = live_table.table; subscriptions = full; instant = e.clock }) firings e.distinct distinct
+    full_settled : (distinct : DistinctTable) → HasSettled e.handed.relations e.store live_table firings e.distinct distinct → HasSettled e.handed.relations e.store (record { table = live_table.table; subscriptions = full; instant = e.clock }) firings e.distinct distinct
     full_settled distinct =
-        subst (λ (l : LiveState). HasSettled e.store l firings e.distinct distinct) (λ i. record { table = live_table.table; subscriptions = inn.subscriptions i; instant = inn.instant i })
+        subst (λ (l : LiveState). HasSettled e.handed.relations e.store l firings e.distinct distinct) (λ i. record { table = live_table.table; subscriptions = inn.subscriptions i; instant = inn.instant i })
 
     -- what holds behind it
-    pub come_holds : (cache : List Cached) (distinct : DistinctTable) → Grows live_table.table e.cache cache → HasSettled e.store live_table firings e.distinct distinct → Invariant (created_engine e after cache distinct)
+    pub come_holds : (cache : List Cached) (distinct : DistinctTable) → Grows e.handed.relations live_table.table e.cache cache → HasSettled e.handed.relations e.store live_table firings e.distinct distinct → Invariant (created_engine e after cache distinct)
     come_holds cache distinct grows settles =
         subst (λ (l : LiveState). Invariant (created_engine e l cache distinct)) (sym after_is)
         (invariant_cached (record e { count = e.count + 1; creates = e.creates + 1; subscriptions = noted_by e.store.changes firings full; table = live_table.table; distinct = distinct }) cache
-        (grown_serve live_table.table e.cache cache come_serve grows) (noted_holds e statement m.query m.action c.holds read live_table inn firings start distinct (full_settled distinct settles)))
+        (grown_serve e.handed.relations live_table.table e.cache cache come_serve grows) (noted_holds e statement m.query m.action c.holds read live_table inn firings start distinct (full_settled distinct settles)))
 
-    pub come_keeps : (cache : List Cached) → Grows live_table.table e.cache cache → KeepsPairs e.table e.cache after.table cache
+    pub come_keeps : (cache : List Cached) → Grows e.handed.relations live_table.table e.cache cache → KeepsPairs e.handed.relations e.table e.cache after.table cache
     come_keeps cache grows =
-        subst (λ (l : LiveState). KeepsPairs e.table e.cache l.table cache) (sym after_is)
-        (keeps_grown e.table live_table.table e.cache cache c.holds.serve (of_old_installed (plan_new e m.query) e.table live_table.table inn.file.0 inn.installed inn.installed.order) grows)
+        subst (λ (l : LiveState). KeepsPairs e.handed.relations e.table e.cache l.table cache) (sym after_is)
+        (keeps_grown e.handed.relations e.table live_table.table e.cache cache c.holds.serve (of_old_installed e.handed.relations (plan_new e m.query) e.table live_table.table inn.file.0 inn.installed inn.installed.order) grows)
 
     -- the answer to the create, by what was told of the files as they are then
-    pub come_answers : (known : List Label) → e.labels ≡ known → (out out' : List ℕ) (answered : Answered) (cache : List Cached) (distinct : DistinctTable) → HasSettled e.store live_table firings e.distinct distinct
+    pub come_answers : (known : Handed) → e.handed ≡ known → (out out' : List ℕ) (answered : Answered) (cache : List Cached) (distinct : DistinctTable) → HasSettled e.handed.relations e.store live_table firings e.distinct distinct
         → IsAnswered (e.count + 1) known e.store e.distinct live_table firings out out' answered
         → Applies e (Create statement) out (Ok answered) (created_engine e after cache distinct) out'
     come_answers known handled out out' answered cache distinct settles told =
         subst (λ (l : LiveState). Applies e (Create statement) out (Ok answered) (created_engine e l cache distinct) out') (sym after_is)
-        (let t = subst (λ (p : LiveState × List Label). IsAnswered (e.count + 1) p.1 e.store e.distinct p.0 firings out out' answered) (λ i. (record { table = live_table.table; subscriptions = inn.subscriptions i; instant = inn.instant i }, sym handled i)) told in
+        (let t = subst (λ (p : LiveState × Handed). IsAnswered (e.count + 1) p.1 e.store e.distinct p.0 firings out out' answered) (λ i. (record { table = live_table.table; subscriptions = inn.subscriptions i; instant = inn.instant i }, sym handled i)) told in
         applies_cached e (Create statement) out (Ok answered) (record e { count = e.count + 1; creates = e.creates + 1; subscriptions = noted_by e.store.changes firings full; table = live_table.table; distinct = distinct }) out' cache
         (applies e statement m.query m.action c.holds read live_table inn firings start distinct (full_settled distinct settles) out (out ++ ok_text (e.count + 1)) out' answered.spans answered refl (record { text = t.written; stand = t.spans }) t.from t.to refl))
 

@@ -15,6 +15,7 @@ use Rattle.ncq_base.specs.Keys.{ByBytes}
 use Rattle.ncq_base.specs.declared.atom.FileId.{FileId}
 use Rattle.ncq_bind.specs.Bindings.{Binds, Roots, have_roots, roots_in}
 use Rattle.ncq_bind.specs.Bound.{query_is_bound}
+use Rattle.ncq_bind.specs.Served.{are_served}
 use Rattle.ncq_bind.specs.declared.binding.BindError.{BindError}
 use Rattle.ncq_bind.specs.declared.binding.BindError.TheVariants as binding
 use Rattle.ncq_change.specs.Stores.{world_in}
@@ -65,21 +66,22 @@ use Rattle.ncq_engine.proofs.MarkLaws.{never_first}
 use Rattle.ncq_engine.proofs.TellingLoops.{pairwise_push}
 use Rattle.ncq_engine.proofs.ToldLaws.{noticed, tells_each, told_list, told_of, told_spans, told_spans_are, told_text_is}
 use Rattle.ncq_engine.specs.Spans.{spans}
+use Rattle.ncq_plan.specs.Relations.{Relations}
 use Rattle.ncq_engine.proofs.Worlds.{roots_are, world_is}
 
 -- a query that binds is not refused, and another for the fault that is found
-pub binds_freely : (query : Query) (roots : Roots) (normal : NormalQuery) → Binds query roots (Ok normal) → binding_refusal query roots ≡ None
-binds_freely query roots normal b =
-    λ i. if b.declared i then (if b.root i then (if b.bound i then None else Some refusal.Unbound) else Some refusal.Root) else Some refusal.NoSource
+pub binds_freely : (relations : Relations) (query : Query) (roots : Roots) (normal : NormalQuery) → Binds relations query roots (Ok normal) → binding_refusal relations query roots ≡ None
+binds_freely relations query roots normal b =
+    λ i. if b.declared i then (if b.root i then (if b.bound i && b.served i then None else Some refusal.Unbound) else Some refusal.Root) else Some refusal.NoSource
 
-binds_not : (query : Query) (roots : Roots) (error : BindError) (why : Refusal) → query_refusal error ≡ Some why → Binds query roots (Err error) → binding_refusal query roots ≡ Some why
-binds_not query roots binding.NoSource why e b =
-    (λ i. if b i then (if have_roots roots query.items then (if query_is_bound query then None else Some refusal.Unbound) else Some refusal.Root) else Some refusal.NoSource) ∙ e
-binds_not query roots binding.RootDiffers why e b =
-    (λ i. if b.declared i then (if b.root i then (if query_is_bound query then None else Some refusal.Unbound) else Some refusal.Root) else Some refusal.NoSource) ∙ e
-binds_not query roots binding.Unbound why e b =
+binds_not : (relations : Relations) (query : Query) (roots : Roots) (error : BindError) (why : Refusal) → query_refusal error ≡ Some why → Binds relations query roots (Err error) → binding_refusal relations query roots ≡ Some why
+binds_not relations query roots binding.NoSource why e b =
+    (λ i. if b i then (if have_roots roots query.items then (if query_is_bound query && are_served relations query.items then None else Some refusal.Unbound) else Some refusal.Root) else Some refusal.NoSource) ∙ e
+binds_not relations query roots binding.RootDiffers why e b =
+    (λ i. if b.declared i then (if b.root i then (if query_is_bound query && are_served relations query.items then None else Some refusal.Unbound) else Some refusal.Root) else Some refusal.NoSource) ∙ e
+binds_not relations query roots binding.Unbound why e b =
     (λ i. if b.declared i then (if b.root i then (if b.bound i then None else Some refusal.Unbound) else Some refusal.Root) else Some refusal.NoSource) ∙ e
-binds_not query roots binding.OutOfMemory why e b = absurd cc
+binds_not relations query roots binding.OutOfMemory why e b = absurd cc
 
 -- the subscription that a create makes
 module _ (engine : EngineState) (statement : Statement) where
@@ -87,14 +89,14 @@ module _ (engine : EngineState) (statement : Statement) where
   this = Create statement
 
   -- the first refusal, by the tests of the code
-  pub create_refusal : (taken odd late : Bool) (unbound : Option Refusal) → list_any (λ m. bytes_eq statement.name m.name) engine.subscriptions ≡ taken → binding_refusal statement.query (roots_in engine.store) ≡ unbound
-      → is_at_odds (kind_in statement.action engine.labels) statement.argument ≡ odd → is_expired (timed statement engine.clock) (start_of statement.start engine.clock) ≡ late
+  pub create_refusal : (taken odd late : Bool) (unbound : Option Refusal) → list_any (λ m. bytes_eq statement.name m.name) engine.subscriptions ≡ taken → binding_refusal engine.handed.relations statement.query (roots_in engine.store) ≡ unbound
+      → is_at_odds (kind_in statement.action engine.handed.labels) statement.argument ≡ odd → is_expired (timed statement engine.clock) (start_of statement.start engine.clock) ≡ late
       → (h : History) → Follows engine h
-      → first_refusal (language_of engine.labels) h this
+      → first_refusal (language_of engine.handed) h this
       ≡ option_or (refused_if taken refusal.NameTaken) (option_or unbound (option_or (refused_if odd refusal.Action) (refused_if late refusal.Times)))
   create_refusal taken odd late unbound t u o l h s =
-      λ i. option_or (refused_if ((pairwise_any (Keeps engine.labels h) (is_named statement.name) (λ m. bytes_eq statement.name m.name) (λ s m k. ap (bytes_eq statement.name) (sym k.name)) (live h) engine.subscriptions s.subscriptions ∙ t) i) refusal.NameTaken)
-      (option_or ((ap (binding_refusal statement.query) (roots_are engine.store (sources h) s.sources) ∙ u) i)
+      λ i. option_or (refused_if ((pairwise_any (Keeps engine.handed h) (is_named statement.name) (λ m. bytes_eq statement.name m.name) (λ s m k. ap (bytes_eq statement.name) (sym k.name)) (live h) engine.subscriptions s.subscriptions ∙ t) i) refusal.NameTaken)
+      (option_or ((ap (binding_refusal engine.handed.relations statement.query) (roots_are engine.store (sources h) s.sources) ∙ u) i)
       (option_or (refused_if (o i) refusal.Action)
       (refused_if ((ap (λ n. is_expired (timed statement n) (start_of statement.start n)) (sym s.clock) ∙ l) i) refusal.Times)))
 
@@ -102,22 +104,22 @@ module _ (engine : EngineState) (statement : Statement) where
     pub create_taken : result ≡ Err (Refused refusal.NameTaken) → list_any (λ m. bytes_eq statement.name m.name) engine.subscriptions ≡ true → Applies engine this out result new out
     create_taken is taken = refuses engine this refusal.NameTaken out result new out is same refl (create_refusal true _ _ _ taken refl refl refl)
 
-    pub create_odd : result ≡ Err (Refused refusal.Action) → list_any (λ m. bytes_eq statement.name m.name) engine.subscriptions ≡ false → (query : NormalQuery) → Binds statement.query (roots_in engine.store) (Ok query)
-        → is_at_odds (kind_in statement.action engine.labels) statement.argument ≡ true → Applies engine this out result new out
-    create_odd is free query binds odd = refuses engine this refusal.Action out result new out is same refl (create_refusal false true _ None free (binds_freely statement.query (roots_in engine.store) query binds) odd refl)
+    pub create_odd : result ≡ Err (Refused refusal.Action) → list_any (λ m. bytes_eq statement.name m.name) engine.subscriptions ≡ false → (query : NormalQuery) → Binds engine.handed.relations statement.query (roots_in engine.store) (Ok query)
+        → is_at_odds (kind_in statement.action engine.handed.labels) statement.argument ≡ true → Applies engine this out result new out
+    create_odd is free query binds odd = refuses engine this refusal.Action out result new out is same refl (create_refusal false true _ None free (binds_freely engine.handed.relations statement.query (roots_in engine.store) query binds) odd refl)
 
-    pub create_late : result ≡ Err (Refused refusal.Times) → list_any (λ m. bytes_eq statement.name m.name) engine.subscriptions ≡ false → (query : NormalQuery) → Binds statement.query (roots_in engine.store) (Ok query)
-        → is_at_odds (kind_in statement.action engine.labels) statement.argument ≡ false → is_expired (timed statement engine.clock) (start_of statement.start engine.clock) ≡ true → Applies engine this out result new out
+    pub create_late : result ≡ Err (Refused refusal.Times) → list_any (λ m. bytes_eq statement.name m.name) engine.subscriptions ≡ false → (query : NormalQuery) → Binds engine.handed.relations statement.query (roots_in engine.store) (Ok query)
+        → is_at_odds (kind_in statement.action engine.handed.labels) statement.argument ≡ false → is_expired (timed statement engine.clock) (start_of statement.start engine.clock) ≡ true → Applies engine this out result new out
     create_late is free query binds fits late =
-        refuses engine this refusal.Times out result new out is same refl (create_refusal false false true None free (binds_freely statement.query (roots_in engine.store) query binds) fits late)
+        refuses engine this refusal.Times out result new out is same refl (create_refusal false false true None free (binds_freely engine.handed.relations statement.query (roots_in engine.store) query binds) fits late)
 
   pub create_unbound : (out : List ℕ) (result : Result Answered ApplyError) (new : EngineState) (error : BindError) → IfSome (query_refusal error) (λ _. new ≡ record engine { count = engine.count + 1 }) → IfNone (query_refusal error) (new ≡ engine)
-      → result ≡ Err (refused_query error) → list_any (λ m. bytes_eq statement.name m.name) engine.subscriptions ≡ false → Binds statement.query (roots_in engine.store) (Err error) → Applies engine this out result new out
+      → result ≡ Err (refused_query error) → list_any (λ m. bytes_eq statement.name m.name) engine.subscriptions ≡ false → Binds engine.handed.relations statement.query (roots_in engine.store) (Err error) → Applies engine this out result new out
   create_unbound out result new error counted same is free binds = by (query_refusal error) refl counted same is
     where
       by : (o : Option Refusal) → query_refusal error ≡ o → IfSome o (λ _. new ≡ record engine { count = engine.count + 1 }) → IfNone o (new ≡ engine) → result ≡ Err (error_of o) → Applies engine this out result new out
       by None e counted same is = gives_up engine this out result new out is same (take-length out)
-      by (Some why) e counted same is = refuses engine this why out result new out is counted refl (create_refusal false _ _ (Some why) free (binds_not statement.query (roots_in engine.store) error why e binds) refl refl)
+      by (Some why) e counted same is = refuses engine this why out result new out is counted refl (create_refusal false _ _ (Some why) free (binds_not engine.handed.relations statement.query (roots_in engine.store) error why e binds) refl refl)
 
 -- those that are live already do not fire at a create
 old_quiet : (statement : Statement) (h : History) (s : Subscription) → s.install ≤ creates_of h → fires s h (Create statement) ≡ None
@@ -179,8 +181,8 @@ none_above most (m ∷ ms) few =
 
 -- the new subscription is kept, as it has not fired
 keeps_new : (engine : EngineState) (statement : Statement) (query : NormalQuery) (action : ℕ) (file : FileId)
-    → IsWhole statement → Binds statement.query (roots_in engine.store) (Ok query) → kind_at engine.labels action ≡ kind_in statement.action engine.labels → name_at engine.labels action ≡ Some statement.action
-    → (h : History) → Follows engine h → Keeps engine.labels h (created statement h) (new_subscription statement query (alike (bare_of query) engine.subscriptions) (timed statement engine.clock) action engine.creates file)
+    → IsWhole statement → Binds engine.handed.relations statement.query (roots_in engine.store) (Ok query) → kind_at engine.handed.labels action ≡ kind_in statement.action engine.handed.labels → name_at engine.handed.labels action ≡ Some statement.action
+    → (h : History) → Follows engine h → Keeps engine.handed h (created statement h) (new_subscription statement query (alike (bare_of query) engine.subscriptions) (timed statement engine.clock) action engine.creates file)
 keeps_new engine statement query action file whole binds kind named h s = record {
   name = refl;
   sources = refl;
@@ -209,7 +211,7 @@ keeps_new engine statement query action file whole binds kind named h s = record
         both false = refl
 
 module _ (engine : EngineState) (table : TableState) (statement : Statement) (query : NormalQuery) (action : ℕ) (file : FileId)
-    (whole : IsWhole statement) (binds : Binds statement.query (roots_in engine.store) (Ok query)) (kind : kind_at engine.labels action ≡ kind_in statement.action engine.labels) (named : name_at engine.labels action ≡ Some statement.action)
+    (whole : IsWhole statement) (binds : Binds engine.handed.relations statement.query (roots_in engine.store) (Ok query)) (kind : kind_at engine.handed.labels action ≡ kind_in statement.action engine.handed.labels) (named : name_at engine.handed.labels action ≡ Some statement.action)
     (done : IsInstalled (plan_new engine query) engine.table table file.0) (number : engine.table.number ≡ engine.store.changes) (fits : Fits engine.table.number (world_in engine.store) table.files) (upto : AreUpTo engine.store.changes table.files) where
   abbrev made : Kept
   made = new_subscription statement query (alike (bare_of query) engine.subscriptions) (timed statement engine.clock) action engine.creates file
@@ -225,13 +227,13 @@ module _ (engine : EngineState) (table : TableState) (statement : Statement) (qu
   created_subscriptions = map (λ m. fired_if (is_some (created_instant engine.clock (engine.creates + 1) m)) engine.store m) (engine.subscriptions ++ new_subscription statement query (alike (bare_of query) engine.subscriptions) (timed statement engine.clock) action engine.creates file ∷ [])
 
   abbrev pub created_list : List NoticeText
-  created_list = told_of engine.labels engine.store table.files engine.distinct (created_instant engine.clock (engine.creates + 1)) (engine.subscriptions ++ new_subscription statement query (alike (bare_of query) engine.subscriptions) (timed statement engine.clock) action engine.creates file ∷ [])
+  created_list = told_of engine.handed engine.store table.files engine.distinct (created_instant engine.clock (engine.creates + 1)) (engine.subscriptions ++ new_subscription statement query (alike (bare_of query) engine.subscriptions) (timed statement engine.clock) action engine.creates file ∷ [])
 
   -- the counts behind the create are right
   abbrev pub AreCountedBehind : DistinctTable → Type 0
-  AreCountedBehind distinct' = (h : History) → Follows engine h → AreContents table.files (Create statement ∷ h) → AreUpTo (changes (Create statement ∷ h)) table.files → AreCounted (Create statement ∷ h) distinct'
+  AreCountedBehind distinct' = (h : History) → Follows engine h → AreContents table.files (Create statement ∷ h) → AreUpTo (changes (Create statement ∷ h)) table.files → AreCounted engine.handed.relations (Create statement ∷ h) distinct'
 
-  module _ (can : AllByRecursion (CanTell engine.labels engine.store table) all) (few : InstallsAreUpTo engine.creates engine.subscriptions) (keeps : KeepsCounts engine.subscriptions engine.distinct) (h : History) (s : Follows engine h) where
+  module _ (can : AllByRecursion (CanTell engine.handed engine.store table) all) (few : InstallsAreUpTo engine.creates engine.subscriptions) (keeps : KeepsCounts engine.subscriptions engine.distinct) (h : History) (s : Follows engine h) where
     abbrev own : Subscription
     own = created statement h
 
@@ -258,39 +260,39 @@ module _ (engine : EngineState) (table : TableState) (statement : Statement) (qu
     old_first sub before at fired based = absurd (let bad : Some at ≡ None = sym fired ∙ old_quiet statement h sub before in cc)
 
     -- each subscription fires where its subscription does
-    olds_fire : (subs : List Subscription) (ms : List Kept) → Pairwise (Keeps engine.labels h) subs ms → Installed h subs → AllByRecursion (λ n. n.install < made.install) ms
-        → Pairwise (λ s m. Keeps engine.labels h s m × (instant m ≡ fires s h (Create statement))) subs ms
+    olds_fire : (subs : List Subscription) (ms : List Kept) → Pairwise (Keeps engine.handed h) subs ms → Installed h subs → AllByRecursion (λ n. n.install < made.install) ms
+        → Pairwise (λ s m. Keeps engine.handed h s m × (instant m ≡ fires s h (Create statement))) subs ms
     olds_fire [] [] p i b = tt
     olds_fire [] (m ∷ ms) p i b = absurd p
     olds_fire (x ∷ subs) [] p i b = absurd p
     olds_fire (x ∷ subs) (m ∷ ms) p i b = ((p.0, quiet_one engine.clock made.install m b.0 ∙ sym (old_quiet statement h x i.0)), olds_fire subs ms p.1 i.1 b.1)
 
-    own_keeps : Keeps engine.labels h own made
+    own_keeps : Keeps engine.handed h own made
     own_keeps = keeps_new engine statement query action file whole binds kind named h s
 
-    pub firing : Pairwise (λ s m. Keeps engine.labels h s m × (created_instant engine.clock (engine.creates + 1) m ≡ fires s h (Create statement))) (live h ++ created statement h ∷ [])
+    pub firing : Pairwise (λ s m. Keeps engine.handed h s m × (created_instant engine.clock (engine.creates + 1) m ≡ fires s h (Create statement))) (live h ++ created statement h ∷ [])
         (engine.subscriptions ++ new_subscription statement query (alike (bare_of query) engine.subscriptions) (timed statement engine.clock) action engine.creates file ∷ [])
-    firing = pairwise_push (λ s m. Keeps engine.labels h s m × (instant m ≡ fires s h (Create statement))) (live h) engine.subscriptions own made (olds_fire (live h) engine.subscriptions s.subscriptions (installed h) below) (own_keeps, own_fires)
+    firing = pairwise_push (λ s m. Keeps engine.handed h s m × (instant m ≡ fires s h (Create statement))) (live h) engine.subscriptions own made (olds_fire (live h) engine.subscriptions s.subscriptions (installed h) below) (own_keeps, own_fires)
 
-    olds_agree : (subs : List Subscription) (ms : List Kept) → Pairwise (Keeps engine.labels h) subs ms → Installed h subs → AllByRecursion (λ n. n.install < made.install) ms
-        → Pairwise (λ s m. Keeps engine.labels h s m × (Agrees (is_some (instant m)) (fires s h (Create statement)) × IsFirst s h (Create statement))) subs ms
+    olds_agree : (subs : List Subscription) (ms : List Kept) → Pairwise (Keeps engine.handed h) subs ms → Installed h subs → AllByRecursion (λ n. n.install < made.install) ms
+        → Pairwise (λ s m. Keeps engine.handed h s m × (Agrees (is_some (instant m)) (fires s h (Create statement)) × IsFirst s h (Create statement))) subs ms
     olds_agree [] [] p i b = tt
     olds_agree [] (m ∷ ms) p i b = absurd p
     olds_agree (x ∷ subs) [] p i b = absurd p
     olds_agree (x ∷ subs) (m ∷ ms) p i b = ((p.0, (ap is_some (quiet_one engine.clock made.install m b.0 ∙ sym (old_quiet statement h x i.0)), old_first x i.0)), olds_agree subs ms p.1 i.1 b.1)
 
-    kept : Pairwise (Keeps engine.labels (Create statement ∷ h)) (live h ++ own ∷ []) created_subscriptions
-    kept = keep_all engine.labels h (Create statement) engine.store same_changes (λ m. is_some (instant m)) (live h ++ own ∷ []) all (installed (Create statement ∷ h))
-        (pairwise_push (λ s m. Keeps engine.labels h s m × (Agrees (is_some (instant m)) (fires s h (Create statement)) × IsFirst s h (Create statement))) (live h) engine.subscriptions own made
+    kept : Pairwise (Keeps engine.handed (Create statement ∷ h)) (live h ++ own ∷ []) created_subscriptions
+    kept = keep_all engine.handed h (Create statement) engine.store same_changes (λ m. is_some (instant m)) (live h ++ own ∷ []) all (installed (Create statement ∷ h))
+        (pairwise_push (λ s m. Keeps engine.handed h s m × (Agrees (is_some (instant m)) (fires s h (Create statement)) × IsFirst s h (Create statement))) (live h) engine.subscriptions own made
         (olds_agree (live h) engine.subscriptions s.subscriptions (installed h) below) (own_keeps, (ap is_some own_fires, own_first)))
 
     -- it has no counts, as it has no mark
-    pub own_counted : IsCounted h engine.distinct (created statement h)
+    pub own_counted : IsCounted engine.handed.relations h engine.distinct (created statement h)
     own_counted is key =
         (λ i. stands (counts_at engine.distinct (sym s.creates i + 1)) key)
         ∙ ap (λ (counts : ByBytes ℕ). stands counts key) (keeps (engine.creates + 1) (none_above engine.creates engine.subscriptions few))
         ∙ ap (λ (o : Option ℕ). unwrap_or o 0) (get-empty (slice_cmp nat_cmp) key)
-        ∙ ap (λ (o : Option ℕ). count_in key (all_at statement.query h o)) (sym (never own h (let l : creates_of h < creates_of h + 1 = omega arith in l)))
+        ∙ ap (λ (o : Option ℕ). count_in key (all_at engine.handed.relations statement.query h o)) (sym (never own h (let l : creates_of h < creates_of h + 1 = omega arith in l)))
 
     upto_now : AreUpTo (changes (Create statement ∷ h)) table.files
     upto_now = subst (λ n. AreUpTo n table.files) same_changes upto
@@ -314,37 +316,37 @@ module _ (engine : EngineState) (table : TableState) (statement : Statement) (qu
       rising = rises_quietly h (Create statement) refl s.rising;
     }
 
-    list_is : created_list ≡ map (noticed engine.labels h (Create statement)) (firings h (Create statement))
-    list_is = told_list engine.labels h (Create statement) engine.store table.files engine.distinct instant (live h ++ own ∷ []) all
-        (tells_each engine.labels h (Create statement) engine.store table engine.distinct s.last s.rising contents_are upto_now instant (live h ++ own ∷ []) all firing can (each_push (IsCounted h engine.distinct) (live h) own s.counted own_counted))
+    list_is : created_list ≡ map (noticed engine.handed h (Create statement)) (firings h (Create statement))
+    list_is = told_list engine.handed h (Create statement) engine.store table.files engine.distinct instant (live h ++ own ∷ []) all
+        (tells_each engine.handed h (Create statement) engine.store table engine.distinct s.last s.rising contents_are upto_now instant (live h ++ own ∷ []) all firing can (each_push (IsCounted engine.handed.relations h engine.distinct) (live h) own s.counted own_counted))
 
-    olds_quiet : (ms : List Kept) → AllByRecursion (λ n. n.install < made.install) ms → told_of engine.labels engine.store table.files engine.distinct instant ms ≡ []
+    olds_quiet : (ms : List Kept) → AllByRecursion (λ n. n.install < made.install) ms → told_of engine.handed engine.store table.files engine.distinct instant ms ≡ []
     olds_quiet [] b = refl
-    olds_quiet (m ∷ ms) b = λ i. notice_texts engine.labels engine.store table.files engine.distinct m (quiet_one engine.clock made.install m b.0 i) ++ olds_quiet ms b.1 i
+    olds_quiet (m ∷ ms) b = λ i. notice_texts engine.handed engine.store table.files engine.distinct m (quiet_one engine.clock made.install m b.0 i) ++ olds_quiet ms b.1 i
 
     -- it alone is told
-    one_told : created_list ≡ notice_texts engine.labels engine.store table.files engine.distinct made (instant made)
+    one_told : created_list ≡ notice_texts engine.handed engine.store table.files engine.distinct made (instant made)
     one_told =
-        flat_map_append (λ (m : Kept). notice_texts engine.labels engine.store table.files engine.distinct m (instant m)) engine.subscriptions (made ∷ [])
-        ∙ (λ i. olds_quiet engine.subscriptions below i ++ (notice_texts engine.labels engine.store table.files engine.distinct made (instant made) ++ []))
-        ∙ append-nil (notice_texts engine.labels engine.store table.files engine.distinct made (instant made))
+        flat_map_append (λ (m : Kept). notice_texts engine.handed engine.store table.files engine.distinct m (instant m)) engine.subscriptions (made ∷ [])
+        ∙ (λ i. olds_quiet engine.subscriptions below i ++ (notice_texts engine.handed engine.store table.files engine.distinct made (instant made) ++ []))
+        ∙ append-nil (notice_texts engine.handed engine.store table.files engine.distinct made (instant made))
 
     in_order : ordered_by (λ (t : NoticeText). t.firing) created_list ≡ created_list
     in_order = ap (ordered_by (λ (t : NoticeText). t.firing)) one_told ∙ by (instant made) ∙ sym one_told
       where
-        by : (o : Option ℕ) → ordered_by (λ (t : NoticeText). t.firing) (notice_texts engine.labels engine.store table.files engine.distinct made o) ≡ notice_texts engine.labels engine.store table.files engine.distinct made o
+        by : (o : Option ℕ) → ordered_by (λ (t : NoticeText). t.firing) (notice_texts engine.handed engine.store table.files engine.distinct made o) ≡ notice_texts engine.handed engine.store table.files engine.distinct made o
         by None = refl
         by (Some at) = refl
 
-    pub create_text : flat_map (λ (t : NoticeText). t.text) created_list ≡ notices (language_of engine.labels) h (Create statement)
-    create_text = ap (flat_map (λ (t : NoticeText). t.text)) (sym in_order) ∙ told_text_is engine.labels h (Create statement) created_list list_is
+    pub create_text : flat_map (λ (t : NoticeText). t.text) created_list ≡ notices (language_of engine.handed) h (Create statement)
+    create_text = ap (flat_map (λ (t : NoticeText). t.text)) (sym in_order) ∙ told_text_is engine.handed h (Create statement) created_list list_is
 
-    pub create_spans : (from : ℕ) → told_spans from created_list ≡ spans (language_of engine.labels) h (Create statement) from
-    create_spans from = ap (told_spans from) (sym in_order) ∙ told_spans_are engine.labels h (Create statement) created_list list_is from
+    pub create_spans : (from : ℕ) → told_spans from created_list ≡ spans (language_of engine.handed) h (Create statement) from
+    create_spans from = ap (told_spans from) (sym in_order) ∙ told_spans_are engine.handed h (Create statement) created_list list_is from
 
   -- a create that is accepted
-  pub create_accepted : is_at_odds (kind_in statement.action engine.labels) statement.argument ≡ false → list_any (λ m. bytes_eq statement.name m.name) engine.subscriptions ≡ false → is_expired (timed statement engine.clock) (start_of statement.start engine.clock) ≡ false
-      → AllByRecursion (CanTell engine.labels engine.store table) all → InstallsAreUpTo engine.creates engine.subscriptions → KeepsCounts engine.subscriptions engine.distinct
+  pub create_accepted : is_at_odds (kind_in statement.action engine.handed.labels) statement.argument ≡ false → list_any (λ m. bytes_eq statement.name m.name) engine.subscriptions ≡ false → is_expired (timed statement engine.clock) (start_of statement.start engine.clock) ≡ false
+      → AllByRecursion (CanTell engine.handed engine.store table) all → InstallsAreUpTo engine.creates engine.subscriptions → KeepsCounts engine.subscriptions engine.distinct
       → (distinct' : DistinctTable) → AreCountedBehind distinct'
       → (out line out' : List ℕ) (applied : Answered) (left : List Kept) → line ≡ out ++ ok_text (engine.count + 1)
       → out' ≡ line ++ flat_map (λ (t : NoticeText). t.text) created_list
@@ -356,10 +358,10 @@ module _ (engine : EngineState) (table : TableState) (statement : Statement) (qu
       subst (λ (ms : List Kept). Applies engine (Create statement) out (Ok applied) (record engine { count = engine.count + 1; creates = engine.creates + 1; subscriptions = ms; table = table; distinct = distinct' }) out') (sym is)
       (accepts engine (Create statement) out applied (record engine { count = engine.count + 1; creates = engine.creates + 1; subscriptions = created_subscriptions; table = table; distinct = distinct' }) out' text []
       (record {
-        accepted = λ h s. create_refusal engine statement false false false None free (binds_freely statement.query (roots_in engine.store) query binds) fitting timely h s;
+        accepted = λ h s. create_refusal engine statement false false false None free (binds_freely engine.handed.relations statement.query (roots_in engine.store) query binds) fitting timely h s;
         follows = λ h s. create_follows can few keeps h s distinct' counted;
         tells = λ h s. create_text can few keeps h s;
-        stand = λ h s. places ∙ create_spans can few keeps h s (length line) ∙ ap (spans (language_of engine.labels) h (Create statement)) (sym from);
+        stand = λ h s. places ∙ create_spans can few keeps h s (length line) ∙ ap (spans (language_of engine.handed) h (Create statement)) (sym from);
         ends = λ h s. refl;
         counted = refl;
         named = refl;

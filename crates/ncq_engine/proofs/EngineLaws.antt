@@ -5,7 +5,7 @@ use Rattle.std.specs.Io.{StartsWith}
 use Rattle.std.specs.List.{filter, flat_map, list_any}
 use Rattle.std.proofs.lemmas.List.{append-nil}
 use Rattle.ncq_cache.specs.Cached.{Cached}
-use Rattle.ncq_callback.specs.Labels.{Label}
+use Rattle.ncq_callback.specs.Labels.{Handed}
 use Rattle.ncq_distinct.specs.DistinctTables.{DistinctTable, HaveSameCounts}
 use Rattle.ncq_event.specs.Orders.{ordered_by}
 use Rattle.ncq_script.specs.declared.command.Command.{Command}
@@ -51,7 +51,7 @@ follows_counts e distinct h same s = record {
   creates = s.creates;
   subscriptions = s.subscriptions;
   contents = s.contents;
-  counted = counted_same h e.distinct distinct same (live h) s.counted;
+  counted = counted_same e.handed.relations h e.distinct distinct same (live h) s.counted;
   rising = s.rising;
 }
 
@@ -63,20 +63,20 @@ applies_cached old command out (Ok answered) new out' cache a = record {
   follows = λ h s. follows_cached new cache (command ∷ h) (a.follows h s);
   answer = a.answer;
   counted = a.counted;
-  labels = a.labels;
+  handed = a.handed;
   places = a.places;
 }
 applies_cached old command out (Err (Refused why)) new out' cache a = record {
   refused = a.refused;
   follows = λ h s. follows_cached new cache h (a.follows h s);
   counted = a.counted;
-  labels = a.labels;
+  handed = a.handed;
   unwritten = a.unwritten;
 }
 applies_cached old command out (Err OutOfMemory) new out' cache a = record {
   follows = λ h s. follows_cached new cache h (a.follows h s);
   uncounted = a.uncounted;
-  labels = a.labels;
+  handed = a.handed;
   front = a.front;
 }
 
@@ -88,46 +88,46 @@ applies_counts old command out (Ok answered) new out' distinct same a = record {
   follows = λ h s. follows_counts new distinct (command ∷ h) same (a.follows h s);
   answer = a.answer;
   counted = a.counted;
-  labels = a.labels;
+  handed = a.handed;
   places = a.places;
 }
 applies_counts old command out (Err (Refused why)) new out' distinct same a = record {
   refused = a.refused;
   follows = λ h s. follows_counts new distinct h same (a.follows h s);
   counted = a.counted;
-  labels = a.labels;
+  handed = a.handed;
   unwritten = a.unwritten;
 }
 applies_counts old command out (Err OutOfMemory) new out' distinct same a = record {
   follows = λ h s. follows_counts new distinct h same (a.follows h s);
   uncounted = a.uncounted;
-  labels = a.labels;
+  handed = a.handed;
   front = a.front;
 }
 
 -- a command that is refused leaves all as it was, but for the number of commands
 pub refuses : (old : EngineState) (command : Command) (why : Refusal) (out : List ℕ) (result : Result Answered ApplyError) (new : EngineState) (out' : List ℕ)
     → result ≡ Err (Refused why) → new ≡ record old { count = old.count + 1 } → out' ≡ out
-    → ((h : History) → Follows old h → first_refusal (language_of old.labels) h command ≡ Some why) → Applies old command out result new out'
+    → ((h : History) → Follows old h → first_refusal (language_of old.handed) h command ≡ Some why) → Applies old command out result new out'
 refuses old command why out result new out' is same untouched because =
     subst (λ (r : Result Answered ApplyError). Applies old command out r new out') (sym is)
     (subst (λ (n : EngineState). Applies old command out (Err (Refused why)) n out') (sym same) (record {
       refused = because;
       follows = λ h s. follows_still old (old.count + 1) old.spans h s;
       counted = refl;
-      labels = refl;
+      handed = refl;
       unwritten = untouched;
     }))
 
 -- what is appended behind the first line, and what it stands for
 pub record Tells (old : EngineState) (command : Command) (new : EngineState) (text : List ℕ) (from : ℕ) (places : List Span) (rest : List ℕ) : Type 0 where
-  pub accepted : (h : History) → Follows old h → first_refusal (language_of old.labels) h command ≡ None
+  pub accepted : (h : History) → Follows old h → first_refusal (language_of old.handed) h command ≡ None
   pub follows : (h : History) → Follows old h → Follows new (command ∷ h)
-  pub tells : (h : History) → Follows old h → text ≡ notices (language_of old.labels) h command
-  pub stand : (h : History) → Follows old h → places ≡ spans (language_of old.labels) h command from
-  pub ends : (h : History) → Follows old h → rest ≡ closing_text (language_of old.labels) command h
+  pub tells : (h : History) → Follows old h → text ≡ notices (language_of old.handed) h command
+  pub stand : (h : History) → Follows old h → places ≡ spans (language_of old.handed) h command from
+  pub ends : (h : History) → Follows old h → rest ≡ closing_text (language_of old.handed) command h
   pub counted : new.count ≡ old.count + 1
-  pub named : new.labels ≡ old.labels
+  pub named : new.handed ≡ old.handed
 
 -- a command that is accepted
 pub accepts : (old : EngineState) (command : Command) (out : List ℕ) (applied : Answered) (new : EngineState) (out' text rest : List ℕ)
@@ -142,7 +142,7 @@ accepts old command out applied new out' text rest t e from to =
           ∙ ap (λ x. out ++ x) (sym (append_assoc line text rest))
           ∙ (λ i. out ++ ((line ++ t.tells h s i) ++ t.ends h s i));
       counted = t.counted;
-      labels = t.named;
+      handed = t.named;
       places = λ h s. record {
         between = record {
           begins = from ∙ length-append out line;
@@ -157,7 +157,7 @@ pub gives_up : (old : EngineState) (command : Command) (out : List ℕ) (result 
     → result ≡ Err OutOfMemory → new ≡ old → StartsWith out' out → Applies old command out result new out'
 gives_up old command out result new out' is same front =
     subst (λ (r : Result Answered ApplyError). Applies old command out r new out') (sym is)
-    (subst (λ (n : EngineState). GivesUp old out n out') (sym same) (record { follows = λ h s. s; uncounted = refl; labels = refl; front = front }))
+    (subst (λ (n : EngineState). GivesUp old out n out') (sym same) (record { follows = λ h s. s; uncounted = refl; handed = refl; front = front }))
 
 -- a command that tells nobody
 pub accepts_quietly : (old : EngineState) (command : Command) (out : List ℕ) (applied : Answered) (new : EngineState) (out' : List ℕ)
@@ -170,7 +170,7 @@ accepts_quietly old command out applied new out' t text places =
       accepted = t.accepted;
       follows = t.follows;
       tells = t.tells;
-      stand = λ h s. ap (λ (a : Answered). a.spans) places ∙ t.stand h s ∙ ap (spans (language_of old.labels) h command) (sym (ap (λ (a : Answered). a.from) places));
+      stand = λ h s. ap (λ (a : Answered). a.spans) places ∙ t.stand h s ∙ ap (spans (language_of old.handed) h command) (sym (ap (λ (a : Answered). a.from) places));
       ends = t.ends;
       counted = t.counted;
       named = t.named;
@@ -187,14 +187,14 @@ nobody h command quiet (s ∷ subs) = (λ i. fired_at s (quiet s i) ++ nobody h 
 pub told_nobody : (h : History) (command : Command) → ((s : Subscription) → fires s h command ≡ None) → firings_in_order h command ≡ []
 told_nobody h command quiet = ap (ordered_by (λ f. f.0)) (nobody h command quiet _)
 
-module _ (labels : List Label) (h : History) (command : Command) (quiet : (s : Subscription) → fires s h command ≡ None) where
-  keep_each : (subs : List Subscription) (ms : List Kept) → Installed (command ∷ h) subs → Pairwise (Keeps labels h) subs ms → Pairwise (Keeps labels (command ∷ h)) subs ms
+module _ (handed : Handed) (h : History) (command : Command) (quiet : (s : Subscription) → fires s h command ≡ None) where
+  keep_each : (subs : List Subscription) (ms : List Kept) → Installed (command ∷ h) subs → Pairwise (Keeps handed h) subs ms → Pairwise (Keeps handed (command ∷ h)) subs ms
   keep_each [] [] i p = tt
   keep_each [] (m ∷ ms) i p = absurd p
   keep_each (s ∷ subs) [] i p = absurd p
-  keep_each (s ∷ subs) (m ∷ ms) i p = (keeps_quiet labels h command s m i.0 p.0 (quiet s), keep_each subs ms i.1 p.1)
+  keep_each (s ∷ subs) (m ∷ ms) i p = (keeps_quiet handed h command s m i.0 p.0 (quiet s), keep_each subs ms i.1 p.1)
 
-  pub keep_quiet : (ms : List Kept) → Pairwise (Keeps labels h) (live h) ms → Pairwise (Keeps labels (command ∷ h)) (live h) ms
+  pub keep_quiet : (ms : List Kept) → Pairwise (Keeps handed h) (live h) ms → Pairwise (Keeps handed (command ∷ h)) (live h) ms
   keep_quiet ms = keep_each (live h) ms (installed_more command h (live h) (installed h))
 
 -- what tests alike is kept alike

@@ -5,7 +5,7 @@ use Rattle.std.specs.List.{filter, flat_map, list_any, AllByRecursion}
 use Rattle.ncq_book.specs.declared.subscription.Subscription.{Subscription as Kept}
 use Rattle.ncq_book.specs.Books.{InstallsRise, subscription_of, watchers_of, watches}
 use Rattle.ncq_bag.specs.Counts.{turns}
-use Rattle.ncq_callback.specs.Labels.{Label}
+use Rattle.ncq_callback.specs.Labels.{Handed}
 use Rattle.ncq_distinct.specs.DistinctTables.{counts_at, DistinctTable}
 use Rattle.ncq_event.specs.declared.firing.Firing.{Firing}
 use Rattle.ncq_feed.specs.Feeds.{NamesTheFed}
@@ -28,6 +28,7 @@ use Rattle.ncq_engine.proofs.ChangeLaws.{changed_instant}
 use Rattle.ncq_engine.proofs.QuietLaws.{quiet_elsewhere, quiet_unfed}
 use Rattle.ncq_engine.proofs.StartedLaws.{FiresFirst, all_fired}
 use Rattle.ncq_engine.proofs.FiringLaws.{firing_spans}
+use Rattle.ncq_plan.specs.Relations.{Relations}
 use Rattle.ncq_engine.proofs.ToldLaws.{told_of, told_spans}
 
 -- what texts come to, from the last on
@@ -53,18 +54,18 @@ module _ {X : Type 0} (name text : X → List ℕ) where
   spans_total from (x ∷ xs) = ap (λ rest. span_of (name x) from (text x) ++ rest) (spans_total (from + length (text x)) xs)
 
 -- the subscription is asked exactly where it is told, or its rows tell nothing
-abbrev pub AsksEnough : StoreState → Files → List ℕ → List Section → ℕ → Kept → Type 0
-AsksEnough store files fed changed clock m =
-    ((watches fed m && nat_le m.timing.start clock) ≡ is_told_change changed clock m) ⊎ (news_in store files m ≡ [])
+abbrev pub AsksEnough : Relations → StoreState → Files → List ℕ → List Section → ℕ → Kept → Type 0
+AsksEnough relations store files fed changed clock m =
+    ((watches fed m && nat_le m.timing.start clock) ≡ is_told_change changed clock m) ⊎ (news_in relations store files m ≡ [])
 
 -- where they tell nothing, nothing is told
-quiet_text : (labels : List Label) (store : StoreState) (files : Files) (distinct : DistinctTable) (m : Kept) (instant : ℕ) → news_in store files m ≡ [] → notice_text labels store files distinct m instant ≡ []
-quiet_text labels store files distinct m instant nothing =
-    ap (entries_text labels m instant)
+quiet_text : (handed : Handed) (store : StoreState) (files : Files) (distinct : DistinctTable) (m : Kept) (instant : ℕ) → news_in handed.relations store files m ≡ [] → notice_text handed store files distinct m instant ≡ []
+quiet_text handed store files distinct m instant nothing =
+    ap (entries_text handed m instant)
     ((λ i. if m.distinct then turns (counts_at distinct m.install) (nothing i) else nothing i)
     ∙ elim m.distinct as (λ t. (if t then turns (counts_at distinct m.install) [] else []) ≡ []) [ true ↦ refl | false ↦ refl ])
 
-module _ (labels : List Label) (store : StoreState) (files : Files) (distinct : DistinctTable) (fed : List ℕ) (changed : List Section) (clock : ℕ) where
+module _ (handed : Handed) (store : StoreState) (files : Files) (distinct : DistinctTable) (fed : List ℕ) (changed : List Section) (clock : ℕ) where
   module _ (all : List Kept) where
     -- the firings of those of these subscriptions that are asked
     abbrev asked : List Kept → List Firing
@@ -72,18 +73,18 @@ module _ (labels : List Label) (store : StoreState) (files : Files) (distinct : 
 
     -- and the notices of those that are told
     abbrev told : List Kept → List NoticeText
-    told ms = told_of labels store files distinct (changed_instant changed clock) ms
+    told ms = told_of handed store files distinct (changed_instant changed clock) ms
 
     module _ {A : Type 0} (weigh : List ℕ → List ℕ → A → A) (silent : (name : List ℕ) (rest : A) → weigh name [] rest ≡ rest) (none : A) where
       abbrev of_firings : List Firing → A
-      of_firings firings = total weigh none (firing_name all) (firing_text labels store files distinct all) firings
+      of_firings firings = total weigh none (firing_name all) (firing_text handed store files distinct all) firings
 
       abbrev of_told : List NoticeText → A
       of_told list = total weigh none (λ (t : NoticeText). t.name) (λ (t : NoticeText). t.text) list
 
       -- what one more subscription adds, where the test says so
       abbrev one_more : Bool → Kept → A → A
-      one_more test m rest = if test then weigh m.name (notice_text labels store files distinct m clock) rest else rest
+      one_more test m rest = if test then weigh m.name (notice_text handed store files distinct m clock) rest else rest
 
       started_one : (m : Kept) → subscription_of m.install all ≡ Some m → (rest : List Firing)
           → of_firings (started_at clock all m.install ++ rest) ≡ one_more (nat_le m.timing.start clock) m (of_firings rest)
@@ -91,7 +92,7 @@ module _ (labels : List Label) (store : StoreState) (files : Files) (distinct : 
           let firing : Firing = record { instant = clock; install = m.install } in
           (λ i. of_firings ((if has_started clock (e i) then firing ∷ [] else []) ++ rest))
           ∙ elim (nat_le m.timing.start clock) as (λ t. of_firings ((if t then firing ∷ [] else []) ++ rest) ≡ one_more t m (of_firings rest)) [
-            | true ↦ λ i. weigh (name_of (e i)) (text_of labels store files distinct clock (e i)) (of_firings rest)
+            | true ↦ λ i. weigh (name_of (e i)) (text_of handed store files distinct clock (e i)) (of_firings rest)
             | false ↦ refl
           ]
 
@@ -106,20 +107,20 @@ module _ (labels : List Label) (store : StoreState) (files : Files) (distinct : 
 
       told_more : (m : Kept) (ms : List Kept) → of_told (told (m ∷ ms)) ≡ one_more (is_told_change changed clock m) m (of_told (told ms))
       told_more m ms =
-          elim (is_told_change changed clock m) as (λ t. of_told (notice_texts labels store files distinct m (if t then Some clock else None) ++ told ms) ≡ one_more t m (of_told (told ms))) [ true ↦ refl | false ↦ refl ]
+          elim (is_told_change changed clock m) as (λ t. of_told (notice_texts handed store files distinct m (if t then Some clock else None) ++ told ms) ≡ one_more t m (of_told (told ms))) [ true ↦ refl | false ↦ refl ]
 
       -- one that is told nothing adds nothing
-      adds_nothing : (test : Bool) (m : Kept) (rest : A) → notice_text labels store files distinct m clock ≡ [] → one_more test m rest ≡ rest
+      adds_nothing : (test : Bool) (m : Kept) (rest : A) → notice_text handed store files distinct m clock ≡ [] → one_more test m rest ≡ rest
       adds_nothing true m rest quiet = ap (λ bytes. weigh m.name bytes rest) quiet ∙ silent m.name rest
       adds_nothing false m rest quiet = refl
 
-      adds_alike : (m : Kept) (rest : A) → AsksEnough store files fed changed clock m → one_more (watches fed m && nat_le m.timing.start clock) m rest ≡ one_more (is_told_change changed clock m) m rest
+      adds_alike : (m : Kept) (rest : A) → AsksEnough handed.relations store files fed changed clock m → one_more (watches fed m && nat_le m.timing.start clock) m rest ≡ one_more (is_told_change changed clock m) m rest
       adds_alike m rest (inl same) = λ i. one_more (same i) m rest
       adds_alike m rest (inr nothing) =
-          let quiet = quiet_text labels store files distinct m clock nothing in
+          let quiet = quiet_text handed store files distinct m clock nothing in
           adds_nothing (watches fed m && nat_le m.timing.start clock) m rest quiet ∙ sym (adds_nothing (is_told_change changed clock m) m rest quiet)
 
-      same_total : (ms : List Kept) → AreFound all ms → AllByRecursion (AsksEnough store files fed changed clock) ms → of_firings (asked ms) ≡ of_told (told ms)
+      same_total : (ms : List Kept) → AreFound all ms → AllByRecursion (AsksEnough handed.relations store files fed changed clock) ms → of_firings (asked ms) ≡ of_told (told ms)
       same_total [] found enough = refl
       same_total (m ∷ ms) found enough =
           asked_more m ms found.0
@@ -128,19 +129,19 @@ module _ (labels : List Label) (store : StoreState) (files : Files) (distinct : 
           ∙ sym (told_more m ms)
 
   -- what is written where those are asked whose file got rows
-  module _ (all : List Kept) (rise : InstallsRise all) (enough : AllByRecursion (AsksEnough store files fed changed clock) all) where
-    pub fed_text : flat_map (firing_text labels store files distinct all) (flat_map (started_at clock all) (watchers_of fed all))
-        ≡ flat_map (λ (t : NoticeText). t.text) (told_of labels store files distinct (changed_instant changed clock) all)
+  module _ (all : List Kept) (rise : InstallsRise all) (enough : AllByRecursion (AsksEnough handed.relations store files fed changed clock) all) where
+    pub fed_text : flat_map (firing_text handed store files distinct all) (flat_map (started_at clock all) (watchers_of fed all))
+        ≡ flat_map (λ (t : NoticeText). t.text) (told_of handed store files distinct (changed_instant changed clock) all)
     fed_text =
-        flat_total (firing_name all) (firing_text labels store files distinct all) (asked all all)
+        flat_total (firing_name all) (firing_text handed store files distinct all) (asked all all)
         ∙ same_total all text_first (λ name rest. refl) [] all (found_each all rise) enough
         ∙ sym (flat_total (λ (t : NoticeText). t.name) (λ (t : NoticeText). t.text) (told all all))
 
     -- and where it stands
-    pub fed_spans : (from : ℕ) → firing_spans labels store files distinct all from (flat_map (started_at clock all) (watchers_of fed all))
-        ≡ told_spans from (told_of labels store files distinct (changed_instant changed clock) all)
+    pub fed_spans : (from : ℕ) → firing_spans handed store files distinct all from (flat_map (started_at clock all) (watchers_of fed all))
+        ≡ told_spans from (told_of handed store files distinct (changed_instant changed clock) all)
     fed_spans from =
-        spans_total (firing_name all) (firing_text labels store files distinct all) from (asked all all)
+        spans_total (firing_name all) (firing_text handed store files distinct all) from (asked all all)
         ∙ ap (λ (made : ℕ → List Span). made from) (same_total all span_first silent (λ _. []) all (found_each all rise) enough)
         ∙ sym (spans_total (λ (t : NoticeText). t.name) (λ (t : NoticeText). t.text) from (told all all))
       where
@@ -148,35 +149,35 @@ module _ (labels : List Label) (store : StoreState) (files : Files) (distinct : 
         silent name rest = λ i from. rest (let e : from + 0 ≡ from = omega arith in e i)
 
 -- behind a change of an engine that follows the history each subscription is asked enough
-module _ (labels : List Label) (h : History) (changed : List Section) (clock : ℕ) (at_now : clock ≡ now h) (store : StoreState) (table : TableState)
+module _ (handed : Handed) (h : History) (changed : List Section) (clock : ℕ) (at_now : clock ≡ now h) (store : StoreState) (table : TableState)
     (last : (asked : List ℕ) → last_in store asked ≡ last_change asked h) (rising : IsRising h) (contents : AreContents table.files (Delta changed ∷ h))
     (upto : AreUpTo (changes (Delta changed ∷ h)) table.files) (fed : List ℕ) (named : NamesTheFed (changes h) table.files fed) where
-  asks_one : (s : Subscription) (m : Kept) → Keeps labels h s m → CanTell labels store table m → FiresFirst h s → AsksEnough store table.files fed changed clock m
+  asks_one : (s : Subscription) (m : Kept) → Keeps handed h s m → CanTell handed store table m → FiresFirst h s → AsksEnough handed.relations store table.files fed changed clock m
   asks_one s m k can fired = by (m.timing.every == 0) (list_any (nat_eq m.file.0) fed) (nat_le m.timing.start clock) (are_named changed m.sources) refl refl refl refl
     where
       alike : (b f t a : Bool) → m.timing.every == 0 ≡ b → list_any (nat_eq m.file.0) fed ≡ f → nat_le m.timing.start clock ≡ t → are_named changed m.sources ≡ a
-          → ((b && f) && t) ≡ (b && t && a) → AsksEnough store table.files fed changed clock m
+          → ((b && f) && t) ≡ (b && t && a) → AsksEnough handed.relations store table.files fed changed clock m
       alike b f t a based in_fed started asks same = inl ((λ i. (based i && in_fed i) && started i) ∙ same ∙ sym (λ i. based i && started i && asks i))
 
       by : (b f t a : Bool) → m.timing.every == 0 ≡ b → list_any (nat_eq m.file.0) fed ≡ f → nat_le m.timing.start clock ≡ t → are_named changed m.sources ≡ a
-          → AsksEnough store table.files fed changed clock m
+          → AsksEnough handed.relations store table.files fed changed clock m
       by true true true false based in_fed started asks =
-          inr (quiet_elsewhere labels h changed store table last rising contents upto s m k can fired based (ap (nat_le m.timing.start) (sym at_now) ∙ started) asks)
+          inr (quiet_elsewhere handed h changed store table last rising contents upto s m k can fired based (ap (nat_le m.timing.start) (sym at_now) ∙ started) asks)
       by true false true true based in_fed started asks =
-          inr (quiet_unfed labels h changed store table last rising contents upto s m k can fired based (ap (nat_le m.timing.start) (sym at_now) ∙ started) (named m.file.0 can.file can.at in_fed))
+          inr (quiet_unfed handed h changed store table last rising contents upto s m k can fired based (ap (nat_le m.timing.start) (sym at_now) ∙ started) (named m.file.0 can.file can.at in_fed))
       by false f t a based in_fed started asks = alike false f t a based in_fed started asks refl
       by true true true true based in_fed started asks = alike true true true true based in_fed started asks refl
       by true true false a based in_fed started asks = alike true true false a based in_fed started asks refl
       by true false true false based in_fed started asks = alike true false true false based in_fed started asks refl
       by true false false a based in_fed started asks = alike true false false a based in_fed started asks refl
 
-  asks_each : (subs : List Subscription) (ms : List Kept) → Pairwise (Keeps labels h) subs ms → AllByRecursion (CanTell labels store table) ms → AllByRecursion (FiresFirst h) subs
-      → AllByRecursion (AsksEnough store table.files fed changed clock) ms
+  asks_each : (subs : List Subscription) (ms : List Kept) → Pairwise (Keeps handed h) subs ms → AllByRecursion (CanTell handed store table) ms → AllByRecursion (FiresFirst h) subs
+      → AllByRecursion (AsksEnough handed.relations store table.files fed changed clock) ms
   asks_each [] [] p can fired = tt
   asks_each [] (m ∷ ms) p can fired = absurd p
   asks_each (s ∷ subs) [] p can fired = absurd p
   asks_each (s ∷ subs) (m ∷ ms) p can fired = (asks_one s m p.0 can.0 fired.0, asks_each subs ms p.1 can.1 fired.1)
 
-  pub asks_enough : (subscriptions : List Kept) → Pairwise (Keeps labels h) (live h) subscriptions → AllByRecursion (CanTell labels store table) subscriptions
-      → AllByRecursion (AsksEnough store table.files fed changed clock) subscriptions
+  pub asks_enough : (subscriptions : List Kept) → Pairwise (Keeps handed h) (live h) subscriptions → AllByRecursion (CanTell handed store table) subscriptions
+      → AllByRecursion (AsksEnough handed.relations store table.files fed changed clock) subscriptions
   asks_enough subscriptions p can = asks_each (live h) subscriptions p can (all_fired h)

@@ -4,7 +4,7 @@ use Rattle.std.specs.Prelude.{Option, Some, None, if◌then◌else◌}
 use Rattle.std.specs.List.{filter, flat_map}
 use Rattle.ncq_book.specs.declared.subscription.Subscription.{Subscription as Kept}
 use Rattle.ncq_book.specs.Books.{InstallsRise, subscription_of, timing_of}
-use Rattle.ncq_callback.specs.Labels.{Label}
+use Rattle.ncq_callback.specs.Labels.{Handed}
 use Rattle.ncq_distinct.specs.DistinctTables.{DistinctTable}
 use Rattle.ncq_event.specs.declared.firing.Firing.{Firing}
 use Rattle.ncq_event.specs.Calendars.{due_firings, due_of, firing_at}
@@ -23,12 +23,12 @@ use Rattle.ncq_engine.proofs.ToldLaws.{order_made, told_of, told_spans}
 use Rattle.ncq_shelf.specs.KeptFiles.{Files}
 
 -- a firing with its text
-module _ (labels : List Label) (store : StoreState) (files : Files) (distinct : DistinctTable) (all : List Kept) where
+module _ (handed : Handed) (store : StoreState) (files : Files) (distinct : DistinctTable) (all : List Kept) where
   abbrev with_text : Firing → NoticeText
-  with_text firing = record { firing = firing; name = firing_name all firing; text = firing_text labels store files distinct all firing }
+  with_text firing = record { firing = firing; name = firing_name all firing; text = firing_text handed store files distinct all firing }
 
-  text_found : (instant : ℕ) (o : Option Kept) (m : Kept) → o ≡ Some m → text_of labels store files distinct instant o ≡ notice_text labels store files distinct m instant
-  text_found instant o m e = ap (text_of labels store files distinct instant) e
+  text_found : (instant : ℕ) (o : Option Kept) (m : Kept) → o ≡ Some m → text_of handed store files distinct instant o ≡ notice_text handed store files distinct m instant
+  text_found instant o m e = ap (text_of handed store files distinct instant) e
 
   name_found : (o : Option Kept) (m : Kept) → o ≡ Some m → name_of o ≡ m.name
   name_found o m e = ap name_of e
@@ -38,52 +38,52 @@ module _ (labels : List Label) (store : StoreState) (files : Files) (distinct : 
   map_push (x ∷ xs) ys = ap (λ more. with_text x ∷ more) (map_push xs ys)
 
   module _ (instant : Kept → Option ℕ) where
-    one_told : (m : Kept) (o : Option ℕ) → subscription_of m.install all ≡ Some m → map with_text (firing_at m.install o) ≡ notice_texts labels store files distinct m o
+    one_told : (m : Kept) (o : Option ℕ) → subscription_of m.install all ≡ Some m → map with_text (firing_at m.install o) ≡ notice_texts handed store files distinct m o
     one_told m None e = refl
     one_told m (Some d) e = λ i. record { firing = record { instant = d; install = m.install }; name = name_found (subscription_of m.install all) m e i; text = text_found d (subscription_of m.install all) m e i } ∷ []
 
     -- the firings of subscriptions, with their texts, are their notices
-    told_is : (ms : List Kept) → AreFound all ms → map with_text (firings_of instant ms) ≡ told_of labels store files distinct instant ms
+    told_is : (ms : List Kept) → AreFound all ms → map with_text (firings_of instant ms) ≡ told_of handed store files distinct instant ms
     told_is [] h = refl
     told_is (m ∷ ms) h = map_push (firing_at m.install (instant m)) (firings_of instant ms) ∙ (λ i. one_told m (instant m) h.0 i ++ told_is ms h.1 i)
 
-  texts_are : (xs : List Firing) → flat_map (firing_text labels store files distinct all) xs ≡ flat_map (λ (t : NoticeText). t.text) (map with_text xs)
+  texts_are : (xs : List Firing) → flat_map (firing_text handed store files distinct all) xs ≡ flat_map (λ (t : NoticeText). t.text) (map with_text xs)
   texts_are [] = refl
-  texts_are (x ∷ xs) = ap (λ more. firing_text labels store files distinct all x ++ more) (texts_are xs)
+  texts_are (x ∷ xs) = ap (λ more. firing_text handed store files distinct all x ++ more) (texts_are xs)
 
   -- where their notices stand
   abbrev pub firing_spans : ℕ → List Firing → List Span
-  firing_spans from firings = spans_of (firing_name all) (firing_text labels store files distinct all) from firings
+  firing_spans from firings = spans_of (firing_name all) (firing_text handed store files distinct all) from firings
 
   spans_are : (from : ℕ) (xs : List Firing) → firing_spans from xs ≡ told_spans from (map with_text xs)
   spans_are from [] = refl
   spans_are from (x ∷ xs) =
-      let text = firing_text labels store files distinct all x in
+      let text = firing_text handed store files distinct all x in
       ap (λ more. span_of (firing_name all x) from text ++ more) (spans_are (from + length text) xs)
 
   -- the texts of firings are those of the subscriptions that fire
   module _ (instant : Kept → Option ℕ) (rise : InstallsRise all) where
-    pub told_texts : (firings : List Firing) → firings ≡ firings_of instant all → flat_map (firing_text labels store files distinct all) firings ≡ flat_map (λ (t : NoticeText). t.text) (told_of labels store files distinct instant all)
+    pub told_texts : (firings : List Firing) → firings ≡ firings_of instant all → flat_map (firing_text handed store files distinct all) firings ≡ flat_map (λ (t : NoticeText). t.text) (told_of handed store files distinct instant all)
     told_texts firings e =
-        ap (flat_map (firing_text labels store files distinct all)) e ∙ texts_are (firings_of instant all)
+        ap (flat_map (firing_text handed store files distinct all)) e ∙ texts_are (firings_of instant all)
         ∙ ap (flat_map (λ (t : NoticeText). t.text)) (told_is instant all (found_each all rise))
 
-    pub told_places : (firings : List Firing) → firings ≡ firings_of instant all → (from : ℕ) → firing_spans from firings ≡ told_spans from (told_of labels store files distinct instant all)
+    pub told_places : (firings : List Firing) → firings ≡ firings_of instant all → (from : ℕ) → firing_spans from firings ≡ told_spans from (told_of handed store files distinct instant all)
     told_places firings e from = ap (firing_spans from) e ∙ spans_are from (firings_of instant all) ∙ ap (told_spans from) (told_is instant all (found_each all rise))
 
   -- and so are those of a move of the clock, in the order of the firings
   module _ (now to : ℕ) (rise : InstallsRise all) where
     abbrev moved : List NoticeText
-    moved = told_of labels store files distinct (moved_instant store now to) all
+    moved = told_of handed store files distinct (moved_instant store now to) all
 
     moved_is : map with_text (firings_of (moved_instant store now to) all) ≡ moved
     moved_is = told_is (moved_instant store now to) all (found_each all rise)
 
     pub move_texts : (firings : List Firing) → firings ≡ ordered (firings_of (moved_instant store now to) all)
-        → flat_map (firing_text labels store files distinct all) firings ≡ flat_map (λ (t : NoticeText). t.text) (ordered_by (λ (t : NoticeText). t.firing) moved)
+        → flat_map (firing_text handed store files distinct all) firings ≡ flat_map (λ (t : NoticeText). t.text) (ordered_by (λ (t : NoticeText). t.firing) moved)
     move_texts firings e =
         let own = firings_of (moved_instant store now to) all in
-        ap (flat_map (firing_text labels store files distinct all)) e ∙ texts_are (ordered own)
+        ap (flat_map (firing_text handed store files distinct all)) e ∙ texts_are (ordered own)
         ∙ ap (flat_map (λ (t : NoticeText). t.text)) (sym (order_made with_text (λ (f : Firing). f) (λ (t : NoticeText). t.firing) (λ x. refl) own) ∙ ap (ordered_by (λ (t : NoticeText). t.firing)) moved_is)
 
     pub move_places : (firings : List Firing) → firings ≡ ordered (firings_of (moved_instant store now to) all)

@@ -51,4 +51,4 @@ given_up {was = was} is command out result failed ready alike live_table still o
     subst (λ (e : EngineState). Applies e command out result (with_parts was ready live_table) out') is
     (subst (λ (r : Result Answered ApplyError). Applies was command out r (with_parts was ready live_table) out') (sym failed)
     (subst (λ (n : EngineState). GivesUp was out n out') (λ i. with_parts was ready (record { table = sym still.table i; subscriptions = sym still.subscriptions i; instant = sym still.instant i }))
-    (record { follows = follows_ready was ready alike; uncounted = refl; labels = refl; front = front })))
+    (record { follows = follows_ready was ready alike; uncounted = refl; handed = refl; front = front })))

@@ -34,17 +34,18 @@ use Rattle.ncq_engine.proofs.Places.{one_declared, room_is_no_content}
 use Rattle.ncq_engine.proofs.Sounds.{sound_fed, sound_installed, sound_left}
 use Rattle.ncq_engine.proofs.StoreLaws.{last_alike, last_declared}
 use Rattle.ncq_engine.proofs.TableLaws.{can_left, can_noted, can_store, can_table, fed_still, installed_still}
+use Rattle.ncq_plan.specs.Relations.{Relations}
 use Rattle.ncq_engine.proofs.Worlds.{new_is_empty, world_is}
 
 abbrev pub Invariant : EngineState → Type 0
-Invariant e = IsEngine e.store e.count e.creates e.labels e.subscriptions e.table e.cache e.distinct
+Invariant e = IsEngine e.store e.count e.creates e.handed e.subscriptions e.table e.cache e.distinct
 
 -- where nothing is kept of what was told, all of it serves
-pub none_serve : (table : TableState) (cache : List Cached) → cache ≡ [] → AllServe table cache
-none_serve table cache nothing = subst (AllServe table) (sym nothing) tt
+pub none_serve : (relations : Relations) (table : TableState) (cache : List Cached) → cache ≡ [] → AllServe relations table cache
+none_serve relations table cache nothing = subst (AllServe relations table) (sym nothing) tt
 
 -- what is kept of what was told is another
-pub invariant_cached : (e : EngineState) (cache : List Cached) → AllServe e.table cache → Invariant e → Invariant (record e { cache = cache })
+pub invariant_cached : (e : EngineState) (cache : List Cached) → AllServe e.handed.relations e.table cache → Invariant e → Invariant (record e { cache = cache })
 invariant_cached e cache serve i = record {
   changes = i.changes;
   creates_too = i.creates_too;
@@ -84,7 +85,7 @@ invariant_waits e distinct same i = invariant_counts e distinct (counts_same e.s
 -- it holds with the same subscriptions and files, wherever they are kept
 pub invariant_same : (e : EngineState) (live_table : LiveState) → live_table.subscriptions ≡ e.subscriptions → live_table.table ≡ e.table → Invariant e → Invariant (record e { subscriptions = live_table.subscriptions; table = live_table.table })
 invariant_same e live_table subscriptions table =
-    subst (λ (p : List Kept × TableState). IsEngine e.store e.count e.creates e.labels p.0 p.1 e.cache e.distinct) (λ j. (sym subscriptions j, sym table j))
+    subst (λ (p : List Kept × TableState). IsEngine e.store e.count e.creates e.handed p.0 p.1 e.cache e.distinct) (λ j. (sym subscriptions j, sym table j))
 
 -- sources that differ in room alone have one world
 pub world_alike : (old new : StoreState) → map without_room new.sources ≡ map without_room old.sources → world_in new ≡ world_in old
@@ -127,8 +128,8 @@ invariant_declared e store name root key d i =
       changes = (let l : store.changes ≤ e.count = omega (arith, few, same) in l);
       creates_too = i.creates_too;
       lasts = λ asked. (let a = last asked in let b = i.lasts asked in let l : last_in store asked ≤ store.changes = omega (arith, a, b, same) in l);
-      can = each_more (CanTell e.labels e.store e.table) (CanTell e.labels store e.table)
-          (can_store e.labels e.store store e.table (λ asked. let a = last asked in let l : last_in e.store asked ≤ last_in store asked = omega (arith, a) in l)
+      can = each_more (CanTell e.handed e.store e.table) (CanTell e.handed store e.table)
+          (can_store e.handed e.store store e.table (λ asked. let a = last asked in let l : last_in e.store asked ≤ last_in store asked = omega (arith, a) in l)
           (λ asked. let a = last asked in let b = i.lasts asked in let n = i.number in let l : last_in store asked ≤ e.table.number = omega (arith, a, b, n) in l)) e.subscriptions i.can;
       rise = i.rise;
       installed = i.installed;
@@ -150,8 +151,8 @@ invariant_alike e store alike i =
       changes = (let l : store.changes ≤ e.count = omega (arith, few, same) in l);
       creates_too = i.creates_too;
       lasts = λ asked. (let a = last asked in let b = i.lasts asked in let l : last_in store asked ≤ store.changes = omega (arith, a, b, same) in l);
-      can = each_more (CanTell e.labels e.store e.table) (CanTell e.labels store e.table)
-          (can_store e.labels e.store store e.table (λ asked. let a = last asked in let l : last_in e.store asked ≤ last_in store asked = omega (arith, a) in l)
+      can = each_more (CanTell e.handed e.store e.table) (CanTell e.handed store e.table)
+          (can_store e.handed e.store store e.table (λ asked. let a = last asked in let l : last_in e.store asked ≤ last_in store asked = omega (arith, a) in l)
           (λ asked. let a = last asked in let b = i.lasts asked in let n = i.number in let l : last_in store asked ≤ e.table.number = omega (arith, a, b, n) in l)) e.subscriptions i.can;
       rise = i.rise;
       installed = i.installed;
@@ -176,16 +177,16 @@ invariant_changed e change store table i more few last lasts fed fits upto numbe
   changes = (let l : store.changes ≤ e.count = omega (arith, more, few) in l);
   creates_too = i.creates_too;
   lasts = lasts;
-  can = each_more (CanTell e.labels e.store e.table) (CanTell e.labels store table)
-      (λ m can. can_store e.labels e.store store table last few_lasts m
-      (can_table e.labels e.store e.table table (later e.table table number) (fed_still e.store change e.table table (world_in store) fed fits) m can)) e.subscriptions i.can;
+  can = each_more (CanTell e.handed e.store e.table) (CanTell e.handed store table)
+      (λ m can. can_store e.handed e.store store table last few_lasts m
+      (can_table e.handed e.store e.table table (later e.table table number) (fed_still e.store change e.table table (world_in store) fed fits) m can)) e.subscriptions i.can;
   rise = i.rise;
   installed = i.installed;
   number = number_is ∙ sym more;
   fits = fits;
   sound = sound_fed e.store change e.table.files table.files (world_in store) fed (subst (λ n. Fits n (world_in store) table.files) number_is fits) (subst (λ n. AreUpTo n table.files) number_is upto) i.sound;
   next = (let n = i.next in let l : table.next_file ≤ 256 * e.creates = omega (arith, n, next) in l);
-  serve = serve_fed e.table table e.cache number next i.serve;
+  serve = serve_fed e.handed.relations e.table table e.cache number next i.serve;
   counts = i.counts;
 }
   where
@@ -197,10 +198,10 @@ invariant_changed e change store table i more few last lasts fed fits upto numbe
 
 -- before the commit the subscriptions can be told
 pub can_fed : (e : EngineState) (change : List Portion) (w : World) (table : TableState) → Invariant e → AreFed e.store change e.table.files table.files → Fits table.number w table.files → table.number ≡ e.table.number + 1
-    → AllByRecursion (CanTell e.labels e.store table) e.subscriptions
+    → AllByRecursion (CanTell e.handed e.store table) e.subscriptions
 can_fed e change w table i fed fits number =
-    each_more (CanTell e.labels e.store e.table) (CanTell e.labels e.store table)
-    (can_table e.labels e.store e.table table (later e.table table number) (fed_still e.store change e.table table w fed fits)) e.subscriptions i.can
+    each_more (CanTell e.handed e.store e.table) (CanTell e.handed e.store table)
+    (can_table e.handed e.store e.table table (later e.table table number) (fed_still e.store change e.table table w fed fits)) e.subscriptions i.can
 
 rise_push : (creates : ℕ) (ms : List Kept) (m : Kept) → InstallsRise ms → InstallsAreUpTo creates ms → creates < m.install → InstallsRise (ms ++ m ∷ [])
 rise_push creates [] m r u less = (tt, tt)
@@ -232,7 +233,7 @@ invariant_created e i few =
 
 -- the subscription is there, with the file of its plan
 pub invariant_added : (e : EngineState) (expr : Expr) (table : TableState) (file : ℕ) (m : Kept) → Invariant e → IsInstalled expr e.table table file → Fits table.number (world_in e.store) table.files → operators expr ≤ 256
-    → CanTell e.labels e.store table m → m.install ≡ e.creates + 1
+    → CanTell e.handed e.store table m → m.install ≡ e.creates + 1
     → e.creates + 1 ≤ e.count → Invariant (record e { creates = e.creates + 1; subscriptions = e.subscriptions ++ m ∷ []; table = table })
 invariant_added e expr table file m i done fits small can install few =
     let n = i.next in let room = done.room in
@@ -240,16 +241,16 @@ invariant_added e expr table file m i done fits small can install few =
       changes = i.changes;
       creates_too = few;
       lasts = i.lasts;
-      can = each_push (CanTell e.labels e.store table) e.subscriptions m
-          (each_more (CanTell e.labels e.store e.table) (CanTell e.labels e.store table)
-          (can_table e.labels e.store e.table table (let same = done.same in let l : e.table.number ≤ table.number = omega (arith, same) in l) (installed_still expr e.table table file (world_in e.store) done fits)) e.subscriptions i.can) can;
+      can = each_push (CanTell e.handed e.store table) e.subscriptions m
+          (each_more (CanTell e.handed e.store e.table) (CanTell e.handed e.store table)
+          (can_table e.handed e.store e.table table (let same = done.same in let l : e.table.number ≤ table.number = omega (arith, same) in l) (installed_still expr e.table table file (world_in e.store) done fits)) e.subscriptions i.can) can;
       rise = rise_push e.creates e.subscriptions m i.rise i.installed (let l : e.creates < m.install = omega (arith, install) in l);
       installed = each_push (λ (x : Kept). x.install ≤ e.creates + 1) e.subscriptions m (few_more e.creates e.subscriptions i.installed) (let l : m.install ≤ e.creates + 1 = omega (arith, install) in l);
       number = done.same ∙ i.number;
       fits = fits;
       sound = sound_installed expr e.table table file (world_in e.store) done fits i.sound;
       next = (let l : table.next_file ≤ 256 * (e.creates + 1) = omega (arith, n, room, small) in l);
-      serve = serve_installed expr e.table table file done done.order e.cache i.serve;
+      serve = serve_installed e.handed.relations expr e.table table file done done.order e.cache i.serve;
       counts = counts_joined e.subscriptions m e.distinct i.counts;
     }
 
@@ -282,9 +283,9 @@ module _ (store : StoreState) (test : Kept → Bool) where
         changes = i.changes;
         creates_too = i.creates_too;
         lasts = i.lasts;
-        can = subst (λ (s : StoreState). AllByRecursion (CanTell e.labels s e.table) (map noted_one e.subscriptions)) (sym same)
-            (each_map (CanTell e.labels store e.table) (CanTell e.labels store e.table) noted_one (λ m can. can_noted e.labels store e.table up now lasts (test m) m can) e.subscriptions
-            (subst (λ (s : StoreState). AllByRecursion (CanTell e.labels s e.table) e.subscriptions) same i.can));
+        can = subst (λ (s : StoreState). AllByRecursion (CanTell e.handed s e.table) (map noted_one e.subscriptions)) (sym same)
+            (each_map (CanTell e.handed store e.table) (CanTell e.handed store e.table) noted_one (λ m can. can_noted e.handed store e.table up now lasts (test m) m can) e.subscriptions
+            (subst (λ (s : StoreState). AllByRecursion (CanTell e.handed s e.table) e.subscriptions) same i.can));
         rise = rise_noted e.subscriptions i.rise;
         installed = each_map (λ n. n.install ≤ e.creates) (λ n. n.install ≤ e.creates) noted_one (λ n few. let a = one_install n in (let l : (noted_one n).install ≤ e.creates = omega (arith, few, a) in l)) e.subscriptions i.installed;
         number = i.number;
@@ -304,9 +305,9 @@ rise_filter keep (m ∷ ms) r =
     ]
 
 can_all : (e : EngineState) (table : TableState) → AreOf e.table.files table.files → table.number ≡ e.table.number → (ms : List Kept) → AllByRecursion (λ m. HasFile table.files (plan_in m) m.file.0) ms
-    → AllByRecursion (CanTell e.labels e.store e.table) ms → AllByRecursion (CanTell e.labels e.store table) ms
+    → AllByRecursion (CanTell e.handed e.store e.table) ms → AllByRecursion (CanTell e.handed e.store table) ms
 can_all e table left same [] f c = tt
-can_all e table left same (m ∷ ms) f c = (can_left e.labels e.store e.table table left same m f.0 c.0, can_all e table left same ms f.1 c.1)
+can_all e table left same (m ∷ ms) f c = (can_left e.handed e.store e.table table left same m f.0 c.0, can_all e table left same ms f.1 c.1)
 
 -- fewer files tell what they told
 fits_left : (old new : Files) (now : ℕ) (w : World) → AreOf old new → Fits now w old → Fits now w new
@@ -321,23 +322,23 @@ invariant_left e keep table distinct i live_table left number next counts = reco
   changes = i.changes;
   creates_too = i.creates_too;
   lasts = i.lasts;
-  can = can_all e table left number (filter keep e.subscriptions) live_table.files (each_filter (CanTell e.labels e.store e.table) keep e.subscriptions i.can);
+  can = can_all e table left number (filter keep e.subscriptions) live_table.files (each_filter (CanTell e.handed e.store e.table) keep e.subscriptions i.can);
   rise = rise_filter keep e.subscriptions i.rise;
   installed = each_filter (λ (m : Kept). m.install ≤ e.creates) keep e.subscriptions i.installed;
   number = number ∙ i.number;
   fits = subst (λ n. Fits n (world_in e.store) table.files) (sym number) (fits_left e.table.files table.files e.table.number (world_in e.store) left i.fits);
   sound = sound_left e.table.files table.files left i.sound;
   next = (let n = i.next in let l : table.next_file ≤ 256 * e.creates = omega (arith, n, next) in l);
-  serve = serve_left e.table table e.cache left number next i.serve;
+  serve = serve_left e.handed.relations e.table table e.cache left number next i.serve;
   counts = counts;
 }
 
 -- one subscription is gone
 pub left_holds : (e : EngineState) (install : ℕ) (live_table : LiveState) (distinct : DistinctTable) → Invariant e → IsLeftBy (install ∷ []) (record { table = e.table; subscriptions = e.subscriptions; instant = e.clock }) live_table → IsLiveTable live_table.table live_table.subscriptions
     → AreRemoved (install ∷ []) e.distinct distinct
-    → IsEngine e.store e.count e.creates e.labels live_table.subscriptions live_table.table e.cache distinct
+    → IsEngine e.store e.count e.creates e.handed live_table.subscriptions live_table.table e.cache distinct
 left_holds e install live_table distinct holds left owns gone =
     let subscriptions : live_table.subscriptions ≡ without (install ∷ []) e.subscriptions = left.subscriptions in
-    subst (λ (ms : List Kept). IsEngine e.store e.count e.creates e.labels ms live_table.table e.cache distinct) (sym subscriptions)
+    subst (λ (ms : List Kept). IsEngine e.store e.count e.creates e.handed ms live_table.table e.cache distinct) (sym subscriptions)
     (invariant_left e (λ m. not (list_any (nat_eq m.install) (install ∷ []))) live_table.table distinct holds (subst (IsLiveTable live_table.table) subscriptions owns) left.files left.number left.next_file
     (counts_left (install ∷ []) e.subscriptions e.distinct distinct holds.counts gone))

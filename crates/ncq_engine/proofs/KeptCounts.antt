@@ -18,14 +18,15 @@ use Rattle.ncq_engine.specs.Engines.{KeepsCounts, fired_if, news_in}
 use Rattle.ncq_engine.specs.Firing.{mark}
 use Rattle.ncq_engine.specs.History.{History, Subscription}
 use Rattle.ncq_engine.specs.Tellings.{Awaits, awaited_of, is_fired, without}
+use Rattle.ncq_plan.specs.Relations.{Relations}
 use Rattle.ncq_engine.proofs.Lists.{each_more}
 
 -- the same counts are right for the same history
-pub counted_same : (h : History) (old new : DistinctTable) → HaveSameCounts old new → (subs : List Subscription)
-    → AllByRecursion (IsCounted h old) subs → AllByRecursion (IsCounted h new) subs
-counted_same h old new same =
-    each_more (IsCounted h old) (IsCounted h new)
-    (λ s counted asked. subst (λ counts. AreCountsOf counts (all_at s.statement.query h (mark s h))) (sym (same s.install)) (counted asked))
+pub counted_same : (relations : Relations) (h : History) (old new : DistinctTable) → HaveSameCounts old new → (subs : List Subscription)
+    → AllByRecursion (IsCounted relations h old) subs → AllByRecursion (IsCounted relations h new) subs
+counted_same relations h old new same =
+    each_more (IsCounted relations h old) (IsCounted relations h new)
+    (λ s counted asked. subst (λ counts. AreCountsOf counts (all_at relations s.statement.query h (mark s h))) (sym (same s.install)) (counted asked))
 
 -- whether the subscription has DISTINCT and this install number
 abbrev is_counted : ℕ → Kept → Bool
@@ -64,18 +65,18 @@ pub counts_noted : (test : Kept → Bool) (store : StoreState) (subscriptions : 
 counts_noted test store subscriptions distinct kept install none = kept install (sym (any_noted test store install subscriptions) ∙ none)
 
 -- the changes that wait were made: they wait for none but subscriptions with DISTINCT
-none_awaited : (store : StoreState) (files : Files) (firings : List Firing) (install : ℕ) (ms : List Kept)
-    → list_any (is_counted install) ms ≡ false → awaited_of store files firings (subscription_of install ms) ≡ []
-none_awaited store files firings install [] none = refl
-none_awaited store files firings install (m ∷ ms) none =
+none_awaited : (relations : Relations) (store : StoreState) (files : Files) (firings : List Firing) (install : ℕ) (ms : List Kept)
+    → list_any (is_counted install) ms ≡ false → awaited_of relations store files firings (subscription_of install ms) ≡ []
+none_awaited relations store files firings install [] none = refl
+none_awaited relations store files firings install (m ∷ ms) none =
     elim (is_of install m) as (λ t. (m.distinct && t || list_any (is_counted install) ms) ≡ false
-    → awaited_of store files firings (cond t (Some m) (subscription_of install ms)) ≡ []) [
+    → awaited_of relations store files firings (cond t (Some m) (subscription_of install ms)) ≡ []) [
       | true ↦ λ e. undistinct m.distinct e
-      | false ↦ λ e. none_awaited store files firings install ms (later m.distinct e)
+      | false ↦ λ e. none_awaited relations store files firings install ms (later m.distinct e)
     ] none
   where
     undistinct : (d : Bool) → (d && true || list_any (is_counted install) ms) ≡ false
-        → (if d && is_fired firings m then news_in store files m else []) ≡ []
+        → (if d && is_fired firings m then news_in relations store files m else []) ≡ []
     undistinct true e = absurd (true≢false e)
     undistinct false e = refl
 
@@ -83,13 +84,13 @@ none_awaited store files firings install (m ∷ ms) none =
     later true e = e
     later false e = e
 
-pub counts_settled : (store : StoreState) (live_table : LiveState) (firings : List Firing) (old waiting new : DistinctTable)
-    → KeepsCounts live_table.subscriptions old → Awaits store live_table firings waiting → HaveSameCounts old waiting
+pub counts_settled : (relations : Relations) (store : StoreState) (live_table : LiveState) (firings : List Firing) (old waiting new : DistinctTable)
+    → KeepsCounts live_table.subscriptions old → Awaits relations store live_table firings waiting → HaveSameCounts old waiting
     → ((any : ℕ) → counts_at new any ≡ after (counts_at waiting any) (waiting_at waiting any))
     → KeepsCounts live_table.subscriptions new
-counts_settled store live_table firings old waiting new kept awaits same settled install none =
+counts_settled relations store live_table firings old waiting new kept awaits same settled install none =
     settled install
-    ∙ ap (after (counts_at waiting install)) (awaits install ∙ none_awaited store live_table.table.files firings install live_table.subscriptions none)
+    ∙ ap (after (counts_at waiting install)) (awaits install ∙ none_awaited relations store live_table.table.files firings install live_table.subscriptions none)
     ∙ same install ∙ kept install none
 
 -- the counts of these numbers are gone

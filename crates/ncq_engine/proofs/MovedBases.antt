@@ -62,7 +62,7 @@ module _ (e : EngineState) (table : TableState) (moved : AreMoved e table.files)
       (subst (λ (x : Expr). IsContent e.table.number new.content.rows (rows_in x w)) (sym m.2.expr)
       (m.2.stays e.table.number (rows_in old.expr w) low (held number old m.1)))
 
-  can_still : (w : World) → Fits table.number w table.files → (m : Kept) → CanTell e.labels e.store e.table m → ((number : ℕ) → IsUnder e.store number (least_of e number) m) → CanTell e.labels e.store table m
+  can_still : (w : World) → Fits table.number w table.files → (m : Kept) → CanTell e.handed e.store e.table m → ((number : ℕ) → IsUnder e.store number (least_of e number) m) → CanTell e.handed e.store table m
   can_still w fits_now m can under =
       let f = moved.forth m.file.0 can.file can.at in
       record {
@@ -98,7 +98,7 @@ module _ (e : EngineState) (table : TableState) (moved : AreMoved e table.files)
         changes = i.changes;
         creates_too = i.creates_too;
         lasts = i.lasts;
-        can = each_both (CanTell e.labels e.store e.table) (λ m. (number : ℕ) → IsUnder e.store number (least_of e number) m) (CanTell e.labels e.store table) (can_still (world_in e.store) fits_now) e.subscriptions i.can
+        can = each_both (CanTell e.handed e.store e.table) (λ m. (number : ℕ) → IsUnder e.store number (least_of e number) m) (CanTell e.handed e.store table) (can_still (world_in e.store) fits_now) e.subscriptions i.can
             (each_at (λ number. IsUnder e.store number (least_of e number)) e.subscriptions (λ number. least_under e.store number e.subscriptions));
         rise = i.rise;
         installed = i.installed;
@@ -106,7 +106,7 @@ module _ (e : EngineState) (table : TableState) (moved : AreMoved e table.files)
         fits = fits_now;
         sound = sounds i.sound;
         next = (let n = i.next in let l : table.next_file ≤ 256 * e.creates = omega (arith, n, next_file) in l);
-        serve = none_serve table e.cache nothing;
+        serve = none_serve e.handed.relations table e.cache nothing;
         counts = i.counts;
       }
 

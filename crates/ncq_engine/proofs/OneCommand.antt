@@ -6,7 +6,7 @@ use Rattle.ncq_bag.specs.Bags.{count_in}
 use Rattle.ncq_bind.specs.Answers.{all}
 use Rattle.ncq_bind.specs.NormalQueries.{normal_query}
 use Rattle.ncq_book.specs.declared.subscription.Subscription.{Subscription as Kept}
-use Rattle.ncq_callback.specs.Labels.{Label}
+use Rattle.ncq_callback.specs.Labels.{Handed}
 use Rattle.ncq_distinct.specs.DistinctTables.{DistinctTable}
 use Rattle.ncq_midfile.specs.Content.{IsContent}
 use Rattle.ncq_plan.specs.Exprs.{World, rows_in}
@@ -31,6 +31,7 @@ use Rattle.ncq_engine.specs.Works.{IsWithinWork}
 use Rattle.ncq_engine.specs.declared.telling.Answered.{Answered}
 use Rattle.ncq_engine.specs.declared.engine.ApplyError.{ApplyError}
 use Rattle.ncq_engine.specs.declared.engine.ApplyError.TheVariants.{OutOfMemory, Refused}
+use Rattle.ncq_plan.specs.Relations.{Relations}
 use Rattle.ncq_engine.proofs.Lists.{each_more}
 
 module _ (changed : List Section) (h : History) where
@@ -44,19 +45,19 @@ module _ (changed : List Section) (h : History) where
   contents_too : (files : Files) → AreContents files (Delta changed ∷ h) → AreContents files (Batch changed ∷ h)
   contents_too files contents number file change at low few = subst (λ (w : World). IsContent change file.content.rows (rows_in file.expr w)) (same_up_to change) (contents number file change at low few)
 
-  alike_too : (labels : List Label) (s : Subscription) → alike_before (language_of labels) (Delta changed ∷ h) s ≡ alike_before (language_of labels) (Batch changed ∷ h) s
-  alike_too labels s =
-      let among = alike_in (language_of labels) (bare_of (normal_query s.statement.query)) in
+  alike_too : (handed : Handed) (s : Subscription) → alike_before (language_of handed) (Delta changed ∷ h) s ≡ alike_before (language_of handed) (Batch changed ∷ h) s
+  alike_too handed s =
+      let among = alike_in (language_of handed) (bare_of (normal_query s.statement.query)) in
       elim (nat_lt (creates (Delta changed ∷ h)) s.install) as (λ t. among (live (if t then Delta changed ∷ h else before_create s.install h)) ≡ among (live (if t then Batch changed ∷ h else before_create s.install h))) [
         | true ↦ refl
         | false ↦ refl
       ]
 
-  keeps_too : (labels : List Label) (subs : List Subscription) (ms : List Kept) → Pairwise (Keeps labels (Delta changed ∷ h)) subs ms → Pairwise (Keeps labels (Batch changed ∷ h)) subs ms
-  keeps_too labels [] [] p = tt
-  keeps_too labels [] (m ∷ ms) p = absurd p
-  keeps_too labels (s ∷ subs) [] p = absurd p
-  keeps_too labels (s ∷ subs) (m ∷ ms) p =
+  keeps_too : (handed : Handed) (subs : List Subscription) (ms : List Kept) → Pairwise (Keeps handed (Delta changed ∷ h)) subs ms → Pairwise (Keeps handed (Batch changed ∷ h)) subs ms
+  keeps_too handed [] [] p = tt
+  keeps_too handed [] (m ∷ ms) p = absurd p
+  keeps_too handed (s ∷ subs) [] p = absurd p
+  keeps_too handed (s ∷ subs) (m ∷ ms) p =
       let k = p.0 in (
         record {
           name = k.name;
@@ -65,7 +66,7 @@ module _ (changed : List Section) (h : History) where
           bound = k.bound;
           query = k.query;
           bare = k.bare;
-          choice = k.choice ∙ ap (choice_of m.query) (alike_too labels s);
+          choice = k.choice ∙ ap (choice_of m.query) (alike_too handed s);
           distinct = k.distinct;
           timing = k.timing;
           kind = k.kind;
@@ -74,16 +75,16 @@ module _ (changed : List Section) (h : History) where
           install = k.install;
           marked = k.marked;
         },
-        keeps_too labels subs ms p.1,
+        keeps_too handed subs ms p.1,
       )
 
-  all_too : (query : Query) (o : Option ℕ) → all_at query (Delta changed ∷ h) o ≡ all_at query (Batch changed ∷ h) o
-  all_too query None = refl
-  all_too query (Some number) = ap (λ (w : World). map pyx (all query w)) (same_up_to number)
+  all_too : (relations : Relations) (query : Query) (o : Option ℕ) → all_at relations query (Delta changed ∷ h) o ≡ all_at relations query (Batch changed ∷ h) o
+  all_too relations query None = refl
+  all_too relations query (Some number) = ap (λ (w : World). map pyx (all relations query w)) (same_up_to number)
 
-  counted_too : (distinct : DistinctTable) (subs : List Subscription) → AllByRecursion (IsCounted (Delta changed ∷ h) distinct) subs → AllByRecursion (IsCounted (Batch changed ∷ h) distinct) subs
-  counted_too distinct =
-      each_more (IsCounted (Delta changed ∷ h) distinct) (IsCounted (Batch changed ∷ h) distinct) (λ s counted asked key. counted asked key ∙ ap (count_in key) (all_too s.statement.query (mark s (Delta changed ∷ h))))
+  counted_too : (relations : Relations) (distinct : DistinctTable) (subs : List Subscription) → AllByRecursion (IsCounted relations (Delta changed ∷ h) distinct) subs → AllByRecursion (IsCounted relations (Batch changed ∷ h) distinct) subs
+  counted_too relations distinct =
+      each_more (IsCounted relations (Delta changed ∷ h) distinct) (IsCounted relations (Batch changed ∷ h) distinct) (λ s counted asked key. counted asked key ∙ ap (count_in key) (all_too relations s.statement.query (mark s (Delta changed ∷ h))))
 
   follows_too : (engine : EngineState) → Follows engine (Delta changed ∷ h) → Follows engine (Batch changed ∷ h)
   follows_too engine f = record {
@@ -92,9 +93,9 @@ module _ (changed : List Section) (h : History) where
     changes = f.changes;
     clock = f.clock;
     creates = f.creates;
-    subscriptions = keeps_too engine.labels (live h) engine.subscriptions f.subscriptions;
+    subscriptions = keeps_too engine.handed (live h) engine.subscriptions f.subscriptions;
     contents = contents_too engine.table.files f.contents;
-    counted = counted_too engine.distinct (live h) f.counted;
+    counted = counted_too engine.handed.relations engine.distinct (live h) f.counted;
     rising = f.rising;
   }
 
@@ -106,11 +107,11 @@ batch_applies changed old out (Ok answered) new out' a = record {
   follows = λ h s. follows_too changed h new (a.follows h s);
   answer = a.answer;
   counted = a.counted;
-  labels = a.labels;
+  handed = a.handed;
   places = λ h s. let p = a.places h s in record { between = record { begins = p.between.begins; ends = p.between.ends }; spans = p.spans };
 }
-batch_applies changed old out (Err (Refused why)) new out' a = record { refused = a.refused; follows = a.follows; counted = a.counted; labels = a.labels; unwritten = a.unwritten }
-batch_applies changed old out (Err OutOfMemory) new out' a = record { follows = a.follows; uncounted = a.uncounted; labels = a.labels; front = a.front }
+batch_applies changed old out (Err (Refused why)) new out' a = record { refused = a.refused; follows = a.follows; counted = a.counted; handed = a.handed; unwritten = a.unwritten }
+batch_applies changed old out (Err OutOfMemory) new out' a = record { follows = a.follows; uncounted = a.uncounted; handed = a.handed; front = a.front }
 
 pub batch_work : (changed : List Section) (engine : EngineState) (old new : ℕ) → IsWithinWork engine (Delta changed) old new → IsWithinWork engine (Batch changed) old new
 batch_work changed engine old new within = within

@@ -6,7 +6,7 @@ use Rattle.std.specs.List.{flat_map, list_any}
 use Rattle.std.proofs.lemmas.Bool.{false≢true}
 use Rattle.ncq_base.proofs.CountLaws.{counts-length}
 use Rattle.ncq_book.specs.declared.subscription.Subscription.{Subscription as Kept}
-use Rattle.ncq_callback.specs.Labels.{Label}
+use Rattle.ncq_callback.specs.Labels.{Handed}
 use Rattle.ncq_live.specs.LiveTables.{plan_in}
 use Rattle.ncq_plan.specs.declared.expr.Expr.{Expr}
 use Rattle.ncq_plan.specs.declared.expr.Expr.TheVariants.{Scan, EqSel, RangeSel, Join}
@@ -152,9 +152,9 @@ pub apart_closure : (language : Language) (h : History) → AreApart (closure la
 apart_closure language h = distinct_apart (flat_map parts (live_plans language h))
 
 -- the plans of what is kept of the subscriptions are the plans of the subscriptions
-pub plans_are : (labels : List Label) (h : History) (subs : List Subscription) (ms : List Kept) → Pairwise (Keeps labels h) subs ms
-    → map plan_in ms ≡ map (plan_at (language_of labels) h) subs
-plans_are labels h [] [] p = refl
-plans_are labels h [] (m ∷ ms) p = absurd p
-plans_are labels h (s ∷ subs) [] p = absurd p
-plans_are labels h (s ∷ subs) (m ∷ ms) p = λ i. plan_is labels h s m p.0 i ∷ plans_are labels h subs ms p.1 i
+pub plans_are : (handed : Handed) (h : History) (subs : List Subscription) (ms : List Kept) → Pairwise (Keeps handed h) subs ms
+    → map plan_in ms ≡ map (plan_at (language_of handed) h) subs
+plans_are handed h [] [] p = refl
+plans_are handed h [] (m ∷ ms) p = absurd p
+plans_are handed h (s ∷ subs) [] p = absurd p
+plans_are handed h (s ∷ subs) (m ∷ ms) p = λ i. plan_is handed h s m p.0 i ∷ plans_are handed h subs ms p.1 i

@@ -7,7 +7,7 @@ use Rattle.std.specs.List.{list_any, AllByRecursion}
 use Rattle.std.specs.Str.{bytes_eq}
 use Rattle.ncq_bag.specs.Bags.{difference}
 use Rattle.ncq_book.specs.declared.subscription.Subscription.{Subscription as Kept}
-use Rattle.ncq_callback.specs.Labels.{Label}
+use Rattle.ncq_callback.specs.Labels.{Handed}
 use Rattle.ncq_event.specs.declared.timing.Timing.{Timing}
 use Rattle.ncq_group.specs.Tables.{TableState}
 use Rattle.ncq_midfile.specs.Content.{IsContent, since}
@@ -88,10 +88,10 @@ none_since n (r ∷ rows) none =
     ] refl none
 
 -- a subscription that fires at changes and has started, behind a change
-module _ (labels : List Label) (h : History) (changed : List Section) (store : StoreState) (table : TableState)
+module _ (handed : Handed) (h : History) (changed : List Section) (store : StoreState) (table : TableState)
     (last : (asked : List ℕ) → last_in store asked ≡ last_change asked h) (rising : IsRising h) (contents : AreContents table.files (Delta changed ∷ h))
     (upto : AreUpTo (changes (Delta changed ∷ h)) table.files) where
-  module _ (s : Subscription) (m : Kept) (k : Keeps labels h s m) (can : CanTell labels store table m) (fired : FiresFirst h s)
+  module _ (s : Subscription) (m : Kept) (k : Keeps handed h s m) (can : CanTell handed store table m) (fired : FiresFirst h s)
       (based : m.timing.every == 0 ≡ true) (started : nat_le m.timing.start (now h) ≡ true) where
     has_mark : HasMark s h
     has_mark =
@@ -100,7 +100,7 @@ module _ (labels : List Label) (h : History) (changed : List Section) (store : S
 
     -- all that its query answers before the change
     abbrev all_before : List (List ℕ)
-    all_before = all_over s.statement.query (sources h)
+    all_before = all_over handed.relations s.statement.query (sources h)
 
     -- the rows of its plan at a number
     abbrev then_rows : ℕ → List Row
@@ -108,37 +108,37 @@ module _ (labels : List Label) (h : History) (changed : List Section) (store : S
 
     -- at a number that covers the sources it answers that
     all_since : (number : ℕ) → ((asked : List ℕ) → list_any (bytes_eq asked) (sources_of s.statement) ≡ true → last_change asked h ≤ number)
-        → all_over s.statement.query (sources (up_to number h)) ≡ all_before
-    all_since number covers = same_all s.statement (sources (up_to number h)) (sources h) (λ asked there. stays_since asked number h (covers asked there))
+        → all_over handed.relations s.statement.query (sources (up_to number h)) ≡ all_before
+    all_since number covers = same_all handed.relations s.statement (sources (up_to number h)) (sources h) (λ asked there. stays_since asked number h (covers asked there))
 
     -- nothing is told of a source that it does not ask
-    pub quiet_elsewhere : are_named changed m.sources ≡ false → news_in store table.files m ≡ []
-    quiet_elsewhere elsewhere = news_is labels h (Delta changed) store table last rising contents upto s m k can ∙ nothing
+    pub quiet_elsewhere : are_named changed m.sources ≡ false → news_in handed.relations store table.files m ≡ []
+    quiet_elsewhere elsewhere = news_is handed h (Delta changed) store table last rising contents upto s m k can ∙ nothing
       where
         unasked : are_named changed (sources_of s.statement) ≡ false
         unasked = ap (are_named changed) (sym k.sources) ∙ elsewhere
 
-        all_now : all_over s.statement.query (sources (Delta changed ∷ h)) ≡ all_before
-        all_now = same_all s.statement (sources (Delta changed ∷ h)) (sources h)
+        all_now : all_over handed.relations s.statement.query (sources (Delta changed ∷ h)) ≡ all_before
+        all_now = same_all handed.relations s.statement (sources (Delta changed ∷ h)) (sources h)
             (λ asked there. other_stays asked changed h (not_asked changed asked (sources_of s.statement) unasked there))
 
-        nothing : all_news s h (Delta changed) ≡ []
+        nothing : all_news handed.relations s h (Delta changed) ≡ []
         nothing =
-            (λ i. difference (all_now i) (all_at s.statement.query h (has_mark.is i)))
+            (λ i. difference (all_now i) (all_at handed.relations s.statement.query h (has_mark.is i)))
             ∙ ap (difference all_before) (all_since has_mark.number has_mark.covers)
             ∙ same_bag all_before
 
     -- nothing is told where its file has no row of the change
-    pub quiet_unfed : since (changes h) can.file.content.rows ≡ [] → news_in store table.files m ≡ []
+    pub quiet_unfed : since (changes h) can.file.content.rows ≡ [] → news_in handed.relations store table.files m ≡ []
     quiet_unfed unfed =
-        (λ i. entries_of m.query (since_mark (marks i) (rows_in_file (can.at i))))
-        ∙ since_tell m.query has_mark.number (changes h) can.file.content.rows (then_rows has_mark.number) (then_rows (changes h))
+        (λ i. entries_of handed.relations m.query (since_mark (marks i) (rows_in_file (can.at i))))
+        ∙ since_tell handed.relations m.query has_mark.number (changes h) can.file.content.rows (then_rows has_mark.number) (then_rows (changes h))
         (none_since (changes h) can.file.content.rows unfed) (content_then has_mark.number base has_mark.few) content_now
         ∙ (λ i. difference (answers_then (changes h) (λ asked there. last_few asked h) i) (answers_then has_mark.number has_mark.covers i))
         ∙ same_bag all_before
       where
         marks : mark_in store m ≡ Some has_mark.number
-        marks = mark_is labels h s m k rising store last ∙ has_mark.is
+        marks = mark_is handed h s m k rising store last ∙ has_mark.is
 
         base : can.file.content.base ≤ has_mark.number
         base = subst (λ o. IfSome o (λ number. can.file.content.base ≤ number)) marks can.base
@@ -151,8 +151,8 @@ module _ (labels : List Label) (h : History) (changed : List Section) (store : S
             (contents m.file.0 can.file number can.at low within))
 
         answers_then : (number : ℕ) → ((asked : List ℕ) → list_any (bytes_eq asked) (sources_of s.statement) ≡ true → last_change asked h ≤ number)
-            → answers_in m.query (then_rows number) ≡ all_before
-        answers_then number covers = answer_is s.statement m.query k.whole k.bound k.query (world (sources (up_to number h))) ∙ all_since number covers
+            → answers_in handed.relations m.query (then_rows number) ≡ all_before
+        answers_then number covers = answer_is handed.relations s.statement m.query k.whole k.bound k.query (world (sources (up_to number h))) ∙ all_since number covers
 
         content_now : IsContent (changes h) can.file.content.rows (then_rows (changes h))
         content_now = let few = has_mark.few in content_then (changes h) (omega (arith, few, base)) (omega arith)

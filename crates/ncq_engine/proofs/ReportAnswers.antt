@@ -25,9 +25,9 @@ follows_report e h f = record {
   changes = f.changes ∙ sym (zero-add (changes h));
   clock = f.clock;
   creates = f.creates ∙ sym (zero-add (creates h));
-  subscriptions = keep_quiet e.labels h Report (λ _. refl) e.subscriptions f.subscriptions;
+  subscriptions = keep_quiet e.handed h Report (λ _. refl) e.subscriptions f.subscriptions;
   contents = contents_stay e.table.files h Report (zero-add (changes h)) f.contents;
-  counted = counted_quietly h Report (λ _. refl) e.distinct (live h) f.counted;
+  counted = counted_quietly e.handed.relations h Report (λ _. refl) e.distinct (live h) f.counted;
   rising = rises_quietly h Report refl f.rising;
 }
 

@@ -78,10 +78,10 @@ kept_exprs files expr kept =
     (found_in kept.0 kept.1.file (entries files) (sym (get-entries files kept.0) ∙ kept.1.at))
 
 -- the files of an engine are those of the parts of the live plans, each once
-pub exprs_same : (e : EngineState) (h : History) → Follows e h → Shares e.subscriptions e.table → AreTheSame (exprs_of e.table.files) (closure (language_of e.labels) h)
+pub exprs_same : (e : EngineState) (h : History) → Follows e h → Shares e.subscriptions e.table → AreTheSame (exprs_of e.table.files) (closure (language_of e.handed) h)
 exprs_same e h f shares =
-    let language = language_of e.labels in
-    let plans = plans_are e.labels h (live h) e.subscriptions f.subscriptions in
+    let language = language_of e.handed in
+    let plans = plans_are e.handed h (live h) e.subscriptions f.subscriptions in
     record {
       apart = exprs_apart e.table.files shares.facts.grounded;
       others_apart = apart_closure language h;
@@ -98,14 +98,14 @@ pairwise_length R (x ∷ xs) [] p = absurd p
 pairwise_length R (x ∷ xs) (y ∷ ys) p = let rest = pairwise_length R xs ys p.1 in omega arith
 
 -- So what an engine counts is what a report tells of the history.
-pub summary_is : (e : EngineState) (h : History) → Follows e h → Shares e.subscriptions e.table → (s : Summary) → IsSummary e s → s ≡ summary (language_of e.labels) h
+pub summary_is : (e : EngineState) (h : History) → Follows e h → Shares e.subscriptions e.table → (s : Summary) → IsSummary e s → s ≡ summary (language_of e.handed) h
 summary_is e h f shares s is =
     let same = exprs_same e h f shares in
-    let queries = is.queries ∙ sym (pairwise_length (Keeps e.labels h) (live h) e.subscriptions f.subscriptions) in
+    let queries = is.queries ∙ sym (pairwise_length (Keeps e.handed h) (live h) e.subscriptions f.subscriptions) in
     let sources = is.sources ∙ sym (length-map e.store.sources content_of) ∙ ap length f.sources in
     let changes = is.changes ∙ f.changes in
     let files = is.files ∙ len-entries e.table.files ∙ sym (length-map (entries e.table.files) (λ entry. entry.1))
     ∙ sym (length-map (map (λ entry. entry.1) (entries e.table.files)) (λ file. file.expr))
-    ∙ same_length (exprs_of e.table.files) (closure (language_of e.labels) h) same in
-    let groups = one_list (exprs_of e.table.files) (closure (language_of e.labels) h) s.groups same is.groups in
+    ∙ same_length (exprs_of e.table.files) (closure (language_of e.handed) h) same in
+    let groups = one_list (exprs_of e.table.files) (closure (language_of e.handed) h) s.groups same is.groups in
     λ i. record { queries = queries i; sources = sources i; changes = changes i; files = files i; groups = groups i }

@@ -26,7 +26,7 @@ use Rattle.ncq_xmlql.specs.ItemReading.{has_arm}
 use Rattle.ncq_xmlql.specs.WellFormed.{IsWellFormed, begins_with_match, item_is_whole}
 use Rattle.ncq_xmlql.specs.declared.model.Pattern.{Pattern}
 use Rattle.ncq_xmlql.specs.declared.model.QueryItem.{QueryItem}
-use Rattle.ncq_xmlql.specs.declared.model.QueryItem.TheVariants.{Match, Condition}
+use Rattle.ncq_xmlql.specs.declared.model.QueryItem.TheVariants.{Match, Condition, Satisfies}
 use Rattle.ncq_xmlql.specs.declared.model.Statement.{Statement}
 use Rattle.ncq_engine.specs.Engines.{last_in, latest_in}
 use Rattle.ncq_engine.specs.Firing.{source_of, sources_of}
@@ -90,6 +90,7 @@ some_normal_arm constraints [] begins whole = absurd cc
 some_normal_arm constraints ((Match root [] source) ∷ items) begins whole = absurd cc
 some_normal_arm constraints ((Match root (pattern ∷ patterns) source) ∷ items) begins whole = omega arith
 some_normal_arm constraints ((Condition left op right) ∷ items) begins whole = absurd cc
+some_normal_arm constraints ((Satisfies variable predicate argument) ∷ items) begins whole = absurd cc
 
 -- ---- the greatest of last changes
 
@@ -115,6 +116,7 @@ module _ (store : StoreState) where
       ∙ sym (latest_append (map (λ arm. arm.source) (map (arm_of source) patterns)) (map (λ arm. arm.source) (arms_of items)))
       ∙ ap (latest_in store) (sym (map-append (λ (arm : QueryArm). arm.source) (map (arm_of source) patterns) (arms_of items)))
   latest_of_arms ((Condition left op right) ∷ items) whole = latest_of_arms items (both_true (item_is_whole (Condition left op right)) (list_all item_is_whole items) whole).1
+  latest_of_arms ((Satisfies variable predicate argument) ∷ items) whole = latest_of_arms items (both_true (item_is_whole (Satisfies variable predicate argument)) (list_all item_is_whole items) whole).1
 
 -- ---- the laws
 

@@ -5,7 +5,7 @@ use Rattle.std.specs.FinMap.{get}
 use Rattle.std.specs.Option.{option_map}
 use Rattle.std.proofs.lemmas.Bool.{cases_eq}
 use Rattle.ncq_book.specs.declared.subscription.Subscription.{Subscription as Kept}
-use Rattle.ncq_callback.specs.Labels.{Label}
+use Rattle.ncq_callback.specs.Labels.{Handed}
 use Rattle.ncq_feed.specs.Feeds.{AreFed}
 use Rattle.ncq_feed.proofs.ContentLaws.{content_sound, up_before}
 use Rattle.std.specs.FinMap.{same_map, nat_cmp-IsAntisymmetric}
@@ -61,9 +61,9 @@ mark_few old new most few m = by (m.timing.every == 0) m.noted
     by false noted h = h
 
 -- behind a store whose last changes do not fall, and are not later than the files
-pub can_store : (labels : List Label) (old new : StoreState) (table : TableState) → ((name : List ℕ) → last_in old name ≤ last_in new name) → ((name : List ℕ) → last_in new name ≤ table.number)
-    → (m : Kept) → CanTell labels old table m → CanTell labels new table m
-can_store labels old new table more few m can = record {
+pub can_store : (handed : Handed) (old new : StoreState) (table : TableState) → ((name : List ℕ) → last_in old name ≤ last_in new name) → ((name : List ℕ) → last_in new name ≤ table.number)
+    → (m : Kept) → CanTell handed old table m → CanTell handed new table m
+can_store handed old new table more few m can = record {
   formed = can.formed;
   action = can.action;
   file = can.file;
@@ -88,9 +88,9 @@ pub record HasStill (table : TableState) (number : ℕ) (was : KeptFile) : Type 
   pub base : file.content.base ≡ was.content.base
   pub sound : IsSoundAt table.number file.content.rows
 
-pub can_table : (labels : List Label) (store : StoreState) (old new : TableState) → old.number ≤ new.number → ((number : ℕ) (file : KeptFile) → get old.files number ≡ Some file → HasStill new number file)
-    → (m : Kept) → CanTell labels store old m → CanTell labels store new m
-can_table labels store old new order still m can =
+pub can_table : (handed : Handed) (store : StoreState) (old new : TableState) → old.number ≤ new.number → ((number : ℕ) (file : KeptFile) → get old.files number ≡ Some file → HasStill new number file)
+    → (m : Kept) → CanTell handed store old m → CanTell handed store new m
+can_table handed store old new order still m can =
     let s = still m.file.0 can.file can.at in
     record {
       formed = can.formed;
@@ -131,8 +131,8 @@ installed_still expr old new at w done fits number file here =
     ]
 
 -- a subscription whose file is left
-pub can_left : (labels : List Label) (store : StoreState) (old new : TableState) → AreOf old.files new.files → new.number ≡ old.number → (m : Kept) → HasFile new.files (plan_in m) m.file.0 → CanTell labels store old m → CanTell labels store new m
-can_left labels store old new left same m has can =
+pub can_left : (handed : Handed) (store : StoreState) (old new : TableState) → AreOf old.files new.files → new.number ≡ old.number → (m : Kept) → HasFile new.files (plan_in m) m.file.0 → CanTell handed store old m → CanTell handed store new m
+can_left handed store old new left same m has can =
     let was = left m.file.0 has.file has.at in
     let one : Some was.0 ≡ Some can.file = sym was.1 ∙ can.at in
     let is : was.0 ≡ can.file = cc in
@@ -150,9 +150,9 @@ can_left labels store old new left same m has can =
     }
 
 -- a subscription that is new has not fired
-pub can_new : (labels : List Label) (store : StoreState) (table : TableState) (w : World) → Fits table.number w table.files → (m : Kept) → IsWellFormed m.query → m.action < length labels → m.noted ≡ None → HasFile table.files (plan_in m) m.file.0
-    → ((any : StoreState) → latest_in any m.sources ≡ latest_in any (scanned_by (plan_in m))) → CanTell labels store table m
-can_new labels store table w fits m formed action none has asked = record {
+pub can_new : (handed : Handed) (store : StoreState) (table : TableState) (w : World) → Fits table.number w table.files → (m : Kept) → IsWellFormed m.query → m.action < length handed.labels → m.noted ≡ None → HasFile table.files (plan_in m) m.file.0
+    → ((any : StoreState) → latest_in any m.sources ≡ latest_in any (scanned_by (plan_in m))) → CanTell handed store table m
+can_new handed store table w fits m formed action none has asked = record {
   formed = formed;
   action = action;
   file = has.file;
@@ -172,10 +172,10 @@ can_new labels store table w fits m formed action none has asked = record {
         both false = refl
 
 -- a subscription that has fired now
-pub can_noted : (labels : List Label) (store : StoreState) (table : TableState) → AreUpTo store.changes table.files → table.number ≡ store.changes → ((name : List ℕ) → last_in store name ≤ store.changes)
-    → (fires : Bool) (m : Kept) → CanTell labels store table m → CanTell labels store table (fired_if fires store m)
-can_noted labels store table upto now lasts false m can = can
-can_noted labels store table upto now lasts true m can = record {
+pub can_noted : (handed : Handed) (store : StoreState) (table : TableState) → AreUpTo store.changes table.files → table.number ≡ store.changes → ((name : List ℕ) → last_in store name ≤ store.changes)
+    → (fires : Bool) (m : Kept) → CanTell handed store table m → CanTell handed store table (fired_if fires store m)
+can_noted handed store table upto now lasts false m can = can
+can_noted handed store table upto now lasts true m can = record {
   formed = can.formed;
   action = can.action;
   file = can.file;

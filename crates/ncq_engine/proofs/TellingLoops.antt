@@ -8,7 +8,7 @@ use Rattle.std.specs.List.{flat_map, AllByRecursion}
 use Rattle.ncq_book.specs.declared.subscription.Subscription.{Subscription as Kept}
 use Rattle.ncq_book.specs.Books.{is_of, subscription_of}
 use Rattle.ncq_cache.specs.Cached.{Cached}
-use Rattle.ncq_callback.specs.Labels.{Label}
+use Rattle.ncq_callback.specs.Labels.{Handed}
 use Rattle.ncq_distinct.specs.DistinctTables.{DistinctTable}
 use Rattle.ncq_event.specs.declared.firing.Firing.{Firing}
 use Rattle.ncq_group.specs.Tables.{TableState}
@@ -22,6 +22,7 @@ use Rattle.ncq_engine.specs.Spans.{span_of, spans_of}
 use Rattle.ncq_engine.specs.Tellings.{AwaitMore, AwaitsNews, firing_name, firing_text, firings_spans, firings_text, has_started, name_of, started_at, text_of}
 use Rattle.ncq_engine.proofs.AwaitLaws.{more_one}
 use Rattle.ncq_engine.proofs.CachedLaws.{grows_more}
+use Rattle.ncq_plan.specs.Relations.{Relations}
 use Rattle.ncq_engine.proofs.Lists.{flat_map_append}
 
 pub pairwise_push : {A B : Type 0} (R : A → B → Type 0) (xs : List A) (ys : List B) (x : A) (y : B) → Pairwise R xs ys → R x y → Pairwise R (xs ++ x ∷ []) (ys ++ y ∷ [])
@@ -94,9 +95,9 @@ found_has P install (x ∷ ms) m h e =
     ] e
 
 -- the text of a firing whose subscription is found
-pub text_found : (labels : List Label) (store : StoreState) (files : Files) (distinct : DistinctTable) (subscriptions : List Kept) (firing : Firing) (m : Kept) → Some m ≡ subscription_of firing.install subscriptions
-    → notice_text labels store files distinct m firing.instant ≡ firing_text labels store files distinct subscriptions firing
-text_found labels store files distinct subscriptions firing m e = ap (text_of labels store files distinct firing.instant) e
+pub text_found : (handed : Handed) (store : StoreState) (files : Files) (distinct : DistinctTable) (subscriptions : List Kept) (firing : Firing) (m : Kept) → Some m ≡ subscription_of firing.install subscriptions
+    → notice_text handed store files distinct m firing.instant ≡ firing_text handed store files distinct subscriptions firing
+text_found handed store files distinct subscriptions firing m e = ap (text_of handed store files distinct firing.instant) e
 
 -- and its name
 pub name_found : (subscriptions : List Kept) (firing : Firing) (m : Kept) → Some m ≡ subscription_of firing.install subscriptions → m.name ≡ firing_name subscriptions firing
@@ -116,27 +117,27 @@ pub found_as : (o : Option (Bor Kept)) (p : Option Kept) (m : Bor Kept) → opti
 found_as o p m e is = sym e ∙ ap option_copied is
 
 -- what one that is there and has started is told, and where that stands
-module _ (labels : List Label) (store : StoreState) (distinct : DistinctTable) (live_table : LiveState) (install : ℕ) (m : Kept) (found : subscription_of install live_table.subscriptions ≡ Some m)
+module _ (handed : Handed) (store : StoreState) (distinct : DistinctTable) (live_table : LiveState) (install : ℕ) (m : Kept) (found : subscription_of install live_table.subscriptions ≡ Some m)
     (started : has_started live_table.instant (subscription_of install live_table.subscriptions) ≡ true) where
   starts : started_at live_table.instant live_table.subscriptions install ≡ record { instant = live_table.instant; install = install } ∷ []
   starts = λ i. if started i then record { instant = live_table.instant; install = install } ∷ [] else []
 
-  pub text_started : firings_text labels store distinct live_table (started_at live_table.instant live_table.subscriptions install) ≡ notice_text labels store live_table.table.files distinct m live_table.instant
+  pub text_started : firings_text handed store distinct live_table (started_at live_table.instant live_table.subscriptions install) ≡ notice_text handed store live_table.table.files distinct m live_table.instant
   text_started =
-      ap (firings_text labels store distinct live_table) starts ∙ append-nil (text_of labels store live_table.table.files distinct live_table.instant (subscription_of install live_table.subscriptions))
-      ∙ ap (text_of labels store live_table.table.files distinct live_table.instant) found
+      ap (firings_text handed store distinct live_table) starts ∙ append-nil (text_of handed store live_table.table.files distinct live_table.instant (subscription_of install live_table.subscriptions))
+      ∙ ap (text_of handed store live_table.table.files distinct live_table.instant) found
 
-  pub spans_started : (from : ℕ) → firings_spans labels store distinct live_table from (started_at live_table.instant live_table.subscriptions install) ≡ span_of m.name from (notice_text labels store live_table.table.files distinct m live_table.instant)
+  pub spans_started : (from : ℕ) → firings_spans handed store distinct live_table from (started_at live_table.instant live_table.subscriptions install) ≡ span_of m.name from (notice_text handed store live_table.table.files distinct m live_table.instant)
   spans_started from =
-      ap (firings_spans labels store distinct live_table from) starts
-      ∙ append-nil (span_of (name_of (subscription_of install live_table.subscriptions)) from (text_of labels store live_table.table.files distinct live_table.instant (subscription_of install live_table.subscriptions)))
-      ∙ (λ i. span_of (name_of (found i)) from (text_of labels store live_table.table.files distinct live_table.instant (found i)))
+      ap (firings_spans handed store distinct live_table from) starts
+      ∙ append-nil (span_of (name_of (subscription_of install live_table.subscriptions)) from (text_of handed store live_table.table.files distinct live_table.instant (subscription_of install live_table.subscriptions)))
+      ∙ (λ i. span_of (name_of (found i)) from (text_of handed store live_table.table.files distinct live_table.instant (found i)))
 
   -- with DISTINCT what its rows tell waits too
-  pub waits_started : (old new : DistinctTable) → AwaitsNews store live_table.table.files m old new → AwaitMore store live_table (started_at live_table.instant live_table.subscriptions install) old new
+  pub waits_started : (old new : DistinctTable) → AwaitsNews handed.relations store live_table.table.files m old new → AwaitMore handed.relations store live_table (started_at live_table.instant live_table.subscriptions install) old new
   waits_started old new told =
-      subst (λ (fs : List Firing). AwaitMore store live_table fs old new) (sym starts) (more_one store live_table (record { instant = live_table.instant; install = install }) m found old new told)
+      subst (λ (fs : List Firing). AwaitMore handed.relations store live_table fs old new) (sym starts) (more_one handed.relations store live_table (record { instant = live_table.instant; install = install }) m found old new told)
 
 -- what grew, with what a call on the table added
-pub grows_on : (table called : TableState) → called ≡ table → (old mid new : List Cached) → Grows table old mid → Grows called mid new → Grows table old new
-grows_on table called is old mid new first second = grows_more table old mid new first (subst (λ (t : TableState). Grows t mid new) is second)
+pub grows_on : (relations : Relations) (table called : TableState) → called ≡ table → (old mid new : List Cached) → Grows relations table old mid → Grows relations called mid new → Grows relations table old new
+grows_on relations table called is old mid new first second = grows_more relations table old mid new first (subst (λ (t : TableState). Grows relations t mid new) is second)

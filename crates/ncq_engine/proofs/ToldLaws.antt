@@ -3,7 +3,7 @@ use Rattle.std.proofs.Common.{◌≡◌, ℕ, ◌+◌, ◌<◌, ◌≤◌, Bool,
 use Rattle.std.specs.Prelude.{Option, Some, None, if◌then◌else◌}
 use Rattle.std.proofs.lemmas.Bool.Decides.{nat_tests}
 use Rattle.std.specs.List.{filter, flat_map, AllByRecursion}
-use Rattle.ncq_callback.specs.Labels.{Label}
+use Rattle.ncq_callback.specs.Labels.{Handed}
 use Rattle.ncq_distinct.specs.DistinctTables.{DistinctTable}
 use Rattle.ncq_event.specs.declared.firing.Firing.{Firing}
 use Rattle.ncq_event.specs.Orders.{is_before, placed_by, ordered_by}
@@ -122,35 +122,35 @@ abbrev pub told_spans : ℕ → List NoticeText → List Span
 told_spans from list = spans_of (λ (t : NoticeText). t.name) (λ (t : NoticeText). t.text) from list
 
 -- what subscriptions are told, each with its firing
-abbrev pub told_of : List Label → StoreState → Files → DistinctTable → (Kept → Option ℕ) → List Kept → List NoticeText
-told_of labels store files distinct instant ms = flat_map (λ m. notice_texts labels store files distinct m (instant m)) ms
+abbrev pub told_of : Handed → StoreState → Files → DistinctTable → (Kept → Option ℕ) → List Kept → List NoticeText
+told_of handed store files distinct instant ms = flat_map (λ m. notice_texts handed store files distinct m (instant m)) ms
 
-module _ (labels : List Label) (h : History) (command : Command) where
+module _ (handed : Handed) (h : History) (command : Command) where
   -- the notice of a firing, with the firing
   abbrev pub noticed : Fired → NoticeText
-  noticed f = record { firing = f.0; name = f.1.statement.name; text = notice_at (language_of labels) h command f }
+  noticed f = record { firing = f.0; name = f.1.statement.name; text = notice_at (language_of handed) h command f }
 
   map_push : (xs ys : List Fired) → map noticed (xs ++ ys) ≡ map noticed xs ++ map noticed ys
   map_push [] ys = refl
   map_push (x ∷ xs) ys = ap (λ more. noticed x ∷ more) (map_push xs ys)
 
-  pub texts_of : (xs : List Fired) → flat_map (λ (t : NoticeText). t.text) (map noticed xs) ≡ flat_map (notice_at (language_of labels) h command) xs
+  pub texts_of : (xs : List Fired) → flat_map (λ (t : NoticeText). t.text) (map noticed xs) ≡ flat_map (notice_at (language_of handed) h command) xs
   texts_of [] = refl
-  texts_of (x ∷ xs) = ap (λ more. notice_at (language_of labels) h command x ++ more) (texts_of xs)
+  texts_of (x ∷ xs) = ap (λ more. notice_at (language_of handed) h command x ++ more) (texts_of xs)
 
   -- where the notices of firings stand
   abbrev pub fired_spans : ℕ → List Fired → List Span
-  fired_spans from xs = spans_of (λ (f : Fired). f.1.statement.name) (notice_at (language_of labels) h command) from xs
+  fired_spans from xs = spans_of (λ (f : Fired). f.1.statement.name) (notice_at (language_of handed) h command) from xs
 
   pub spans_are : (from : ℕ) (xs : List Fired) → told_spans from (map noticed xs) ≡ fired_spans from xs
   spans_are from [] = refl
   spans_are from (x ∷ xs) =
-      let text = notice_at (language_of labels) h command x in
+      let text = notice_at (language_of handed) h command x in
       ap (λ more. span_of x.1.statement.name from text ++ more) (spans_are (from + length text) xs)
 
   -- in the order of the firings
   pub told_text_is : (list : List NoticeText) → list ≡ map noticed (firings h command)
-      → flat_map (λ (t : NoticeText). t.text) (ordered_by (λ (t : NoticeText). t.firing) list) ≡ flat_map (notice_at (language_of labels) h command) (firings_in_order h command)
+      → flat_map (λ (t : NoticeText). t.text) (ordered_by (λ (t : NoticeText). t.firing) list) ≡ flat_map (notice_at (language_of handed) h command) (firings_in_order h command)
   told_text_is list e =
       ap (λ l. flat_map (λ (t : NoticeText). t.text) (ordered_by (λ (t : NoticeText). t.firing) l)) e
       ∙ ap (flat_map (λ (t : NoticeText). t.text)) (order_made noticed (λ (f : Fired). f.0) (λ (t : NoticeText). t.firing) (λ x. refl) (firings h command))
@@ -167,34 +167,34 @@ module _ (labels : List Label) (h : History) (command : Command) where
     -- what is kept of a subscription is told what the notice of its subscription says
     abbrev pub Tells : Subscription → Kept → Type 0
     Tells s m = (m.install ≡ s.install) × (m.name ≡ s.statement.name)
-        × ((instant : ℕ) → notice_text labels store files distinct m instant ≡ notice_at (language_of labels) h command (record { instant = instant; install = s.install }, s))
+        × ((instant : ℕ) → notice_text handed store files distinct m instant ≡ notice_at (language_of handed) h command (record { instant = instant; install = s.install }, s))
 
-    told_one : (s : Subscription) (m : Kept) (o : Option ℕ) → Tells s m → notice_texts labels store files distinct m o ≡ map noticed (fired_at s o)
+    told_one : (s : Subscription) (m : Kept) (o : Option ℕ) → Tells s m → notice_texts handed store files distinct m o ≡ map noticed (fired_at s o)
     told_one s m None k = refl
     told_one s m (Some d) k = λ i. record { firing = record { instant = d; install = k.0 i }; name = k.1 i; text = k.2 d i } ∷ []
 
     -- what the subscriptions are told is what is told of their subscriptions
     pub told_list : (instant : Kept → Option ℕ) (subs : List Subscription) (ms : List Kept)
         → Pairwise (λ s m. Tells s m × (instant m ≡ fires s h command)) subs ms
-        → told_of labels store files distinct instant ms ≡ map noticed (flat_map (λ s. fired_at s (fires s h command)) subs)
+        → told_of handed store files distinct instant ms ≡ map noticed (flat_map (λ s. fired_at s (fires s h command)) subs)
     told_list instant [] [] p = refl
     told_list instant [] (m ∷ ms) p = absurd p
     told_list instant (s ∷ subs) [] p = absurd p
     told_list instant (s ∷ subs) (m ∷ ms) p =
-        (λ i. notice_texts labels store files distinct m (p.0.1 i) ++ told_list instant subs ms p.1 i)
+        (λ i. notice_texts handed store files distinct m (p.0.1 i) ++ told_list instant subs ms p.1 i)
         ∙ (λ i. told_one s m (fires s h command) p.0.0 i ++ map noticed (flat_map (λ s. fired_at s (fires s h command)) subs))
         ∙ sym (map_push (fired_at s (fires s h command)) (flat_map (λ s. fired_at s (fires s h command)) subs))
 
 -- the subscriptions of an engine that follows the history are told what the notices say: the store and the counts are those before the command, and the files are those behind it
-module _ (labels : List Label) (h : History) (command : Command) (store : StoreState) (table : TableState) (distinct : DistinctTable)
+module _ (handed : Handed) (h : History) (command : Command) (store : StoreState) (table : TableState) (distinct : DistinctTable)
     (last : (name : List ℕ) → last_in store name ≡ last_change name h) (rising : IsRising h) (contents : AreContents table.files (command ∷ h))
     (upto : AreUpTo (changes (command ∷ h)) table.files) where
-  pub tells_one : (s : Subscription) (m : Kept) → Keeps labels h s m → CanTell labels store table m → IsCounted h distinct s → Tells labels h command store table.files distinct s m
-  tells_one s m k can counted = (k.install, k.name, λ instant. text_is labels h command store table last rising contents upto s m k can distinct counted instant)
+  pub tells_one : (s : Subscription) (m : Kept) → Keeps handed h s m → CanTell handed store table m → IsCounted handed.relations h distinct s → Tells handed h command store table.files distinct s m
+  tells_one s m k can counted = (k.install, k.name, λ instant. text_is handed h command store table last rising contents upto s m k can distinct counted instant)
 
-  pub tells_each : (instant : Kept → Option ℕ) (subs : List Subscription) (ms : List Kept) → Pairwise (λ s m. Keeps labels h s m × (instant m ≡ fires s h command)) subs ms
-      → AllByRecursion (CanTell labels store table) ms → AllByRecursion (IsCounted h distinct) subs
-      → Pairwise (λ s m. Tells labels h command store table.files distinct s m × (instant m ≡ fires s h command)) subs ms
+  pub tells_each : (instant : Kept → Option ℕ) (subs : List Subscription) (ms : List Kept) → Pairwise (λ s m. Keeps handed h s m × (instant m ≡ fires s h command)) subs ms
+      → AllByRecursion (CanTell handed store table) ms → AllByRecursion (IsCounted handed.relations h distinct) subs
+      → Pairwise (λ s m. Tells handed h command store table.files distinct s m × (instant m ≡ fires s h command)) subs ms
   tells_each instant [] [] p c counted = tt
   tells_each instant [] (m ∷ ms) p c counted = absurd p
   tells_each instant (s ∷ subs) [] p c counted = absurd p

@@ -8,7 +8,7 @@ view_of i = record {
   clock = i.live_table.instant;
   count = i.count;
   creates = i.creates;
-  labels = i.labels.items;
+  handed = record { labels = i.labels.items; relations = i.relations.items };
   subscriptions = i.live_table.subscriptions;
   table = i.live_table.table;
   spans = i.spans;

@@ -182,7 +182,7 @@ module _ (e : EngineState) (ready : StoreState) (changed : List Section) (change
     ready_sources : map content_of ready.sources ≡ sources h
     ready_sources = room_is_no_content e.store.sources ready.sources alike.sources ∙ s.sources
 
-    allowed : first_refusal (language_of e.labels) h (Delta changed) ≡ None
+    allowed : first_refusal (language_of e.handed) h (Delta changed) ≡ None
     allowed =
         ap (sections_refusal changed) (same_holdings e.store (sources h) s.sources)
         ∙ good_allowed changed (holdings_of e.store) known tried
@@ -204,18 +204,18 @@ module _ (e : EngineState) (ready : StoreState) (changed : List Section) (change
 
     -- To feed an accepted change to the files costs at most the work of the delta: each file has
     -- the expression of a part of a live subscription's plan.
-    pub change_cost : Shares e.subscriptions e.table → (bound : ℕ) → IsWorkUpTo (language_of e.labels) h (Delta changed) bound → feed_work ready change e.table.files ≤ bound
+    pub change_cost : Shares e.subscriptions e.table → (bound : ℕ) → IsWorkUpTo (language_of e.handed) h (Delta changed) bound → feed_work ready change e.table.files ≤ bound
     change_cost shares bound work =
         let named : feed_work ready change e.table.files ≤ total_by (λ expr. length (delta_by ready change expr)) work.0 =
         work_named e.table.files shares.facts.grounded (λ expr. length (delta_by ready change expr)) work.0 (λ number file at.
-        work.1 file.expr (subst (IsPartOfOne file.expr) (plans_are e.labels h (live h) e.subscriptions s.subscriptions) ((shares.kept file.expr).0 (number, record { file = file; at = at; of = refl })))) in
+        work.1 file.expr (subst (IsPartOfOne file.expr) (plans_are e.handed h (live h) e.subscriptions s.subscriptions) ((shares.kept file.expr).0 (number, record { file = file; at = at; of = refl })))) in
         let same : total_by (λ expr. length (delta_by ready change expr)) work.0 ≡ made_rows h (Delta changed) work.0 = total_by-congr _ _ (λ expr. ap length (delta_is expr)) work.0 in
         let is : bound ≡ made_rows h (Delta changed) work.0 = work.2 ∙ (λ i. unless_refused 0 (allowed i) (made_rows h (Delta changed) work.0)) in
         omega (arith, named, same, is)
 
     -- The same by the names of the code: the steps that feeding may take, from the store with room
     -- and the files of the counted engine, are within the work of the delta.
-    pub change_steps : Shares e.subscriptions e.table → (inside : EngineState) → inside ≡ mid_engine e ready → (bound : ℕ) → IsWorkUpTo (language_of e.labels) h (Delta changed) bound
+    pub change_steps : Shares e.subscriptions e.table → (inside : EngineState) → inside ≡ mid_engine e ready → (bound : ℕ) → IsWorkUpTo (language_of e.handed) h (Delta changed) bound
         → (old new : ℕ) → new ≤ old + feed_work inside.store change inside.table.files → new ≤ old + bound
     change_steps shares inside is bound work old new steps =
         let few : feed_work inside.store change inside.table.files ≤ bound = subst (λ (x : EngineState). feed_work x.store change x.table.files ≤ bound) (sym is) (change_cost shares bound work) in
@@ -229,14 +229,14 @@ part_of_last plan part last (s ∷ subs) is = inr (part_of_last plan part last s
 -- To install the plan of an accepted create costs at most the work of the create: there is a list
 -- of expressions that names each part of the plan without a file, and its rows are within the
 -- work. A part without a file is no part of a live subscription's plan.
-pub create_cost : (e : EngineState) (h : History) → Follows e h → Shares e.subscriptions e.table → (statement : Statement) (query : NormalQuery) → Binds statement.query (roots_in e.store) (Ok query)
-    → first_refusal (language_of e.labels) h (Create statement) ≡ None → (bound : ℕ) → IsWorkUpTo (language_of e.labels) h (Create statement) bound
+pub create_cost : (e : EngineState) (h : History) → Follows e h → Shares e.subscriptions e.table → (statement : Statement) (query : NormalQuery) → Binds e.handed.relations statement.query (roots_in e.store) (Ok query)
+    → first_refusal (language_of e.handed) h (Create statement) ≡ None → (bound : ℕ) → IsWorkUpTo (language_of e.handed) h (Create statement) bound
     → (exprs : List Expr) × NamesTheMissing e.table.files (plan_new e query) exprs × (rows_of_all (world_in e.store) exprs ≤ bound)
 create_cost e h s shares statement query binds none bound work = (
   work.0,
   λ part is missing. work.1 part (
-    part_of_last (plan_at (language_of e.labels) (Create statement ∷ h)) part (created statement h) (live h) (subst (IsPart part) (new_plan_is e h s statement query binds.answer) is),
-    λ one. missing ((shares.kept part).1 (subst (IsPartOfOne part) (sym (plans_are e.labels h (live h) e.subscriptions s.subscriptions)) one)),
+    part_of_last (plan_at (language_of e.handed) (Create statement ∷ h)) part (created statement h) (live h) (subst (IsPart part) (new_plan_is e h s statement query binds.answer) is),
+    λ one. missing ((shares.kept part).1 (subst (IsPartOfOne part) (sym (plans_are e.handed h (live h) e.subscriptions s.subscriptions)) one)),
   ),
   (let same : rows_of_all (world_in e.store) work.0 ≡ made_rows h (Create statement) work.0 = ap (λ (w : World). rows_of_all w work.0) (sym (world_is e.store (sources h) s.sources)) in
       let is : bound ≡ made_rows h (Create statement) work.0 = work.2 ∙ (λ i. unless_refused 0 (none i) (made_rows h (Create statement) work.0)) in
@@ -245,15 +245,15 @@ create_cost e h s shares statement query binds none bound work = (
 
 -- A create whose statement was read, bound and found free, fitting and timely is not refused.
 pub create_allowed : (e : EngineState) (h : History) → Follows e h → (statement : Statement) (query : NormalQuery) (action : ℕ) → IsRead e statement query action
-    → first_refusal (language_of e.labels) h (Create statement) ≡ None
+    → first_refusal (language_of e.handed) h (Create statement) ≡ None
 create_allowed e h s statement query action read =
-    create_refusal e statement false false false None read.free (binds_freely statement.query (roots_in e.store) query read.binds) read.fitting read.timely h s
+    create_refusal e statement false false false None read.free (binds_freely e.handed.relations statement.query (roots_in e.store) query read.binds) read.fitting read.timely h s
 
 -- The same by the names of the code: the steps that adding the new subscription may take are within the
 -- work of the create.
 pub create_steps : (e inside : EngineState) → inside ≡ counted_engine e → (h : History) → Follows e h → Shares e.subscriptions e.table
     → (statement : Statement) (query : NormalQuery) (action : ℕ) → IsRead e statement query action → (plan : Expr) → plan ≡ plan_new e query
-    → (bound : ℕ) → IsWorkUpTo (language_of e.labels) h (Create statement) bound
+    → (bound : ℕ) → IsWorkUpTo (language_of e.handed) h (Create statement) bound
     → (old new : ℕ) → ((missing : List Expr) → NamesTheMissing inside.table.files plan missing → new ≤ old + rows_of_all (world_in inside.store) missing) → new ≤ old + bound
 create_steps e inside is h s shares statement query action read plan planned bound work old new steps =
     let cost = create_cost e h s shares statement query read.binds (create_allowed e h s statement query action read) bound work in

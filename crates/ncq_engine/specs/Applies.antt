@@ -72,14 +72,14 @@ IfGivenUp (Err OutOfMemory) holds = holds
 pub record StandBetween (from to : ℕ) (old : EngineState) (history : History) (command : Command)
     (out : List ℕ) : Type 0 where
   pub begins : from ≡ length out + length (ok_text (old.count + 1))
-  pub ends : to ≡ from + length (notices (language_of old.labels) history command)
+  pub ends : to ≡ from + length (notices (language_of old.handed) history command)
 
 -- where the notices begin and end, and how many there are
 pub record AreNotices (old : EngineState) (history : History) (command : Command) (out : List ℕ)
     (applied : Applied) : Type 0 where
   pub between : StandBetween applied.from applied.to old history command out
   pub notices : applied.notices
-      ≡ length (spans (language_of old.labels) history command applied.from)
+      ≡ length (spans (language_of old.handed) history command applied.from)
 
 abbrev pub WritesNotices : EngineState → Command → List ℕ → Applied → Type 0
 WritesNotices old command out applied =
@@ -88,7 +88,7 @@ WritesNotices old command out applied =
 -- where each notice stands
 abbrev pub AreSpans : EngineState → History → Command → List ℕ → List Span → Type 0
 AreSpans old history command out places =
-    places ≡ spans (language_of old.labels) history command
+    places ≡ spans (language_of old.handed) history command
     (length out + length (ok_text (old.count + 1)))
 
 -- it holds of each history that the engine follows. Only the crate's private clauses cite this and
@@ -100,28 +100,28 @@ OfFollowed engine holds = (history : History) → Follows engine history → hol
 pub record ArePlaces (old : EngineState) (history : History) (command : Command) (out : List ℕ)
     (answered : Answered) : Type 0 where
   pub between : StandBetween answered.from answered.to old history command out
-  pub spans : answered.spans ≡ spans (language_of old.labels) history command answered.from
+  pub spans : answered.spans ≡ spans (language_of old.handed) history command answered.from
 
 -- the command is accepted: it meets no refusal, the engine follows it, and its answer was appended
 pub record Accepts (old : EngineState) (command : Command) (out : List ℕ) (answered : Answered)
     (new : EngineState) (out' : List ℕ) : Type 0 where
   pub accepted : OfFollowed old (λ history.
-      first_refusal (language_of old.labels) history command ≡ None)
+      first_refusal (language_of old.handed) history command ≡ None)
   pub follows : OfFollowed old (λ history. Follows new (command ∷ history))
   pub answer : OfFollowed old (λ history. out'
-      ≡ out ++ accepted_text (language_of old.labels) history (old.count + 1) command)
+      ≡ out ++ accepted_text (language_of old.handed) history (old.count + 1) command)
   pub counted : new.count ≡ old.count + 1
-  pub labels : new.labels ≡ old.labels
+  pub handed : new.handed ≡ old.handed
   pub places : OfFollowed old (λ history. ArePlaces old history command out answered)
 
 -- the command is refused for this: the engine follows what it followed, and nothing was written
 pub record Refuses (old : EngineState) (command : Command) (out : List ℕ) (why : Refusal)
     (new : EngineState) (out' : List ℕ) : Type 0 where
   pub refused : OfFollowed old (λ history.
-      first_refusal (language_of old.labels) history command ≡ Some why)
+      first_refusal (language_of old.handed) history command ≡ Some why)
   pub follows : OfFollowed old (Follows new)
   pub counted : new.count ≡ old.count + 1
-  pub labels : new.labels ≡ old.labels
+  pub handed : new.handed ≡ old.handed
   pub unwritten : out' ≡ out
 
 -- the command is given up for want of memory: the engine follows what it followed, the command is
@@ -130,7 +130,7 @@ pub record GivesUp (old : EngineState) (out : List ℕ) (new : EngineState) (out
     : Type 0 where
   pub follows : OfFollowed old (Follows new)
   pub uncounted : new.count ≡ old.count
-  pub labels : new.labels ≡ old.labels
+  pub handed : new.handed ≡ old.handed
   pub front : StartsWith out' out
 
 -- what each answer says
@@ -142,4 +142,4 @@ Applies old command out (Err OutOfMemory) new out' = GivesUp old out new out'
 
 -- each pair of the cache was there, with the file that it was, or tells the rows of now
 abbrev pub KeepsCache : EngineState → EngineState → Type 0
-KeepsCache old new = KeepsPairs old.table old.cache new.table new.cache
+KeepsCache old new = KeepsPairs old.handed.relations old.table old.cache new.table new.cache

@@ -6,6 +6,7 @@ use Rattle.ncq_bag.specs.Counts.{AreCountsOf}
 use Rattle.ncq_bag.specs.declared.bag.Difference.{Difference}
 use Rattle.ncq_bind.specs.Answers.{all}
 use Rattle.ncq_distinct.specs.DistinctTables.{counts_at, DistinctTable}
+use Rattle.ncq_plan.specs.Relations.{Relations}
 use Rattle.ncq_pyx.specs.Canonical.{pyx}
 use Rattle.ncq_script.specs.declared.command.Command.{Command}
 use Rattle.ncq_xmlql.specs.declared.model.Query.{Query}
@@ -13,26 +14,29 @@ use Rattle.ncq_engine.specs.Firing.{mark}
 use Rattle.ncq_engine.specs.History.{History, Source, Subscription, live, sources, up_to, world}
 
 -- all that a query answers over these sources, each forest by its canonical bytes
-abbrev pub all_over : Query → List Source → List (List ℕ)
-all_over query sources = map pyx (all query (world sources))
+abbrev pub all_over : Relations → Query → List Source → List (List ℕ)
+all_over relations query sources = map pyx (all relations query (world sources))
 
 -- all that it answers at a mark, and nothing before the first firing
-abbrev pub all_at : Query → History → Option ℕ → List (List ℕ)
-all_at query history None = []
-all_at query history (Some number) = all_over query (sources (up_to number history))
+abbrev pub all_at : Relations → Query → History → Option ℕ → List (List ℕ)
+all_at relations query history None = []
+all_at relations query history (Some number) =
+    all_over relations query (sources (up_to number history))
 
 -- what differs in all that a subscription's query answers after the command, from its previous
 -- firing on
-abbrev pub all_news : Subscription → History → Command → List Difference
-all_news s history command = difference (all_over s.statement.query (sources (command ∷ history)))
-    (all_at s.statement.query history (mark s history))
+abbrev pub all_news : Relations → Subscription → History → Command → List Difference
+all_news relations s history command =
+    difference (all_over relations s.statement.query (sources (command ∷ history)))
+    (all_at relations s.statement.query history (mark s history))
 
 -- with DISTINCT, a subscription has the counts of all that its query answered at its mark
-abbrev pub IsCounted : History → DistinctTable → Subscription → Type 0
-IsCounted history distinct s = s.statement.query.distinct ≡ true
+abbrev pub IsCounted : Relations → History → DistinctTable → Subscription → Type 0
+IsCounted relations history distinct s = s.statement.query.distinct ≡ true
     → AreCountsOf (counts_at distinct s.install)
-    (all_at s.statement.query history (mark s history))
+    (all_at relations s.statement.query history (mark s history))
 
 -- so has each live subscription
-abbrev pub AreCounted : History → DistinctTable → Type 0
-AreCounted history distinct = AllByRecursion (IsCounted history distinct) (live history)
+abbrev pub AreCounted : Relations → History → DistinctTable → Type 0
+AreCounted relations history distinct =
+    AllByRecursion (IsCounted relations history distinct) (live history)

@@ -11,7 +11,7 @@ use Rattle.ncq_bag.specs.Counts.{turns}
 use Rattle.ncq_bag.specs.declared.bag.Difference.{Difference}
 use Rattle.ncq_base.specs.declared.atom.FileId.{FileId}
 use Rattle.ncq_cache.specs.Cached.{Cached}
-use Rattle.ncq_callback.specs.Labels.{Label}
+use Rattle.ncq_callback.specs.Labels.{Handed}
 use Rattle.ncq_change.specs.Stores.{world_in}
 use Rattle.ncq_distinct.specs.DistinctTables.{counts_at, DistinctTable}
 use Rattle.ncq_event.specs.Instants.{due}
@@ -19,6 +19,7 @@ use Rattle.ncq_event.specs.declared.firing.Firing.{Firing}
 use Rattle.ncq_event.specs.declared.timing.Timing.{Timing}
 use Rattle.ncq_plan.specs.declared.query.NormalQuery.{NormalQuery}
 use Rattle.ncq_plan.specs.Late.{bare_of}
+use Rattle.ncq_plan.specs.Relations.{Relations}
 use Rattle.ncq_plan.specs.WellFormed.{IsWellFormed}
 use Rattle.ncq_strategy.specs.Choices.{choice_of}
 use Rattle.ncq_midfile.specs.Content.{IsSoundAt}
@@ -69,25 +70,27 @@ abbrev pub news_of : StoreState → Files → Kept → List SignedRow
 news_of store files m = since_mark (mark_in store m) (rows_in_file (get files m.file.0))
 
 -- what they tell of all that its query answers
-abbrev pub news_in : StoreState → Files → Kept → List Difference
-news_in store files m = entries_of m.query (news_of store files m)
+abbrev pub news_in : Relations → StoreState → Files → Kept → List Difference
+news_in relations store files m = entries_of relations m.query (news_of store files m)
 
 -- what it is told of that: with DISTINCT what leaves 0 or reaches it in its counts
-abbrev pub told_in : StoreState → Files → DistinctTable → Kept → List Difference
-told_in store files distinct m = if m.distinct
-    then turns (counts_at distinct m.install) (news_in store files m) else news_in store files m
+abbrev pub told_in
+    : Relations → StoreState → Files → DistinctTable → Kept → List Difference
+told_in relations store files distinct m = if m.distinct
+    then turns (counts_at distinct m.install) (news_in relations store files m)
+    else news_in relations store files m
 
 -- the text of a notice of these entries
-abbrev pub entries_text : List Label → Kept → ℕ → List Difference → List ℕ
-entries_text labels m instant entries =
-    rendered (option_map (λ label. label.1) (slice_get labels m.action)) m.argument m.name instant
-    entries
+abbrev pub entries_text : Handed → Kept → ℕ → List Difference → List ℕ
+entries_text handed m instant entries =
+    rendered (option_map (λ label. label.1) (slice_get handed.labels m.action)) m.argument m.name
+    instant entries
 
 -- what it is told at an instant
 abbrev pub notice_text
-    : List Label → StoreState → Files → DistinctTable → Kept → ℕ → List ℕ
-notice_text labels store files distinct m instant =
-    entries_text labels m instant (told_in store files distinct m)
+    : Handed → StoreState → Files → DistinctTable → Kept → ℕ → List ℕ
+notice_text handed store files distinct m instant =
+    entries_text handed m instant (told_in handed.relations store files distinct m)
 
 -- whether it fires at a change of these sections now
 abbrev pub is_told_change : List Section → ℕ → Kept → Bool
@@ -108,10 +111,10 @@ moved_instant store now to m =
 -- a subscription that can be told: its query is well formed, its handler is there, it has the file
 -- of its plan, and that file tells its content now and at the subscription's mark, which is not
 -- later than the files; its sources last change when those do that its plan scans
-pub record CanTell (labels : List Label) (store : StoreState) (table : TableState) (m : Kept)
+pub record CanTell (handed : Handed) (store : StoreState) (table : TableState) (m : Kept)
     : Type 0 where
   pub formed : IsWellFormed m.query
-  pub action : m.action < length labels
+  pub action : m.action < length handed.labels
   pub file : KeptFile
   pub at : get table.files m.file.0 ≡ Some file
   pub own : file.expr ≡ plan_in m
@@ -143,13 +146,13 @@ pub record NoticeText : Type 0 where
 
 -- its notice where it fires, with the firing
 abbrev pub notice_texts
-    : List Label → StoreState → Files → DistinctTable → Kept → Option ℕ → List NoticeText
-notice_texts labels store files distinct m None = []
-notice_texts labels store files distinct m (Some instant) =
+    : Handed → StoreState → Files → DistinctTable → Kept → Option ℕ → List NoticeText
+notice_texts handed store files distinct m None = []
+notice_texts handed store files distinct m (Some instant) =
     record {
       firing = record { instant = instant; install = m.install };
       name = m.name;
-      text = notice_text labels store files distinct m instant;
+      text = notice_text handed store files distinct m instant;
     } ∷ []
 
 -- none has an install number above this one
@@ -189,18 +192,18 @@ KeepsCounts subscriptions distinct =
 -- commands, and no source has changed later; its subscriptions can be told and rise
 -- by install number; its files have the rows of the sources as they stand, and were sound at each
 -- change since their bases, and no more numbers were given than creates can take
-pub record IsEngine (store : StoreState) (count creates : ℕ) (labels : List Label)
+pub record IsEngine (store : StoreState) (count creates : ℕ) (handed : Handed)
     (subscriptions : List Kept) (table : TableState) (cache : List Cached)
     (distinct : DistinctTable) : Type 0 where
   pub changes : store.changes ≤ count
   pub creates_too : creates ≤ count
   pub lasts : (name : List ℕ) → last_in store name ≤ store.changes
-  pub can : AllByRecursion (CanTell labels store table) subscriptions
+  pub can : AllByRecursion (CanTell handed store table) subscriptions
   pub rise : InstallsRise subscriptions
   pub installed : InstallsAreUpTo creates subscriptions
   pub number : table.number ≡ store.changes
   pub fits : Fits table.number (world_in store) table.files
   pub sound : AreSound table.files
   pub next : table.next_file ≤ 256 * creates
-  pub serve : AllServe table cache
+  pub serve : AllServe handed.relations table cache
   pub counts : KeepsCounts subscriptions distinct

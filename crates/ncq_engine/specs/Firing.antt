@@ -3,7 +3,7 @@ use Rattle.std.specs.Prelude.{ℕ, ◌+◌, Bool, true, ◌==◌, ◌&&◌, nat_
 use Rattle.std.specs.Prelude.{List, [], ◌∷◌, Option, Some, None}
 use Rattle.std.specs.List.{flat_map, list_any}
 use Rattle.ncq_xmlql.specs.declared.model.QueryItem.{QueryItem}
-use Rattle.ncq_xmlql.specs.declared.model.QueryItem.TheVariants.{Match, Condition}
+use Rattle.ncq_xmlql.specs.declared.model.QueryItem.TheVariants.{Match, Condition, Satisfies}
 use Rattle.ncq_xmlql.specs.declared.model.Statement.{Statement}
 use Rattle.ncq_script.specs.declared.command.Command.{Command}
 use Rattle.ncq_script.specs.declared.command.Command.TheVariants.{Delta, Batch, Create}
@@ -17,6 +17,7 @@ use Rattle.ncq_engine.specs.History.{timing_of}
 abbrev pub source_of : QueryItem → List (List ℕ)
 source_of (Match root arms source) = source ∷ []
 source_of (Condition left op right) = []
+source_of (Satisfies variable predicate argument) = []
 
 -- the sources that a statement asks
 abbrev pub sources_of : Statement → List (List ℕ)

@@ -29,12 +29,13 @@ timed statement clock = record {
 -- the subscription is the one that the statement makes now, and nothing refuses the statement
 pub record IsSubscriptionOf (e : EngineState) (statement : Statement) (m : Kept) : Type 0 where
   pub whole : IsWhole statement
-  pub binds : Binds statement.query (roots_in e.store) (Ok m.query)
+  pub binds : Binds e.handed.relations statement.query (roots_in e.store) (Ok m.query)
   pub formed : IsWellFormed m.query
-  pub within : m.action < length e.labels
-  pub kind : kind_at e.labels m.action ≡ kind_in statement.action e.labels
-  pub action : name_at e.labels m.action ≡ Some statement.action
-  pub fitting : is_at_odds (kind_in statement.action e.labels) statement.argument ≡ false
+  pub within : m.action < length e.handed.labels
+  pub kind : kind_at e.handed.labels m.action
+      ≡ kind_in statement.action e.handed.labels
+  pub action : name_at e.handed.labels m.action ≡ Some statement.action
+  pub fitting : is_at_odds (kind_in statement.action e.handed.labels) statement.argument ≡ false
   pub free : list_any (λ n. bytes_eq statement.name n.name) e.subscriptions ≡ false
   pub timely : is_expired (timed statement e.clock) (timed statement e.clock).start ≡ false
   pub made : m

@@ -7,9 +7,8 @@ use Rattle.std.specs.Coded.{Coded, code_by, coded×, coded_ℕ, coded_list}
 use Rattle.ncq_bind.specs.Bound.{query_is_bound}
 use Rattle.ncq_bind.specs.NormalQueries.{normal_query}
 use Rattle.ncq_cache.specs.Cached.{Cached, cached_code}
-use Rattle.ncq_callback.specs.Labels.{Label}
+use Rattle.ncq_callback.specs.Labels.{Handed, handed_code}
 use Rattle.ncq_distinct.specs.DistinctTables.{distinct_code, DistinctTable}
-use Rattle.ncq_callback.specs.contracts.notice.Kind.{the_row as kind_row}
 use Rattle.ncq_book.specs.contracts.subscription.Subscription.{the_row as subscription_row}
 use Rattle.ncq_book.specs.declared.subscription.Subscription.{Subscription as Kept}
 use Rattle.ncq_book.specs.Books.{alike}
@@ -39,7 +38,7 @@ use Rattle.ncq_engine.specs.Notices.{kind_in, name_at}
 use Rattle.ncq_engine.specs.Plannings.{alike_before, alike_in}
 
 -- what contracts see of an engine: the store, the clock, how many commands were answered and how
--- many creates accepted, the names and kinds of its handlers, the live subscriptions in the order
+-- many creates accepted, what it was handed, the live subscriptions in the order
 -- of their creates, the table of the files that they share, where the notices of the last answer
 -- stand, what is kept of what was told, the most lately used first, and the counts of the
 -- subscriptions with DISTINCT
@@ -48,7 +47,7 @@ pub record EngineState : Type 0 where
   pub clock : ℕ
   pub count : ℕ
   pub creates : ℕ
-  pub labels : List Label
+  pub handed : Handed
   pub subscriptions : List Kept
   pub table : TableState
   pub spans : List Span
@@ -59,10 +58,10 @@ pub record EngineState : Type 0 where
 abbrev pub engine_code : Coded EngineState
 engine_code =
     code_by
-    (StoreState × (ℕ × (ℕ × (ℕ × (List Label × (List Kept × (TableState × (List Span
+    (StoreState × (ℕ × (ℕ × (ℕ × (Handed × (List Kept × (TableState × (List Span
     × (List Cached × DistinctTable)))))))))
     (coded× store_code (coded× coded_ℕ (coded× coded_ℕ (coded× coded_ℕ
-    (coded× (coded_list (coded× (coded_list coded_ℕ) kind_row.coded))
+    (coded× handed_code
     (coded× (coded_list subscription_row.coded)
     (coded× table_code (coded× (coded_list span_row.coded)
     (coded× cached_code distinct_code)))))))))
@@ -75,7 +74,7 @@ engine_code =
           (
             e.creates,
             (
-              e.labels,
+              e.handed,
               (
                 e.subscriptions,
                 (
@@ -99,7 +98,7 @@ engine_code =
       clock = p.1.0;
       count = p.1.1.0;
       creates = p.1.1.1.0;
-      labels = p.1.1.1.1.0;
+      handed = p.1.1.1.1.0;
       subscriptions = p.1.1.1.1.1.0;
       table = p.1.1.1.1.1.1.0;
       spans = p.1.1.1.1.1.1.1.0;
@@ -120,7 +119,7 @@ content_of declared = record {
 -- what is kept of a subscription is its own: its query is the normal query of its statement, which
 -- is bound, it is planned by those that were live just before its create, and what is written down
 -- of its mark is what its mark follows from
-pub record Keeps (labels : List Label) (history : History) (s : Subscription) (m : Kept)
+pub record Keeps (handed : Handed) (history : History) (s : Subscription) (m : Kept)
     : Type 0 where
   pub name : m.name ≡ s.statement.name
   pub sources : m.sources ≡ sources_of s.statement
@@ -128,12 +127,12 @@ pub record Keeps (labels : List Label) (history : History) (s : Subscription) (m
   pub bound : query_is_bound s.statement.query ≡ true
   pub query : m.query ≡ normal_query s.statement.query
   pub bare : m.bare ≡ bare_of m.query
-  pub choice : m.choice ≡ choice_of m.query (alike_before (language_of labels) history s)
+  pub choice : m.choice ≡ choice_of m.query (alike_before (language_of handed) history s)
   pub distinct : m.distinct ≡ s.statement.query.distinct
   pub timing : m.timing ≡ timing_of s
-  pub kind : option_map (λ label. label.1) (slice_get labels m.action)
-      ≡ kind_in s.statement.action labels
-  pub action : name_at labels m.action ≡ Some s.statement.action
+  pub kind : option_map (λ label. label.1) (slice_get handed.labels m.action)
+      ≡ kind_in s.statement.action handed.labels
+  pub action : name_at handed.labels m.action ≡ Some s.statement.action
   pub argument : m.argument ≡ unwrap_or s.statement.argument []
   pub install : m.install ≡ s.install
   pub marked : m.noted ≡ noted s history
@@ -154,15 +153,15 @@ pub record Follows (engine : EngineState) (history : History) : Type 0 where
   pub changes : engine.store.changes ≡ changes history
   pub clock : engine.clock ≡ now history
   pub creates : engine.creates ≡ creates history
-  pub subscriptions : Pairwise (Keeps engine.labels history) (live history) engine.subscriptions
+  pub subscriptions : Pairwise (Keeps engine.handed history) (live history) engine.subscriptions
   pub contents : AreContents engine.table.files history
-  pub counted : AreCounted history engine.distinct
+  pub counted : AreCounted engine.handed.relations history engine.distinct
   pub rising : IsRising history
 
 -- of each bare plan there are as many kept subscriptions as live queries
-abbrev pub AreAlike : List Label → History → List Kept → Type 0
-AreAlike labels history subscriptions = (bare : Expr)
-    → alike bare subscriptions ≡ alike_in (language_of labels) bare (live history)
+abbrev pub AreAlike : Handed → History → List Kept → Type 0
+AreAlike handed history subscriptions = (bare : Expr)
+    → alike bare subscriptions ≡ alike_in (language_of handed) bare (live history)
 
 -- the file that it has was made at its mark or before
 abbrev pub IsMarked : Files → History → Subscription → Kept → Type 0
@@ -188,6 +187,6 @@ pub record Stands (engine : EngineState) (history : History) : Type 0 where
   pub follows : Follows engine history
   pub bounded : IsBounded engine history
   pub shares : Shares engine.subscriptions engine.table
-  pub cached : AreToldRight history engine.table engine.cache
+  pub cached : AreToldRight engine.handed.relations history engine.table engine.cache
   pub counts : KeepsCounts engine.subscriptions engine.distinct
-  pub alike : AreAlike engine.labels history engine.subscriptions
+  pub alike : AreAlike engine.handed history engine.subscriptions

@@ -7,11 +7,12 @@ use Rattle.std.specs.List.{filter, flat_map, list_any, AllByRecursion}
 use Rattle.ncq_bag.specs.declared.bag.Difference.{Difference}
 use Rattle.ncq_book.specs.declared.subscription.Subscription.{Subscription as Kept}
 use Rattle.ncq_book.specs.Books.{subscription_of, is_of}
-use Rattle.ncq_callback.specs.Labels.{Label}
+use Rattle.ncq_callback.specs.Labels.{Handed}
 use Rattle.ncq_distinct.specs.DistinctTables.{waiting_at, DistinctTable}
 use Rattle.ncq_event.specs.declared.firing.Firing.{Firing}
 use Rattle.ncq_group.specs.Tables.{TableState}
 use Rattle.ncq_live.specs.LiveTables.{LiveState}
+use Rattle.ncq_plan.specs.Relations.{Relations}
 use Rattle.ncq_shelf.specs.KeptFiles.{KeptFile, Files}
 use Rattle.ncq_source.specs.StoreStates.{StoreState}
 use Rattle.ncq_news.specs.News.{entries_of, since_mark}
@@ -55,15 +56,15 @@ is_news_at store subscriptions firing = has_its_news store (subscription_of firi
 
 -- the notice of a firing
 abbrev pub text_of
-    : List Label → StoreState → Files → DistinctTable → ℕ → Option Kept → List ℕ
-text_of labels store files distinct instant None = []
-text_of labels store files distinct instant (Some m) =
-    notice_text labels store files distinct m instant
+    : Handed → StoreState → Files → DistinctTable → ℕ → Option Kept → List ℕ
+text_of handed store files distinct instant None = []
+text_of handed store files distinct instant (Some m) =
+    notice_text handed store files distinct m instant
 
 abbrev pub firing_text
-    : List Label → StoreState → Files → DistinctTable → List Kept → Firing → List ℕ
-firing_text labels store files distinct subscriptions firing =
-    text_of labels store files distinct firing.instant
+    : Handed → StoreState → Files → DistinctTable → List Kept → Firing → List ℕ
+firing_text handed store files distinct subscriptions firing =
+    text_of handed store files distinct firing.instant
     (subscription_of firing.install subscriptions)
 
 -- the name of the subscription of a firing
@@ -84,49 +85,52 @@ started_of live_table installs =
     flat_map (started_at live_table.instant live_table.subscriptions) installs
 
 -- each subscription of the live table can be told
-abbrev pub CanTellEach : List Label → StoreState → LiveState → Type 0
-CanTellEach labels store live_table =
-    AllByRecursion (CanTell labels store live_table.table) live_table.subscriptions
+abbrev pub CanTellEach : Handed → StoreState → LiveState → Type 0
+CanTellEach handed store live_table =
+    AllByRecursion (CanTell handed store live_table.table) live_table.subscriptions
 
 -- the notices of firings, one behind the other
 abbrev pub firings_text
-    : List Label → StoreState → DistinctTable → LiveState → List Firing → List ℕ
-firings_text labels store distinct live_table firings =
-    flat_map (firing_text labels store live_table.table.files distinct live_table.subscriptions)
+    : Handed → StoreState → DistinctTable → LiveState → List Firing → List ℕ
+firings_text handed store distinct live_table firings =
+    flat_map (firing_text handed store live_table.table.files distinct live_table.subscriptions)
     firings
 
 -- where each of them stands, from this place on
 abbrev pub firings_spans
-    : List Label → StoreState → DistinctTable → LiveState → ℕ → List Firing → List Span
-firings_spans labels store distinct live_table from firings =
+    : Handed → StoreState → DistinctTable → LiveState → ℕ → List Firing → List Span
+firings_spans handed store distinct live_table from firings =
     spans_of (firing_name live_table.subscriptions)
-    (firing_text labels store live_table.table.files distinct live_table.subscriptions) from firings
+    (firing_text handed store live_table.table.files distinct live_table.subscriptions) from firings
 
 -- the changes of the counts of a subscription with DISTINCT: what its rows tell, where it fires
 abbrev pub awaited_of
-    : StoreState → Files → List Firing → Option Kept → List Difference
-awaited_of store files firings None = []
-awaited_of store files firings (Some m) =
-    if m.distinct && is_fired firings m then news_in store files m else []
+    : Relations → StoreState → Files → List Firing → Option Kept → List Difference
+awaited_of relations store files firings None = []
+awaited_of relations store files firings (Some m) =
+    if m.distinct && is_fired firings m then news_in relations store files m else []
 
 -- these changes wait, and no others
-abbrev pub Awaits : StoreState → LiveState → List Firing → DistinctTable → Type 0
-Awaits store live_table firings distinct =
-    (any : ℕ) → waiting_at distinct any ≡ awaited_of store live_table.table.files firings
+abbrev pub Awaits
+    : Relations → StoreState → LiveState → List Firing → DistinctTable → Type 0
+Awaits relations store live_table firings distinct =
+    (any : ℕ) → waiting_at distinct any
+    ≡ awaited_of relations store live_table.table.files firings
     (subscription_of any live_table.subscriptions)
 
 -- where the changes of some firings wait, those of these firings wait too
 abbrev pub AwaitMore
-    : StoreState → LiveState → List Firing → DistinctTable → DistinctTable → Type 0
-AwaitMore store live_table more old new =
-    (firings : List Firing) → Awaits store live_table firings old
-    → Awaits store live_table (firings ++ more) new
+    : Relations → StoreState → LiveState → List Firing → DistinctTable → DistinctTable → Type 0
+AwaitMore relations store live_table more old new =
+    (firings : List Firing) → Awaits relations store live_table firings old
+    → Awaits relations store live_table (firings ++ more) new
 
 -- with DISTINCT what its rows tell waits, beside what waited for others
-abbrev pub AwaitsNews : StoreState → Files → Kept → DistinctTable → DistinctTable → Type 0
-AwaitsNews store files m old new =
+abbrev pub AwaitsNews
+    : Relations → StoreState → Files → Kept → DistinctTable → DistinctTable → Type 0
+AwaitsNews relations store files m old new =
     (any : ℕ) → waiting_at new any ≡ (if m.distinct && nat_eq any m.install
-    then news_in store files m else waiting_at old any)
+    then news_in relations store files m else waiting_at old any)
 
 -- the subscriptions behind these firings at a number of changes
 abbrev pub noted_by : ℕ → List Firing → List Kept → List Kept
@@ -153,15 +157,16 @@ pub record IsLeftBy (installs : List ℕ) (old new : LiveState) : Type 0 where
   pub next_file : new.table.next_file ≡ old.table.next_file
   pub files : AreOf old.table.files new.table.files
 
--- one file, the same tests of its rows and the same template
+-- one file, the same checks of its rows and the same template
 pub record AskAlike (a b : Kept) : Type 0 where
   pub file : a.file.0 ≡ b.file.0
   pub template : a.query.template ≡ b.query.template
   pub residual : a.query.residual ≡ b.query.residual
 
 -- what others find of it is fresh
-abbrev pub IsKeyed : TableState → Latest → Type 0
-IsKeyed table latest = IfSome latest.key (λ key. IsFresh table key latest.notice.entries)
+abbrev pub IsKeyed : Relations → TableState → Latest → Type 0
+IsKeyed relations table latest =
+    IfSome latest.key (λ key. IsFresh relations table key latest.notice.entries)
 
 -- the last change of what its file scans
 abbrev pub KnowsChange : StoreState → TableState → Latest → Type 0
@@ -171,27 +176,28 @@ KnowsChange store table latest =
 
 -- what the answer of a subscription gained and lost by the rows of its file since a mark, beside
 -- the last change of its sources
-pub record IsLatest (store : StoreState) (table : TableState) (latest : Latest) : Type 0 where
+pub record IsLatest (relations : Relations) (store : StoreState) (table : TableState)
+    (latest : Latest) : Type 0 where
   pub changed : KnowsChange store table latest
   pub entries : latest.notice.entries
-      ≡ entries_of latest.subscription.now.query
+      ≡ entries_of relations latest.subscription.now.query
       (since_mark latest.mark (rows_in_file (get table.files latest.subscription.now.file.0)))
-  pub key : IsKeyed table latest
+  pub key : IsKeyed relations table latest
 
 -- there is what the subscription is told
-abbrev pub HasNews : StoreState → Files → Kept → Option Latest → Type 0
-HasNews store files m latest =
+abbrev pub HasNews : Relations → StoreState → Files → Kept → Option Latest → Type 0
+HasNews relations store files m latest =
     (told : Latest) × (latest ≡ Some told)
-    × (told.notice.entries ≡ entries_of m.query (news_of store files m))
+    × (told.notice.entries ≡ entries_of relations m.query (news_of store files m))
 
 -- the answer to the command of this number was appended: its first line, and the notices of these
 -- firings
-pub record IsAnswered (number : ℕ) (labels : List Label) (store : StoreState)
+pub record IsAnswered (number : ℕ) (handed : Handed) (store : StoreState)
     (distinct : DistinctTable) (live_table : LiveState) (firings : List Firing)
     (old new : List ℕ) (answered : Answered) : Type 0 where
   pub written : new
-      ≡ (old ++ ok_text number) ++ firings_text labels store distinct live_table firings
+      ≡ (old ++ ok_text number) ++ firings_text handed store distinct live_table firings
   pub from : answered.from ≡ length (old ++ ok_text number)
   pub to : answered.to ≡ length new
   pub spans : answered.spans
-      ≡ firings_spans labels store distinct live_table (length (old ++ ok_text number)) firings
+      ≡ firings_spans handed store distinct live_table (length (old ++ ok_text number)) firings

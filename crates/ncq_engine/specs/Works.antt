@@ -83,4 +83,4 @@ AreWorkUpTo language history (command ∷ more) bound =
 abbrev pub IsWithinWork : EngineState → Command → ℕ → ℕ → Type 0
 IsWithinWork engine command old new =
     OfEach engine (λ history. (bound : ℕ)
-    → IsWorkUpTo (language_of engine.labels) history command bound → new ≤ old + bound)
+    → IsWorkUpTo (language_of engine.handed) history command bound → new ≤ old + bound)

@@ -7,7 +7,7 @@ ghost use Rattle.std.specs.FinMap.{empty, get};
 ghost use Rattle.std.specs.List.{flat_map, list_all, AllByRecursion};
 ghost use Rattle.std.specs.Option.{is_some, unwrap_or};
 ghost use Rattle.ncq_bind.specs.Bindings.{are_declared, roots_in};
-ghost use Rattle.ncq_callback.specs.Labels.{labels};
+ghost use Rattle.ncq_callback.specs.Labels.{handed_in, labels};
 ghost use Rattle.ncq_engine.specs.Cached.{AllServe};
 ghost use Rattle.ncq_engine.specs.Firing.{source_of};
 ghost use Rattle.ncq_engine.specs.Stands.{EngineState, Follows, IsBounded, Stands};
@@ -41,6 +41,7 @@ ghost use Rattle.ncq_xmlql.specs.WellFormed.{IsWellFormed as StatementIsWellForm
 
 use crate::compaction::{is_due, least_mark};
 use crate::expiry::{take_all, write_expired};
+use crate::handed::{labels_of, relations_of};
 use crate::span::{Span, Spans};
 use crate::telling::{Answered, answer_change, answer_create, note_all, tell, write_accepted};
 use crate::who::with_news;
@@ -52,7 +53,7 @@ use ncq_callback::{Handlers, Kind};
 use ncq_distinct::DistinctTable;
 use ncq_event::{Timing, is_expired};
 use ncq_live::LiveTable;
-use ncq_plan::{NormalQuery, bare};
+use ncq_plan::{NormalQuery, Relation, bare};
 use ncq_report::{Summary, write_report};
 use ncq_script::{Command, Refusal};
 use ncq_source::{ChangeError, DeclareError, Key, Sections, Store};
@@ -106,6 +107,7 @@ pub struct Engine {
     count: u64,
     creates: u64,
     labels: Vec<(Bytes, Kind)>,
+    relations: Vec<(Bytes, Relation)>,
     spans: Spans,
     cache: NoticeCache,
     distinct: DistinctTable,
@@ -119,6 +121,7 @@ impl Drop for Engine {
             count: _,
             creates: _,
             labels,
+            relations,
             spans,
             cache,
             distinct,
@@ -126,6 +129,7 @@ impl Drop for Engine {
         drop(store);
         drop(live_table);
         drop(labels);
+        drop(relations);
         drop(spans);
         drop(cache);
         drop(distinct);
@@ -145,7 +149,7 @@ impl Model for Engine {
       clock = e.live_table.instant;
       count = e.count;
       creates = e.creates;
-      labels = e.labels.items;
+      handed = record { labels = e.labels.items; relations = e.relations.items };
       subscriptions = e.live_table.subscriptions;
       table = e.live_table.table;
       spans = e.spans;
@@ -154,29 +158,33 @@ impl Model for Engine {
     } };
 
     ghost invariant = { λ e.
-        IsEngine e.store e.count e.creates e.labels.items e.live_table.subscriptions
-        e.live_table.table e.cache e.distinct };
+        IsEngine e.store e.count e.creates
+        (record { labels = e.labels.items; relations = e.relations.items })
+        e.live_table.subscriptions e.live_table.table e.cache e.distinct };
 }
 
 impl Engine {
-    /// An engine that accepted no command, for handlers of these names and kinds. Its maps place
-    /// keys by the seed.
+    /// An engine that accepted no command, for handlers of these names and kinds, and predicates of
+    /// these names and relations. Its maps place keys by the seed.
     pub fn new(alloc: Global, seed: RandomState, handlers: &Handlers) -> Result<Engine, AllocError>
         ensures stands { IfOk result (λ engine. Stands engine []) }
         ensures count { IfOk result (λ engine. engine.count ≡ 0) }
         ensures no_spans { IfOk result (λ engine. engine.spans ≡ []) }
         ensures no_cache { IfOk result (λ engine. engine.cache ≡ []) }
         ensures no_counts { IfOk result (λ engine. engine.distinct ≡ empty) }
-        ensures labels { IfOk result (λ engine. engine.labels
-            ≡ (labels handlers.now.items.items (λ h. h.name) (λ h. h.kind))) }
+        ensures handed { IfOk result (λ engine. engine.handed
+            ≡ (handed_in handlers.now.items.items (λ h. h.name) (λ h. h.kind)
+            handlers.now.predicates.items (λ p. p.name) (λ p. p.relation))) }
     {
         let labels = labels_of(alloc, handlers)?;
+        let relations = relations_of(alloc, handlers.predicates())?;
         let engine = Engine {
             store: Store::new(alloc, seed),
             live_table: LiveTable::new(alloc, seed),
             count: 0,
             creates: 0,
             labels,
+            relations,
             spans: Spans::new(alloc),
             cache: NoticeCache::new(alloc)?,
             distinct: DistinctTable::new(alloc, seed),
@@ -238,8 +246,8 @@ impl Engine {
     /// command is not counted: whatever comes next, the same command again too, is answered as if
     /// this one had not come. The steps that it took stay counted.
     ///
-    /// The handlers are those that the engine was made for. The command is one that a
-    /// `ScriptReader` gives: the elements that it puts are proper, and its statement is well
+    /// The handlers and predicates are those that the engine was made for. The command is one that
+    /// a `ScriptReader` gives: the elements that it puts are proper, and its statement is well
     /// formed.
     pub fn apply<L: Ledger>(
         &mut self,
@@ -251,16 +259,17 @@ impl Engine {
     ) -> Result<Applied, ApplyError>
         requires few { self.old.count < 2 ^ 48 }
         requires proper { IsProperCommand command.now }
-        requires handlers { self.old.labels
-            ≡ (labels handlers.now.items.items (λ h. h.name) (λ h. h.kind)) }
+        requires handlers { self.old.handed
+            ≡ (handed_in handlers.now.items.items (λ h. h.name) (λ h. h.kind)
+            handlers.now.predicates.items (λ p. p.name) (λ p. p.relation)) }
 
         // An accepted command meets no refusal and joins the history; its answer is appended.
         ensures accepted { OnOk result (OfEach self.old (λ history.
-            first_refusal (language_of self.old.labels) history command.now ≡ None)) }
+            first_refusal (language_of self.old.handed) history command.now ≡ None)) }
         ensures joined { OnOk result (OfEach self.old (λ history.
             Stands self.new (command.now ∷ history))) }
         ensures answer { OnOk result (OfEach self.old (λ history. out.new.items
-            ≡ out.old.items ++ accepted_text (language_of self.old.labels) history
+            ≡ out.old.items ++ accepted_text (language_of self.old.handed) history
             (self.old.count + 1) command.now)) }
         ensures notices { IfOk result (WritesNotices self.old command.now out.old.items) }
         ensures spans { OnOk result (OfEach self.old (λ history.
@@ -269,7 +278,7 @@ impl Engine {
 
         // A refused one meets this refusal first.
         ensures refused { IfRefused result (λ why. OfEach self.old (λ history.
-            first_refusal (language_of self.old.labels) history command.now ≡ Some why)) }
+            first_refusal (language_of self.old.handed) history command.now ≡ Some why)) }
 
         // Refused or given up for want of memory, it leaves the history and what was written.
         ensures stays { OnErr result (OfEach self.old (Stands self.new)) }
@@ -280,11 +289,11 @@ impl Engine {
         ensures compacted { IfAnswered result
             (IsChange command.now → AreCompacted self.old self.new) }
 
-        // It is counted unless it is given up; whatever is answered, the handlers' names and kinds
-        // stay.
+        // It is counted unless it is given up; whatever is answered, the names, kinds and relations
+        // of what it was handed stay.
         ensures counted { IfAnswered result (self.new.count ≡ self.old.count + 1) }
         ensures uncounted { IfGivenUp result (self.new.count ≡ self.old.count) }
-        ensures labels { self.new.labels ≡ self.old.labels }
+        ensures handed { self.new.handed ≡ self.old.handed }
 
         // Each row that is made is at most one step: whatever is answered, they are within the work
         // of the command.
@@ -319,7 +328,7 @@ impl Engine {
         ensures bounded { (history : History) → Follows self.now history
             → IsBounded self.now history }
         ensures shares { Shares self.now.subscriptions self.now.table }
-        ensures serve { AllServe self.now.table self.now.cache }
+        ensures serve { AllServe self.now.handed.relations self.now.table self.now.cache }
         ensures counts { KeepsCounts self.now.subscriptions self.now.distinct }
     {
         self.live_table.shares();
@@ -372,11 +381,12 @@ impl Engine {
     ) -> Result<Answered, ApplyError>
         requires few { self.old.count < 2 ^ 48 }
         requires proper { IsProperCommand command.now }
-        requires handlers { self.old.labels
-            ≡ (labels handlers.now.items.items (λ h. h.name) (λ h. h.kind)) }
+        requires handlers { self.old.handed
+            ≡ (handed_in handlers.now.items.items (λ h. h.name) (λ h. h.kind)
+            handlers.now.predicates.items (λ p. p.name) (λ p. p.relation)) }
         ensures applies { Applies self.old command.now
             out.old.items result self.new out.new.items }
-        ensures labels { self.new.labels ≡ self.old.labels }
+        ensures handed { self.new.handed ≡ self.old.handed }
         ensures compacted { IfAnswered result
             (IsChange command.now → AreCompacted self.old self.new) }
         ensures cached { KeepsCache self.old self.new }
@@ -406,7 +416,7 @@ impl Engine {
         requires few { self.old.count < 2 ^ 48 }
         ensures applies { Applies self.old (Command.Declare name.now root.now key.now)
             out.old.items result self.new out.new.items }
-        ensures labels { self.new.labels ≡ self.old.labels }
+        ensures handed { self.new.handed ≡ self.old.handed }
         ensures cached { KeepsCache self.old self.new }
     {
         let before = out.len();
@@ -438,11 +448,12 @@ impl Engine {
     ) -> Result<Answered, ApplyError>
         requires few { self.old.count < 2 ^ 48 }
         requires proper { list_all puts_proper sections.now ≡ true }
-        requires handlers { self.old.labels
-            ≡ (labels handlers.now.items.items (λ h. h.name) (λ h. h.kind)) }
+        requires handlers { self.old.handed
+            ≡ (handed_in handlers.now.items.items (λ h. h.name) (λ h. h.kind)
+            handlers.now.predicates.items (λ p. p.name) (λ p. p.relation)) }
         ensures applies { Applies self.old (Command.Delta sections.now)
             out.old.items result self.new out.new.items }
-        ensures labels { self.new.labels ≡ self.old.labels }
+        ensures handed { self.new.handed ≡ self.old.handed }
         ensures compacted { IfAnswered result (AreCompacted self.old self.new) }
         ensures cached { KeepsCache self.old self.new }
         ensures work { IsWithinWork self.old (Command.Delta sections.now) steps.old steps.new }
@@ -572,11 +583,12 @@ impl Engine {
     ) -> Result<Answered, ApplyError>
         requires few { self.old.count < 2 ^ 48 }
         requires proper { list_all puts_proper sections.now ≡ true }
-        requires handlers { self.old.labels
-            ≡ (labels handlers.now.items.items (λ h. h.name) (λ h. h.kind)) }
+        requires handlers { self.old.handed
+            ≡ (handed_in handlers.now.items.items (λ h. h.name) (λ h. h.kind)
+            handlers.now.predicates.items (λ p. p.name) (λ p. p.relation)) }
         ensures applies { Applies self.old (Command.Delta sections.now)
             out.old.items result self.new out.new.items }
-        ensures labels { self.new.labels ≡ self.old.labels }
+        ensures handed { self.new.handed ≡ self.old.handed }
         ensures bases { IfAnswered result (KeepBases self.old self.new) }
         ensures cached { KeepsCache self.old self.new }
         ensures work { IsWithinWork self.old (Command.Delta sections.now) steps.old steps.new }
@@ -627,18 +639,19 @@ impl Engine {
     ) -> Result<Answered, ApplyError>
         requires few { self.old.count < 2 ^ 48 }
         requires whole { StatementIsWellFormed statement.now }
-        requires handlers { self.old.labels
-            ≡ (labels handlers.now.items.items (λ h. h.name) (λ h. h.kind)) }
+        requires handlers { self.old.handed
+            ≡ (handed_in handlers.now.items.items (λ h. h.name) (λ h. h.kind)
+            handlers.now.predicates.items (λ p. p.name) (λ p. p.relation)) }
         ensures applies { Applies self.old (Command.Create statement.now)
             out.old.items result self.new out.new.items }
-        ensures labels { self.new.labels ≡ self.old.labels }
+        ensures handed { self.new.handed ≡ self.old.handed }
         ensures cached { KeepsCache self.old self.new }
         ensures work { IsWithinWork self.old (Command.Create statement.now) steps.old steps.new }
     {
         if self.live_table.book().has(&statement.name) {
             return self.refuse(Refusal::NameTaken);
         }
-        let query = match bind(alloc, statement, &self.store) {
+        let query = match bind(alloc, statement, &self.store, handlers.predicates()) {
             Ok(query) => query,
             Err(error) => return self.refuse_query(error),
         };
@@ -664,14 +677,15 @@ impl Engine {
         steps: &mut Steps<L>,
     ) -> Result<Answered, ApplyError>
         requires few { self.old.count < 2 ^ 48 }
-        requires handlers { self.old.labels
-            ≡ (labels handlers.now.items.items (λ h. h.name) (λ h. h.kind)) }
+        requires handlers { self.old.handed
+            ≡ (handed_in handlers.now.items.items (λ h. h.name) (λ h. h.kind)
+            handlers.now.predicates.items (λ p. p.name) (λ p. p.relation)) }
         requires some { (statement : a_statement)
             × (IsSubscriptionOf self.old statement subscription) }
         ensures applies { OfStatement self.old subscription (λ statement.
             Applies self.old (Command.Create statement) out.old.items result self.new
             out.new.items) }
-        ensures labels { self.new.labels ≡ self.old.labels }
+        ensures handed { self.new.handed ≡ self.old.handed }
         ensures cached { KeepsCache self.old self.new }
         ensures work { OfStatement self.old subscription (λ statement.
             IsWithinWork self.old (Command.Create statement) steps.old steps.new) }
@@ -758,7 +772,7 @@ impl Engine {
         requires few { self.old.count < 2 ^ 48 }
         ensures applies { Applies self.old (Command.Delete name.now)
             out.old.items result self.new out.new.items }
-        ensures labels { self.new.labels ≡ self.old.labels }
+        ensures handed { self.new.handed ≡ self.old.handed }
         ensures cached { KeepsCache self.old self.new }
     {
         let Some(install) = self.live_table.book().find(name) else {
@@ -781,11 +795,12 @@ impl Engine {
         out: &mut Vec<u8>,
     ) -> Result<Answered, ApplyError>
         requires few { self.old.count < 2 ^ 48 }
-        requires handlers { self.old.labels
-            ≡ (labels handlers.now.items.items (λ h. h.name) (λ h. h.kind)) }
+        requires handlers { self.old.handed
+            ≡ (handed_in handlers.now.items.items (λ h. h.name) (λ h. h.kind)
+            handlers.now.predicates.items (λ p. p.name) (λ p. p.relation)) }
         ensures applies { Applies self.old (Command.Clock instant)
             out.old.items result self.new out.new.items }
-        ensures labels { self.new.labels ≡ self.old.labels }
+        ensures handed { self.new.handed ≡ self.old.handed }
         ensures cached { KeepsCache self.old self.new }
     {
         if instant < self.live_table.book().instant() {
@@ -823,7 +838,7 @@ impl Engine {
         requires few { self.old.count < 2 ^ 48 }
         ensures applies { Applies self.old Command.Report
             out.old.items result self.new out.new.items }
-        ensures labels { self.new.labels ≡ self.old.labels }
+        ensures handed { self.new.handed ≡ self.old.handed }
         ensures cached { KeepsCache self.old self.new }
     {
         let answered = write_accepted(alloc, self.count + 1, out)?;
@@ -853,7 +868,7 @@ impl Engine {
         ensures refused { result ≡ Err (ApplyError.Refused refusal) }
         ensures counted { self.new
             ≡ record self.old { count = self.old.count + 1 } }
-        ensures labels { self.new.labels ≡ self.old.labels }
+        ensures handed { self.new.handed ≡ self.old.handed }
     {
         self.count += 1;
         Err(ApplyError::Refused(refusal))
@@ -865,7 +880,7 @@ impl Engine {
         ensures counted { IfSome (change_refusal error) (λ _.
             self.new ≡ record self.old { count = self.old.count + 1 }) }
         ensures same { IfNone (change_refusal error) (self.new ≡ self.old) }
-        ensures labels { self.new.labels ≡ self.old.labels }
+        ensures handed { self.new.handed ≡ self.old.handed }
     {
         match error {
             ChangeError::NoSource => self.refuse(Refusal::NoSource),
@@ -881,7 +896,7 @@ impl Engine {
         ensures counted { IfSome (query_refusal error) (λ _.
             self.new ≡ record self.old { count = self.old.count + 1 }) }
         ensures same { IfNone (query_refusal error) (self.new ≡ self.old) }
-        ensures labels { self.new.labels ≡ self.old.labels }
+        ensures handed { self.new.handed ≡ self.old.handed }
     {
         match error {
             BindError::NoSource => self.refuse(Refusal::NoSource),
@@ -952,18 +967,6 @@ fn argument_of(alloc: Global, statement: &Statement) -> Result<Bytes, AllocError
         Some(argument) => argument.copy(alloc),
         None => Ok(Bytes::new(alloc)),
     }
-}
-
-/// The names and kinds of handlers.
-fn labels_of(alloc: Global, handlers: &Handlers) -> Result<Vec<(Bytes, Kind)>, AllocError>
-    ensures { IfOk result (λ found. found.items
-        ≡ (labels handlers.now.items.items (λ h. h.name) (λ h. h.kind))) }
-{
-    let mut found = Vec::new(alloc);
-    for at in 0..handlers.len() {
-        found.push((handlers.name(at).copy(alloc)?, handlers.kind(at)))?;
-    }
-    Ok(found)
 }
 
 /// The names of the sources that matches ask, in order.

@@ -1,8 +1,9 @@
 //! A firing: what the answer of a subscription gained and lost since its latest one.
 ghost use Rattle.std.specs.Prelude.{◌≡◌, ◌++◌, ◌<◌, length, IfSome, OnOk};
 ghost use Rattle.std.specs.Io.{StartsWith};
-ghost use Rattle.ncq_callback.specs.Labels.{labels};
+ghost use Rattle.ncq_callback.specs.Labels.{handed_in, labels};
 ghost use Rattle.ncq_distinct.specs.DistinctTables.{HaveSameCounts};
+ghost use Rattle.ncq_plan.specs.Relations.{relations};
 ghost use Rattle.ncq_source.specs.StoreStates.{StoreState};
 ghost use Rattle.ncq_engine.specs.Cached.{AllServe, Grows};
 ghost use Rattle.ncq_engine.specs.Engines.{mark_in, latest_in, entries_text, notice_text, CanTell};
@@ -40,25 +41,46 @@ pub(crate) fn fire<'a>(
     cache: &mut NoticeCache,
     distinct: &mut DistinctTable,
 ) -> Result<(), AllocError>
-    requires can { CanTell (labels handlers.now.items.items (λ h. h.name) (λ h. h.kind))
+    requires can { CanTell (handed_in handlers.now.items.items (λ h. h.name) (λ h. h.kind)
+        handlers.now.predicates.items (λ p. p.name) (λ p. p.relation))
         store.now groups.now subscription.now }
-    requires latest { IfSome latest.old (IsLatest store.now groups.now) }
-    requires serve { AllServe groups.now cache.old }
+    requires latest { IfSome latest.old (IsLatest
+        (relations handlers.now.predicates.items (λ p. p.name) (λ p. p.relation))
+        store.now groups.now) }
+    requires serve { AllServe
+        (relations handlers.now.predicates.items (λ p. p.name) (λ p. p.relation))
+        groups.now cache.old }
     ensures text { OnOk result (out.new.items ≡ out.old.items
-        ++ notice_text (labels handlers.now.items.items (λ h. h.name) (λ h. h.kind))
+        ++ notice_text (handed_in handlers.now.items.items (λ h. h.name) (λ h. h.kind)
+        handlers.now.predicates.items (λ p. p.name) (λ p. p.relation))
         store.now groups.now.files distinct.old subscription.now instant) }
     ensures front { StartsWith out.new.items out.old.items }
     ensures span { OnOk result (spans.new ≡ spans.old
         ++ span_of subscription.now.name (length out.old.items)
-        (notice_text (labels handlers.now.items.items (λ h. h.name) (λ h. h.kind))
+        (notice_text (handed_in handlers.now.items.items (λ h. h.name) (λ h. h.kind)
+        handlers.now.predicates.items (λ p. p.name) (λ p. p.relation))
         store.now groups.now.files distinct.old subscription.now instant)) }
-    ensures latest { IfSome latest.new (IsLatest store.now groups.now) }
-    ensures cached { Grows groups.now cache.old cache.new }
+    ensures latest { IfSome latest.new (IsLatest
+        (relations handlers.now.predicates.items (λ p. p.name) (λ p. p.relation))
+        store.now groups.now) }
+    ensures cached { Grows
+        (relations handlers.now.predicates.items (λ p. p.name) (λ p. p.relation))
+        groups.now cache.old cache.new }
     ensures counts { HaveSameCounts distinct.old distinct.new }
-    ensures waiting { OnOk result (AwaitsNews store.now groups.now.files subscription.now
-        distinct.old distinct.new) }
+    ensures waiting { OnOk result (AwaitsNews
+        (relations handlers.now.predicates.items (λ p. p.name) (λ p. p.relation))
+        store.now groups.now.files subscription.now distinct.old distinct.new) }
 {
-    find_news(alloc, subscription, instant, groups, store, latest, cache)?;
+    find_news(
+        alloc,
+        subscription,
+        instant,
+        groups,
+        store,
+        handlers,
+        latest,
+        cache,
+    )?;
     match latest {
         Some(told) if subscription.distinct => {
             let entries = distinct.prepare(alloc, subscription.install, &told.notice.entries)?;
@@ -107,12 +129,14 @@ fn write_notice(
     requires action { subscription.now.action
         < length (labels handlers.now.items.items (λ h. h.name) (λ h. h.kind)) }
     ensures text { OnOk result (out.new.items ≡ out.old.items
-        ++ entries_text (labels handlers.now.items.items (λ h. h.name) (λ h. h.kind))
+        ++ entries_text (handed_in handlers.now.items.items (λ h. h.name) (λ h. h.kind)
+        handlers.now.predicates.items (λ p. p.name) (λ p. p.relation))
         subscription.now instant notice.old.entries) }
     ensures front { StartsWith out.new.items out.old.items }
     ensures span { OnOk result (spans.new ≡ spans.old
         ++ span_of subscription.now.name (length out.old.items)
-        (entries_text (labels handlers.now.items.items (λ h. h.name) (λ h. h.kind))
+        (entries_text (handed_in handlers.now.items.items (λ h. h.name) (λ h. h.kind)
+        handlers.now.predicates.items (λ p. p.name) (λ p. p.relation))
         subscription.now instant notice.old.entries)) }
     ensures entries { notice.new.entries ≡ notice.old.entries }
 {

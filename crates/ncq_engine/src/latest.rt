@@ -2,9 +2,10 @@
 //! the same.
 ghost use Rattle.std.specs.Prelude.{◌≡◌, None, IfOk, IfSome, IsTrue, List, OnOk};
 ghost use Rattle.std.specs.FinMap.{get};
-ghost use Rattle.ncq_callback.specs.Labels.{Label};
+ghost use Rattle.ncq_callback.specs.Labels.{Handed};
 ghost use Rattle.ncq_group.specs.Tables.{Facts, TableState};
 ghost use Rattle.ncq_news.specs.News.{entries_of, since_mark};
+ghost use Rattle.ncq_plan.specs.Relations.{Relations, relations};
 ghost use Rattle.ncq_shelf.specs.Stands.{IsThere};
 ghost use Rattle.ncq_source.specs.StoreStates.{StoreState};
 ghost use Rattle.ncq_engine.specs.Cached.{AllServe, Grows, key_of};
@@ -15,10 +16,10 @@ use crate::firing::{latest_change, mark_at};
 use ncq_base::{Bytes, Copied};
 use ncq_book::Subscription;
 use ncq_cache::{NoticeCache, NoticeKey};
-use ncq_callback::{Entries, Notice};
+use ncq_callback::{Entries, Handlers, Notice};
 use ncq_group::GroupTable;
 use ncq_news::news;
-use ncq_plan::{same_template, same_tests};
+use ncq_plan::{same_checks, same_template};
 use ncq_source::Store;
 use std::alloc::{AllocError, Global};
 
@@ -37,7 +38,7 @@ pub(crate) struct Latest<'a> {
 
 /// What the answer of the subscription gained and lost since its mark becomes what was told last,
 /// to be told at the instant. It is that already, where that was told of the same file, by the same
-/// tests and template, since the same mark; else it is looked for among what was told before, or
+/// checks and template, since the same mark; else it is looked for among what was told before, or
 /// made.
 pub(crate) fn find_news<'a>(
     alloc: Global,
@@ -45,15 +46,22 @@ pub(crate) fn find_news<'a>(
     instant: u64,
     groups: &GroupTable,
     store: &Store,
+    handlers: &Handlers,
     latest: &mut Option<Latest<'a>>,
     cache: &mut NoticeCache,
 ) -> Result<(), AllocError>
-    requires can { (labels : List Label) × CanTell labels store.now groups.now subscription.now }
-    requires latest { IfSome latest.old (IsLatest store.now groups.now) }
-    requires serve { AllServe groups.now cache.old }
-    ensures news { OnOk result (HasNews store.now groups.now.files subscription.now latest.new) }
-    ensures latest { IfSome latest.new (IsLatest store.now groups.now) }
-    ensures cached { Grows groups.now cache.old cache.new }
+    requires can { (handed : Handed) × CanTell handed store.now groups.now subscription.now }
+    requires latest { IfSome latest.old (IsLatest
+        (relations handlers.now.predicates.items (λ p. p.name) (λ p. p.relation)) store.now groups.now) }
+    requires serve { AllServe (relations handlers.now.predicates.items (λ p. p.name) (λ p. p.relation))
+        groups.now cache.old }
+    ensures news { OnOk result (HasNews
+        (relations handlers.now.predicates.items (λ p. p.name) (λ p. p.relation))
+        store.now groups.now.files subscription.now latest.new) }
+    ensures latest { IfSome latest.new (IsLatest
+        (relations handlers.now.predicates.items (λ p. p.name) (λ p. p.relation)) store.now groups.now) }
+    ensures cached { Grows (relations handlers.now.predicates.items (λ p. p.name) (λ p. p.relation))
+        groups.now cache.old cache.new }
 {
     let changed = change_of(subscription, store, latest);
     let mark = mark_at(subscription, changed);
@@ -65,7 +73,16 @@ pub(crate) fn find_news<'a>(
     put_back(latest, cache);
     groups.facts();
     let key = shared_key(alloc, subscription, mark, groups)?;
-    let entries = look_up(alloc, subscription, mark, instant, groups, &key, cache)?;
+    let entries = look_up(
+        alloc,
+        subscription,
+        mark,
+        instant,
+        groups,
+        handlers,
+        &key,
+        cache,
+    )?;
     let notice = Notice {
         name: Bytes::new(alloc),
         instant: 0,
@@ -84,8 +101,8 @@ pub(crate) fn find_news<'a>(
 /// The greatest of the last changes of the sources of the subscription. It is known already where
 /// what was told last is of the same file.
 fn change_of(subscription: &Subscription, store: &Store, latest: &Option<Latest<'_>>) -> u64
-    requires { (labels : List Label) × (table : TableState)
-        × (CanTell labels store.now table subscription.now
+    requires { (handed : Handed) × (table : TableState)
+        × (CanTell handed store.now table subscription.now
         × IfSome latest.now (KnowsChange store.now table)) }
     ensures { result ≡ latest_in store.now subscription.now.sources }
 {
@@ -101,8 +118,9 @@ fn change_of(subscription: &Subscription, store: &Store, latest: &Option<Latest<
 /// told last.
 pub(crate) fn put_back(latest: &mut Option<Latest<'_>>, cache: &mut NoticeCache)
     ensures none { latest.new ≡ None }
-    ensures cached { (table : TableState) → IfSome latest.old (IsKeyed table)
-        → Grows table cache.old cache.new }
+    ensures cached { (relations : Relations) (table : TableState)
+        → IfSome latest.old (IsKeyed relations table)
+        → Grows relations table cache.old cache.new }
 {
     let Some(told) = latest.take() else {
         return;
@@ -145,18 +163,22 @@ fn look_up(
     mark: Option<u64>,
     instant: u64,
     groups: &GroupTable,
+    handlers: &Handlers,
     key: &Option<NoticeKey>,
     cache: &mut NoticeCache,
 ) -> Result<Entries, AllocError>
-    requires can { (labels : List Label) × (store : StoreState)
-        × (CanTell labels store groups.now subscription.now
+    requires can { (handed : Handed) × (store : StoreState)
+        × (CanTell handed store groups.now subscription.now
         × (mark ≡ mark_in store subscription.now)) }
     requires facts { Facts groups.now }
     requires key { IfSome key.now (λ k. k ≡ key_of subscription.now mark groups.now.number) }
-    requires serve { AllServe groups.now cache.old }
-    ensures entries { IfOk result (λ entries. entries ≡ entries_of subscription.now.query
+    requires serve { AllServe (relations handlers.now.predicates.items (λ p. p.name) (λ p. p.relation))
+        groups.now cache.old }
+    ensures entries { IfOk result (λ entries. entries ≡ entries_of
+        (relations handlers.now.predicates.items (λ p. p.name) (λ p. p.relation)) subscription.now.query
         (since_mark mark (rows_in_file (get groups.now.files subscription.now.file.0)))) }
-    ensures cached { Grows groups.now cache.old cache.new }
+    ensures cached { Grows (relations handlers.now.predicates.items (λ p. p.name) (λ p. p.relation))
+        groups.now cache.old cache.new }
 {
     if let Some(key) = key {
         if let Some(mut entries) = cache.take(key) {
@@ -165,7 +187,14 @@ fn look_up(
         }
     }
     let file = groups.file(subscription.file);
-    news(alloc, &subscription.query, &file, mark, groups.number())
+    news(
+        alloc,
+        &subscription.query,
+        handlers.predicates(),
+        &file,
+        mark,
+        groups.number(),
+    )
 }
 
 /// Whether it is what the subscription is told since this mark.
@@ -182,7 +211,7 @@ fn ask_alike(a: &Subscription, b: &Subscription) -> bool
 {
     a.file.0 == b.file.0
         && same_template(&a.query.template, &b.query.template)
-        && same_tests(a.query.residual.as_slice(), b.query.residual.as_slice())
+        && same_checks(a.query.residual.as_slice(), b.query.residual.as_slice())
 }
 
 fn same_mark(a: Option<u64>, b: Option<u64>) -> bool

@@ -14,6 +14,7 @@ mod compaction;
 mod engine;
 mod expiry;
 mod firing;
+mod handed;
 mod latest;
 mod laws;
 mod span;

@@ -4,8 +4,9 @@ ghost use Rattle.std.specs.Prelude.{IsSome, IfOk, IfSome, OnOk};
 ghost use Rattle.std.specs.Io.{StartsWith};
 ghost use Rattle.std.specs.List.{AllByRecursion};
 ghost use Rattle.ncq_book.specs.Books.{subscription_of, watchers_of, InstallsRise};
-ghost use Rattle.ncq_callback.specs.Labels.{labels};
+ghost use Rattle.ncq_callback.specs.Labels.{handed_in};
 ghost use Rattle.ncq_distinct.specs.DistinctTables.{HaveSameCounts};
+ghost use Rattle.ncq_plan.specs.Relations.{relations};
 ghost use Rattle.ncq_engine.specs.Cached.{AllServe, Grows};
 ghost use Rattle.ncq_engine.specs.Output.{ok_text};
 ghost use Rattle.ncq_engine.specs.Tellings.{firings_spans, firings_text, noted_by, started_at};
@@ -89,21 +90,30 @@ pub(crate) fn tell(
     cache: &mut NoticeCache,
     distinct: &mut DistinctTable,
 ) -> Result<Spans, AllocError>
-    requires can { CanTellEach (labels handlers.now.items.items (λ h. h.name) (λ h. h.kind))
+    requires can { CanTellEach (handed_in handlers.now.items.items (λ h. h.name) (λ h. h.kind)
+        handlers.now.predicates.items (λ p. p.name) (λ p. p.relation))
         store.now live_table.now }
-    requires serve { AllServe live_table.now.table cache.old }
+    requires serve { AllServe
+        (relations handlers.now.predicates.items (λ p. p.name) (λ p. p.relation))
+        live_table.now.table cache.old }
     requires there { AllByRecursion
         (λ f. IsSome (subscription_of f.install live_table.now.subscriptions)) firings.now }
     ensures text { OnOk result (out.new.items ≡ out.old.items
-        ++ firings_text (labels handlers.now.items.items (λ h. h.name) (λ h. h.kind)) store.now
+        ++ firings_text (handed_in handlers.now.items.items (λ h. h.name) (λ h. h.kind)
+        handlers.now.predicates.items (λ p. p.name) (λ p. p.relation)) store.now
         distinct.old live_table.now firings.now) }
     ensures front { StartsWith out.new.items out.old.items }
     ensures spans { IfOk result (λ spans. spans
-        ≡ firings_spans (labels handlers.now.items.items (λ h. h.name) (λ h. h.kind)) store.now
+        ≡ firings_spans (handed_in handlers.now.items.items (λ h. h.name) (λ h. h.kind)
+        handlers.now.predicates.items (λ p. p.name) (λ p. p.relation)) store.now
         distinct.old live_table.now (length out.old.items) firings.now) }
-    ensures cached { Grows live_table.now.table cache.old cache.new }
+    ensures cached { Grows
+        (relations handlers.now.predicates.items (λ p. p.name) (λ p. p.relation))
+        live_table.now.table cache.old cache.new }
     ensures counts { HaveSameCounts distinct.old distinct.new }
-    ensures waiting { OnOk result (Awaits store.now live_table.now firings.now distinct.new) }
+    ensures waiting { OnOk result (Awaits
+        (relations handlers.now.predicates.items (λ p. p.name) (λ p. p.relation))
+        store.now live_table.now firings.now distinct.new) }
 {
     distinct.forget();
     let mut spans = Spans::new(alloc);
@@ -142,20 +152,29 @@ fn tell_started(
     cache: &mut NoticeCache,
     distinct: &mut DistinctTable,
 ) -> Result<Spans, AllocError>
-    requires can { CanTellEach (labels handlers.now.items.items (λ h. h.name) (λ h. h.kind))
+    requires can { CanTellEach (handed_in handlers.now.items.items (λ h. h.name) (λ h. h.kind)
+        handlers.now.predicates.items (λ p. p.name) (λ p. p.relation))
         store.now live_table.now }
-    requires serve { AllServe live_table.now.table cache.old }
+    requires serve { AllServe
+        (relations handlers.now.predicates.items (λ p. p.name) (λ p. p.relation))
+        live_table.now.table cache.old }
     ensures text { OnOk result (out.new.items ≡ out.old.items
-        ++ firings_text (labels handlers.now.items.items (λ h. h.name) (λ h. h.kind)) store.now
+        ++ firings_text (handed_in handlers.now.items.items (λ h. h.name) (λ h. h.kind)
+        handlers.now.predicates.items (λ p. p.name) (λ p. p.relation)) store.now
         distinct.old live_table.now (started_of live_table.now installs.now)) }
     ensures front { StartsWith out.new.items out.old.items }
     ensures spans { IfOk result (λ spans. spans
-        ≡ firings_spans (labels handlers.now.items.items (λ h. h.name) (λ h. h.kind)) store.now
+        ≡ firings_spans (handed_in handlers.now.items.items (λ h. h.name) (λ h. h.kind)
+        handlers.now.predicates.items (λ p. p.name) (λ p. p.relation)) store.now
         distinct.old live_table.now (length out.old.items)
         (started_of live_table.now installs.now)) }
-    ensures cached { Grows live_table.now.table cache.old cache.new }
+    ensures cached { Grows
+        (relations handlers.now.predicates.items (λ p. p.name) (λ p. p.relation))
+        live_table.now.table cache.old cache.new }
     ensures counts { HaveSameCounts distinct.old distinct.new }
-    ensures waiting { OnOk result (Awaits store.now live_table.now
+    ensures waiting { OnOk result (Awaits
+        (relations handlers.now.predicates.items (λ p. p.name) (λ p. p.relation))
+        store.now live_table.now
         (started_of live_table.now installs.now) distinct.new) }
 {
     distinct.forget();
@@ -193,23 +212,36 @@ fn tell_one<'a>(
     cache: &mut NoticeCache,
     distinct: &mut DistinctTable,
 ) -> Result<(), AllocError>
-    requires can { CanTellEach (labels handlers.now.items.items (λ h. h.name) (λ h. h.kind))
+    requires can { CanTellEach (handed_in handlers.now.items.items (λ h. h.name) (λ h. h.kind)
+        handlers.now.predicates.items (λ p. p.name) (λ p. p.relation))
         store.now live_table.now }
-    requires latest { IfSome latest.old (IsLatest store.now live_table.now.table) }
-    requires serve { AllServe live_table.now.table cache.old }
+    requires latest { IfSome latest.old (IsLatest
+        (relations handlers.now.predicates.items (λ p. p.name) (λ p. p.relation))
+        store.now live_table.now.table) }
+    requires serve { AllServe
+        (relations handlers.now.predicates.items (λ p. p.name) (λ p. p.relation))
+        live_table.now.table cache.old }
     ensures text { OnOk result (out.new.items ≡ out.old.items
-        ++ firings_text (labels handlers.now.items.items (λ h. h.name) (λ h. h.kind)) store.now
+        ++ firings_text (handed_in handlers.now.items.items (λ h. h.name) (λ h. h.kind)
+        handlers.now.predicates.items (λ p. p.name) (λ p. p.relation)) store.now
         distinct.old live_table.now
         (started_at live_table.now.instant live_table.now.subscriptions install)) }
     ensures front { StartsWith out.new.items out.old.items }
     ensures spans { OnOk result (spans.new ≡ spans.old
-        ++ firings_spans (labels handlers.now.items.items (λ h. h.name) (λ h. h.kind)) store.now
+        ++ firings_spans (handed_in handlers.now.items.items (λ h. h.name) (λ h. h.kind)
+        handlers.now.predicates.items (λ p. p.name) (λ p. p.relation)) store.now
         distinct.old live_table.now (length out.old.items)
         (started_at live_table.now.instant live_table.now.subscriptions install)) }
-    ensures latest { IfSome latest.new (IsLatest store.now live_table.now.table) }
-    ensures cached { Grows live_table.now.table cache.old cache.new }
+    ensures latest { IfSome latest.new (IsLatest
+        (relations handlers.now.predicates.items (λ p. p.name) (λ p. p.relation))
+        store.now live_table.now.table) }
+    ensures cached { Grows
+        (relations handlers.now.predicates.items (λ p. p.name) (λ p. p.relation))
+        live_table.now.table cache.old cache.new }
     ensures counts { HaveSameCounts distinct.old distinct.new }
-    ensures waiting { OnOk result (AwaitMore store.now live_table.now
+    ensures waiting { OnOk result (AwaitMore
+        (relations handlers.now.predicates.items (λ p. p.name) (λ p. p.relation))
+        store.now live_table.now
         (started_at live_table.now.instant live_table.now.subscriptions install)
         distinct.old distinct.new) }
 {
@@ -244,18 +276,26 @@ pub(crate) fn answer_change(
     cache: &mut NoticeCache,
     distinct: &mut DistinctTable,
 ) -> Result<Answered, AllocError>
-    requires can { CanTellEach (labels handlers.now.items.items (λ h. h.name) (λ h. h.kind))
+    requires can { CanTellEach (handed_in handlers.now.items.items (λ h. h.name) (λ h. h.kind)
+        handlers.now.predicates.items (λ p. p.name) (λ p. p.relation))
         store.now live_table.now }
-    requires serve { AllServe live_table.now.table cache.old }
+    requires serve { AllServe
+        (relations handlers.now.predicates.items (λ p. p.name) (λ p. p.relation))
+        live_table.now.table cache.old }
     ensures told { IfOk result (IsAnswered number
-        (labels handlers.now.items.items (λ h. h.name) (λ h. h.kind)) store.now distinct.old
+        (handed_in handlers.now.items.items (λ h. h.name) (λ h. h.kind)
+        handlers.now.predicates.items (λ p. p.name) (λ p. p.relation)) store.now distinct.old
         live_table.now
         (started_of live_table.now (watchers_of fed.now live_table.now.subscriptions))
         out.old.items out.new.items) }
     ensures front { StartsWith out.new.items out.old.items }
-    ensures cached { Grows live_table.now.table cache.old cache.new }
+    ensures cached { Grows
+        (relations handlers.now.predicates.items (λ p. p.name) (λ p. p.relation))
+        live_table.now.table cache.old cache.new }
     ensures counts { HaveSameCounts distinct.old distinct.new }
-    ensures waiting { OnOk result (Awaits store.now live_table.now
+    ensures waiting { OnOk result (Awaits
+        (relations handlers.now.predicates.items (λ p. p.name) (λ p. p.relation))
+        store.now live_table.now
         (started_of live_table.now (watchers_of fed.now live_table.now.subscriptions))
         distinct.new) }
 {
@@ -281,17 +321,25 @@ pub(crate) fn answer_create(
     cache: &mut NoticeCache,
     distinct: &mut DistinctTable,
 ) -> Result<(Answered, Firings), AllocError>
-    requires can { CanTellEach (labels handlers.now.items.items (λ h. h.name) (λ h. h.kind))
+    requires can { CanTellEach (handed_in handlers.now.items.items (λ h. h.name) (λ h. h.kind)
+        handlers.now.predicates.items (λ p. p.name) (λ p. p.relation))
         store.now live_table.now }
-    requires serve { AllServe live_table.now.table cache.old }
+    requires serve { AllServe
+        (relations handlers.now.predicates.items (λ p. p.name) (λ p. p.relation))
+        live_table.now.table cache.old }
     ensures told { IfOk result (λ told. IsAnswered number
-        (labels handlers.now.items.items (λ h. h.name) (λ h. h.kind)) store.now distinct.old
+        (handed_in handlers.now.items.items (λ h. h.name) (λ h. h.kind)
+        handlers.now.predicates.items (λ p. p.name) (λ p. p.relation)) store.now distinct.old
         live_table.now told.1 out.old.items out.new.items told.0) }
     ensures front { StartsWith out.new.items out.old.items }
     ensures firings { IfOk result (λ told. told.1 ≡ started_of live_table.now (install ∷ [])) }
-    ensures cached { Grows live_table.now.table cache.old cache.new }
+    ensures cached { Grows
+        (relations handlers.now.predicates.items (λ p. p.name) (λ p. p.relation))
+        live_table.now.table cache.old cache.new }
     ensures counts { HaveSameCounts distinct.old distinct.new }
-    ensures waiting { OnOk result (Awaits store.now live_table.now
+    ensures waiting { OnOk result (Awaits
+        (relations handlers.now.predicates.items (λ p. p.name) (λ p. p.relation))
+        store.now live_table.now
         (started_of live_table.now (install ∷ [])) distinct.new) }
 {
     let answered = write_accepted(alloc, number, out)?;

@@ -1,5 +1,5 @@
 -- What a firing tells: the difference of two answers.
-use Rattle.std.proofs.Common.{◌≡◌, ℕ, zero, suc, ◌+◌, ◌<◌, ◌≤◌, Bool, true, false, cond, nat_lt, List, [], ◌∷◌, map, length, get_or, drop, slice_get, Some, refl, sym, ◌∙◌, ap, subst}
+use Rattle.std.proofs.Common.{◌≡◌, ℕ, zero, suc, ◌+◌, ◌<◌, ◌≤◌, Bool, true, List, [], ◌∷◌, map, length, get_or, drop, slice_get, Some, refl, sym, ◌∙◌, ap, subst}
 use Rattle.std.specs.Prelude.{ℤ}
 use Rattle.std.specs.FinMap.{empty}
 use Rattle.std.specs.List.{AllByRecursion, cons_option}
@@ -10,6 +10,7 @@ use Rattle.ncq_bag.specs.declared.bag.Difference.{Difference}
 use Rattle.ncq_row.specs.Embeddings.{Row}
 use Rattle.ncq_plan.specs.declared.query.NormalQuery.{NormalQuery}
 use Rattle.ncq_plan.specs.Deltas.{signed}
+use Rattle.ncq_plan.specs.Relations.{Relations}
 use Rattle.ncq_plan.specs.Residuals.{passes}
 use Rattle.ncq_plan.specs.Totals.{SignedRow as PlainRow, LeadsTo}
 use Rattle.ncq_plan.proofs.CallerLemmas.{leads_from_nothing}
@@ -23,35 +24,35 @@ use Rattle.ncq_news.specs.News.{answers_in, entries_of}
 use Rattle.ncq_news.specs.Laws.{NewsTellTheDifference}
 use Rattle.ncq_news.proofs.ContentLaws.{all_lead}
 
-module _ (query : NormalQuery) where
+module _ (relations : Relations) (query : NormalQuery) where
   -- the entries of rows that come and go, one after the other
   abbrev told : List PlainRow → List Difference
-  told delta = differences (counts_after (passes query.residual) (answer_of query.template) empty delta)
+  told delta = differences (counts_after (passes relations query.residual) (answer_of query.template) empty delta)
 
-  told_is : (before now : List Row) (delta : List PlainRow) → LeadsTo before delta now → told delta ≡ difference (answers_in query now) (answers_in query before)
-  told_is before now delta leads = counts_tell before now delta leads (passes query.residual) (answer_of query.template)
+  told_is : (before now : List Row) (delta : List PlainRow) → LeadsTo before delta now → told delta ≡ difference (answers_in relations query now) (answers_in relations query before)
+  told_is before now delta leads = counts_tell before now delta leads (passes relations query.residual) (answer_of query.template)
 
   -- all rows tell the answer of the content at the last number
   pub all_tell : (last : ℕ) (rows : List SignedRow) (now : List Row) → AllByRecursion (λ r. r.number ≤ last) rows → IsContent last rows now
-      → entries_of query rows ≡ difference (answers_in query now) []
+      → entries_of relations query rows ≡ difference (answers_in relations query now) []
   all_tell last rows now all content = told_is [] now (unnumbered rows) (all_lead last rows now all content)
 
   -- those behind a mark tell how it differs from that at the mark
   pub since_tell : (mark last : ℕ) (rows : List SignedRow) (before now : List Row) → AllByRecursion (λ r. r.number ≤ last) rows
       → IsContent mark rows before → IsContent last rows now
-      → entries_of query (since mark rows) ≡ difference (answers_in query now) (answers_in query before)
+      → entries_of relations query (since mark rows) ≡ difference (answers_in relations query now) (answers_in relations query before)
   since_tell mark last rows before now all was content =
       told_is before now (unnumbered (since mark rows)) (file_leads mark last rows before now (record { last = all; content_before = was; content_after = content }))
 
   -- the rows of the content, as they come, tell what all rows tell
   pub content_tells : (last : ℕ) (rows : List SignedRow) (now : List Row) → AllByRecursion (λ r. r.number ≤ last) rows → IsContent last rows now
-      → told (signed true now) ≡ entries_of query rows
+      → told (signed true now) ≡ entries_of relations query rows
   content_tells last rows now all content = told_is [] now (signed true now) (leads_from_nothing now) ∙ sym (all_tell last rows now all content)
 
 pub news_tell : NewsTellTheDifference
 news_tell = record {
   first = all_tell;
-  later = λ query mark last rows before now all below was content. since_tell query mark last rows before now all was content;
+  later = λ relations query mark last rows before now all below was content. since_tell relations query mark last rows before now all was content;
 }
 
 -- the row that is read at a place of a file

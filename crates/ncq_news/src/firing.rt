@@ -1,6 +1,7 @@
 //! The entries of a notice, from the signed rows of a file.
 ghost use Rattle.std.specs.Prelude.{◌≡◌, ◌≤◌, length, IfOk, OnOk, IfSome};
 ghost use Rattle.std.specs.List.{AllByRecursion};
+ghost use Rattle.ncq_plan.specs.Relations.{relations};
 ghost use Rattle.ncq_plan.specs.Residuals.{passes};
 ghost use Rattle.ncq_plan.specs.WellFormed.{arms_width, IsWellFormed};
 ghost use Rattle.ncq_midfile.specs.Content.{since, IsSoundAt};
@@ -10,17 +11,18 @@ ghost use Rattle.ncq_news.specs.News.{entries_of, since_mark};
 
 use ncq_callback::{Entries, Gather};
 use ncq_midfile::View;
-use ncq_plan::NormalQuery;
+use ncq_plan::{NormalQuery, Predicates};
 use ncq_row::Row;
 use std::alloc::{AllocError, Global};
 
 /// What a subscriber is told: what the answer of its query gained and lost by the rows of its file
 /// since its mark, the number of changes at its latest firing. Where it has none, that is what the
-/// answer of the content now has. `now` is the number of changes, which no row exceeds. The only
-/// error is that memory ran out.
+/// answer of the content now has. The predicates are those that the query may name. `now` is the
+/// number of changes, which no row exceeds. The only error is that memory ran out.
 pub fn news(
     alloc: Global,
     query: &NormalQuery,
+    predicates: &Predicates,
     file: &View<'_>,
     mark: Option<u64>,
     now: u64,
@@ -32,12 +34,13 @@ pub fn news(
     requires base { (shown file.now).base ≤ now }
     requires sound { IsSoundAt now (shown file.now).rows }
     requires mark { IfSome mark (λ n. (shown file.now).base ≤ n) }
-    ensures { IfOk result (λ entries.
-        entries ≡ entries_of query.now (since_mark mark (shown file.now).rows)) }
+    ensures { IfOk result (λ entries. entries ≡ entries_of
+        (relations predicates.now.items (λ p. p.name) (λ p. p.relation))
+        query.now (since_mark mark (shown file.now).rows)) }
 {
     match mark {
-        Some(number) => entries_since(alloc, query, file, number),
-        None => entries_at(alloc, query, file, now),
+        Some(number) => entries_since(alloc, query, predicates, file, number),
+        None => entries_at(alloc, query, predicates, file, now),
     }
 }
 
@@ -45,6 +48,7 @@ pub fn news(
 fn entries_since(
     alloc: Global,
     query: &NormalQuery,
+    predicates: &Predicates,
     file: &View<'_>,
     mark: u64,
 ) -> Result<Entries, AllocError>
@@ -52,14 +56,22 @@ fn entries_since(
     requires wide { AllByRecursion (λ r. length r.row ≡ arms_width query.now.arms)
         (rows_below file.now) }
     requires base { (shown file.now).base ≤ mark }
-    ensures { IfOk result (λ entries.
-        entries ≡ entries_of query.now (since mark (shown file.now).rows)) }
+    ensures { IfOk result (λ entries. entries ≡ entries_of
+        (relations predicates.now.items (λ p. p.name) (λ p. p.relation))
+        query.now (since mark (shown file.now).rows)) }
 {
     let places = file.since(alloc, mark)?;
     let mut gather = Gather::new(alloc);
     for place in places.as_slice() {
         let signed = file.signed(*place);
-        take(alloc, query, &signed.row, signed.plus, &mut gather)?;
+        take(
+            alloc,
+            query,
+            predicates,
+            &signed.row,
+            signed.plus,
+            &mut gather,
+        )?;
     }
     gather.finish(alloc)
 }
@@ -69,6 +81,7 @@ fn entries_since(
 fn entries_at(
     alloc: Global,
     query: &NormalQuery,
+    predicates: &Predicates,
     file: &View<'_>,
     now: u64,
 ) -> Result<Entries, AllocError>
@@ -78,12 +91,21 @@ fn entries_at(
     requires last { AllByRecursion (λ r. r.number ≤ now) (shown file.now).rows }
     requires base { (shown file.now).base ≤ now }
     requires sound { IsSoundAt now (shown file.now).rows }
-    ensures { IfOk result (λ entries. entries ≡ entries_of query.now (shown file.now).rows) }
+    ensures { IfOk result (λ entries. entries ≡ entries_of
+        (relations predicates.now.items (λ p. p.name) (λ p. p.relation))
+        query.now (shown file.now).rows) }
 {
     let places = file.content_at(alloc, now)?;
     let mut gather = Gather::new(alloc);
     for place in places.as_slice() {
-        take(alloc, query, file.row(*place), true, &mut gather)?;
+        take(
+            alloc,
+            query,
+            predicates,
+            file.row(*place),
+            true,
+            &mut gather,
+        )?;
     }
     gather.finish(alloc)
 }
@@ -93,6 +115,7 @@ fn entries_at(
 fn take(
     alloc: Global,
     query: &NormalQuery,
+    predicates: &Predicates,
     row: &Row,
     gain: bool,
     gather: &mut Gather,
@@ -100,11 +123,19 @@ fn take(
     requires formed { IsWellFormed query.now }
     requires wide { length row.now ≡ arms_width query.now.arms }
     ensures { OnOk result (gather.new.counts
-        ≡ with_row (passes query.now.residual) (answer_of query.now.template)
-        gather.old.counts row.now gain) }
+        ≡ with_row (passes
+        (relations predicates.now.items (λ p. p.name) (λ p. p.relation))
+        query.now.residual) (answer_of query.now.template) gather.old.counts row.now gain) }
 {
     if gather.takes() >= Gather::MOST_TAKES {
         return Err(AllocError);
     }
-    gather.take(alloc, &query.residual, &query.template, row, gain)
+    gather.take(
+        alloc,
+        &query.residual,
+        predicates,
+        &query.template,
+        row,
+        gain,
+    )
 }

@@ -15,7 +15,7 @@ use Rattle.ncq_plan.specs.Exprs.{World, expr_width, operators, rows_in}
 use Rattle.ncq_plan.specs.Late.{bare_arm, bare_query, bare_of, equal_behind, range_behind, equals_from, ranges_from, late_of}
 use Rattle.ncq_plan.specs.Plans.{with_equals, with_ranges, plan_of}
 use Rattle.ncq_plan.specs.Products.{arm_width, equal_holds, range_holds, pair_holds, arms_hold, arm_rows}
-use Rattle.ncq_plan.specs.Residuals.{tests_are_within}
+use Rattle.ncq_plan.specs.Residuals.{checks_are_within}
 use Rattle.ncq_plan.specs.Templates.{template_is_within}
 use Rattle.ncq_plan.specs.WellFormed.{slots_fit, paths_are_formed, arms_width, equals_in, ranges_in, ArmsFit, arm_is_formed, IsWellFormed, IsWellFormedExpr}
 use Rattle.ncq_plan.proofs.Lists.{filter_alike, filter-filter, map-map}
@@ -60,7 +60,7 @@ bare_is_well_formed query fits = record {
   ranges = let none = bare_ranges query.arms in omega arith;
   arms = bare_fit 0 query.arms fits.arms;
   paths = bare_paths query.arms ∙ fits.paths;
-  residual = ap (λ w. tests_are_within w query.residual) (bare_width query.arms) ∙ fits.residual;
+  residual = ap (λ w. checks_are_within w query.residual) (bare_width query.arms) ∙ fits.residual;
   template = ap (λ w. template_is_within w query.template) (bare_width query.arms) ∙ fits.template;
 }
 

@@ -17,6 +17,7 @@ use Rattle.ncq_plan.specs.Meets.{pair_agrees, agree}
 use Rattle.ncq_plan.specs.Exprs.{World, rows_in}
 use Rattle.ncq_plan.specs.Plans.{arms_plan, plan_of}
 use Rattle.ncq_plan.specs.Products.{arm_width, equal_holds, range_holds, pair_holds, arm_holds, arms_hold, arm_rows, prod}
+use Rattle.ncq_plan.specs.Relations.{Relations}
 use Rattle.ncq_plan.specs.Residuals.{passes}
 use Rattle.ncq_plan.specs.WellFormed.{ArmFits, ArmsFit, IsWellFormed}
 use Rattle.ncq_plan.proofs.Lists.{map_itself, filter_alike, filter_none, filter-filter, filter-map, filter-flat_map, map-flat_map, map-map, flat_map_each, list_all_each}
@@ -127,8 +128,8 @@ plan_rows query world fits = by query.arms fits.some fits.arms
         ∙ ap (filter (λ row. arms_hold 0 row (arm ∷ arms))) (map_itself (one_of_each (map (arm_rows world) (arm ∷ arms))))
 
 -- the rows of the plan that pass the residual are those of the query
-pub plan_gives_the_rows : (query : NormalQuery) (world : World) → IsWellFormed query
-    → filter (passes query.residual) (rows_in (plan_of query) world) ≡ prod query world
-plan_gives_the_rows query world fits =
-    ap (filter (passes query.residual)) (plan_rows query world fits)
-    ∙ filter-filter (λ row. arms_hold 0 row query.arms) (passes query.residual) (one_of_each (map (arm_rows world) query.arms))
+pub plan_gives_the_rows : (relations : Relations) (query : NormalQuery) (world : World) → IsWellFormed query
+    → filter (passes relations query.residual) (rows_in (plan_of query) world) ≡ prod relations query world
+plan_gives_the_rows relations query world fits =
+    ap (filter (passes relations query.residual)) (plan_rows query world fits)
+    ∙ filter-filter (λ row. arms_hold 0 row query.arms) (passes relations query.residual) (one_of_each (map (arm_rows world) query.arms))

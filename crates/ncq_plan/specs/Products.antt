@@ -11,6 +11,7 @@ use Rattle.ncq_plan.specs.declared.query.EqualTo.{EqualTo}
 use Rattle.ncq_plan.specs.declared.query.Within.{Within}
 use Rattle.ncq_plan.specs.declared.query.NormalQuery.{NormalQuery}
 use Rattle.ncq_base.specs.Intervals.{in_interval}
+use Rattle.ncq_plan.specs.Relations.{Relations}
 use Rattle.ncq_plan.specs.Residuals.{passes}
 use Rattle.ncq_plan.specs.Exprs.{World, scan_rows}
 
@@ -43,14 +44,15 @@ arms_hold offset row [] = true
 arms_hold offset row (arm ∷ arms) =
     arm_holds offset row arm && arms_hold (offset + arm_width arm) row arms
 
--- a row of the query meets all its equalities, ranges, pairs and tests
-abbrev pub meets : NormalQuery → Row → Bool
-meets query row = arms_hold 0 row query.arms && passes query.residual row
+-- a row of the query meets all its equalities, ranges, pairs and checks, with these relations
+abbrev pub meets : Relations → NormalQuery → Row → Bool
+meets relations query row = arms_hold 0 row query.arms && passes relations query.residual row
 
 -- the rows of an arm's shape in the elements of its source
 abbrev pub arm_rows : World → Arm → List Row
 arm_rows world arm = scan_rows arm.shape (world arm.source)
 
 -- all concatenations of one row of each arm that meet the query
-abbrev pub prod : NormalQuery → World → List Row
-prod query world = filter (meets query) (one_of_each (map (arm_rows world) query.arms))
+abbrev pub prod : Relations → NormalQuery → World → List Row
+prod relations query world =
+    filter (meets relations query) (one_of_each (map (arm_rows world) query.arms))

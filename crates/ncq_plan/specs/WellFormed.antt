@@ -13,7 +13,7 @@ use Rattle.ncq_plan.specs.declared.query.Arm.{Arm}
 use Rattle.ncq_plan.specs.declared.query.NormalQuery.{NormalQuery}
 use Rattle.ncq_plan.specs.Exprs.{expr_width, operators}
 use Rattle.ncq_plan.specs.Products.{arm_width}
-use Rattle.ncq_plan.specs.Residuals.{tests_are_within}
+use Rattle.ncq_plan.specs.Residuals.{checks_are_within}
 use Rattle.ncq_plan.specs.Templates.{template_is_within}
 
 -- whether each pair has its left slot in the left width and its right slot in the right width
@@ -90,5 +90,5 @@ pub record IsWellFormed (query : NormalQuery) : Type 0 where
   pub ranges : ranges_in query.arms ≤ 32
   pub arms : ArmsFit 0 query.arms
   pub paths : list_all arm_is_formed query.arms ≡ true
-  pub residual : tests_are_within (arms_width query.arms) query.residual ≡ true
+  pub residual : checks_are_within (arms_width query.arms) query.residual ≡ true
   pub template : template_is_within (arms_width query.arms) query.template ≡ true

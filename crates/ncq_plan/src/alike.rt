@@ -1,23 +1,48 @@
-//! Whether two templates, or two lists of tests, are one.
+//! Whether two templates, or two lists of checks, are one.
 ghost use Rattle.std.specs.Prelude.{◌≡◌, IsTrue, ◌↔◌};
 
-use crate::residual::{Side, Test};
+use crate::residual::{Check, Side, Test};
 use crate::template::{SlotAttribute, SlotTemplate, SlotText};
 use ncq_base::{Bytes, Op, same};
 
-/// Whether the two are the same tests in the same order.
-pub fn same_tests(a: &[Test], b: &[Test]) -> bool
+/// Whether the two are the same checks in the same order.
+pub fn same_checks(a: &[Check], b: &[Check]) -> bool
     ensures { IsTrue result ↔ (a.now ≡ b.now) }
 {
     if a.len() != b.len() {
         return false;
     }
     for i in 0..a.len() {
-        if !same_test(&a[i], &b[i]) {
+        if !same_check(&a[i], &b[i]) {
             return false;
         }
     }
     true
+}
+
+pub(crate) fn same_check(a: &Check, b: &Check) -> bool
+    ensures { IsTrue result ↔ (a.now ≡ b.now) }
+{
+    match (a, b) {
+        (Check::Compare(test), Check::Compare(other)) => same_test(test, other),
+        (
+            Check::Satisfies {
+                slot,
+                predicate,
+                argument,
+            },
+            Check::Satisfies {
+                slot: other_slot,
+                predicate: other_predicate,
+                argument: other_argument,
+            },
+        ) => {
+            slot == other_slot
+                && same_bytes(predicate, other_predicate)
+                && same(argument, other_argument)
+        }
+        _ => false,
+    }
 }
 
 pub(crate) fn same_test(a: &Test, b: &Test) -> bool

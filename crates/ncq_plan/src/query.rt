@@ -1,5 +1,5 @@
 //! Queries in normal form: names are slots, and each condition stands where it can be met first.
-use crate::residual::Tests;
+use crate::residual::Checks;
 use crate::template::SlotTemplate;
 use ncq_base::{Atom, Bytes, Copied, Interval, Sequence};
 use ncq_row::{Pairs, Shape};
@@ -60,7 +60,7 @@ pub type Arms = Sequence<Arm>;
 /// arm; the offset is the sum of the widths of the arms before.
 pub struct NormalQuery {
     pub arms: Arms,
-    pub residual: Tests,
+    pub residual: Checks,
     pub template: SlotTemplate,
 }
 

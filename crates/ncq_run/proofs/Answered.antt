@@ -10,7 +10,7 @@ use Rattle.ncq_script.specs.declared.command.Command.{Command}
 use Rattle.ncq_script.specs.Script.{script, whole_script}
 use Rattle.ncq_script.specs.ScriptReading.{ScriptState, FollowsScript, is_finished, limit_of}
 use Rattle.ncq_script.proofs.CallerLemmas.{next_moves, script_end, whole_script_then}
-use Rattle.ncq_callback.specs.Labels.{Label}
+use Rattle.ncq_callback.specs.Labels.{Handed}
 use Rattle.ncq_engine.specs.Languages.{language_of}
 use Rattle.ncq_engine.specs.Notices.{Language}
 use Rattle.ncq_engine.specs.Output.{after, history_of}
@@ -88,8 +88,8 @@ module _ (language : Language) (known : Script) (count : ℕ) where
   )
 
 -- the steps so far are within twice the work of all that the reader can tell
-pub up_to_work : (bytes : List ℕ) (reader : ScriptState) (engine : EngineState) (begun steps : ℕ) → IsUpTo bytes reader engine begun steps → AreWithinTries (language_of engine.labels) (commands_in reader bytes) begun steps
-up_to_work bytes reader engine begun steps so = front_of_work (language_of engine.labels) (commands_in reader bytes) engine.count begun steps so.work
+pub up_to_work : (bytes : List ℕ) (reader : ScriptState) (engine : EngineState) (begun steps : ℕ) → IsUpTo bytes reader engine begun steps → AreWithinTries (language_of engine.handed) (commands_in reader bytes) begun steps
+up_to_work bytes reader engine begun steps so = front_of_work (language_of engine.handed) (commands_in reader bytes) engine.count begun steps so.work
 
 -- those in front of a longer list
 front_stays : (old new rest : Script) (count : ℕ) → new ≡ old ++ rest → count ≤ length old → (take count new ≡ take count old) × (count ≤ length new)
@@ -109,20 +109,20 @@ module _ {bytes bytes' : List ℕ} {reader reader' : ScriptState} {engine : Engi
   up_to_carried so = record {
     follows = carries.follows;
     few = carries.few;
-    stands = subst (λ (ls : Script). Stands engine (history_of (language_of engine.labels) [] ls)) (sym carries.same) so.stands;
-    work = subst (λ (ls : Script). AreWithinTries (language_of engine.labels) ls begun steps) (sym carries.same) so.work;
+    stands = subst (λ (ls : Script). Stands engine (history_of (language_of engine.handed) [] ls)) (sym carries.same) so.stands;
+    work = subst (λ (ls : Script). AreWithinTries (language_of engine.handed) ls begun steps) (sym carries.same) so.work;
   }
 
   answered_carried : {whose before held : Option (List ℕ)} → IsAnswered whose bytes reader engine before held begun steps → IsAnswered whose bytes' reader' engine before held begun steps
   answered_carried {whose = whose} {before = before} {held = held} so = record {
     up_to = up_to_carried so.up_to;
-    written = subst (λ (ls : Script). Appends before held (shown (language_of engine.labels) whose ls)) (sym carries.same) so.written;
+    written = subst (λ (ls : Script). Appends before held (shown (language_of engine.handed) whose ls)) (sym carries.same) so.written;
   }
 
   tallied_carried : {tally : Tally} → IsTallied bytes reader engine tally begun steps → IsTallied bytes' reader' engine tally begun steps
   tallied_carried {tally = tally} so = record {
     up_to = up_to_carried so.up_to;
-    tallied = subst (λ (ls : Script). tally ≡ tally_of (language_of engine.labels) ls) (sym carries.same) so.tallied;
+    tallied = subst (λ (ls : Script). tally ≡ tally_of (language_of engine.handed) ls) (sym carries.same) so.tallied;
     small = so.small;
   }
 
@@ -165,16 +165,16 @@ module _ (bytes piece : List ℕ) (reader reader' : ScriptState) (engine : Engin
       subst (λ (r : Result T E). IsThrough {T = T} {E = E} (bytes ++ piece) reader' engine begun steps r) (sym is) (record {
         up_to = tt;
         all = tt;
-        work = front_of_work (language_of engine.labels) (commands_in reader' (bytes ++ piece)) engine.count begun steps
-            (subst (λ (ls : Script). AreWithinTries (language_of engine.labels) ls begun steps) (sym (unpushed so.few).0) so.work);
+        work = front_of_work (language_of engine.handed) (commands_in reader' (bytes ++ piece)) engine.count begun steps
+            (subst (λ (ls : Script). AreWithinTries (language_of engine.handed) ls begun steps) (sym (unpushed so.few).0) so.work);
       })
 
   pub unpushed_writes : {begun steps : ℕ} {whose before held : Option (List ℕ)} → IsAnswered whose bytes reader engine before held begun steps
-      → AppendsPrefix before held (shown (language_of engine.labels) whose (commands_in reader' (bytes ++ piece)))
+      → AppendsPrefix before held (shown (language_of engine.handed) whose (commands_in reader' (bytes ++ piece)))
   unpushed_writes {whose = whose} {before = before} {held = held} so =
       let front = unpushed so.up_to.few in
-      front_of_shown (language_of engine.labels) (commands_in reader' (bytes ++ piece)) engine.count whose before held front.1
-      (subst (λ (ls : Script). Appends before held (shown (language_of engine.labels) whose ls)) (sym front.0) so.written)
+      front_of_shown (language_of engine.handed) (commands_in reader' (bytes ++ piece)) engine.count whose before held front.1
+      (subst (λ (ls : Script). Appends before held (shown (language_of engine.handed) whose ls)) (sym front.0) so.written)
 
 -- the end was marked
 module _ (bytes : List ℕ) (reader reader' : ScriptState) (engine : EngineState) (opened : is_finished reader ≡ false) (closed : is_finished reader' ≡ true) (limit : limit_of reader' ≡ limit_of reader)
@@ -222,7 +222,7 @@ module _ (bytes : List ℕ) (reader reader' : ScriptState) (limit : limit_of rea
         record {
           up_to = now;
           all = omega (arith, all, ap length same_known);
-          work = front_of_work (language_of engine.labels) (commands_in reader' bytes) engine.count begun steps now.work;
+          work = front_of_work (language_of engine.handed) (commands_in reader' bytes) engine.count begun steps now.work;
         }
 
     pub tallied_none : (tally : Tally) → length (commands_in reader bytes) ≡ engine.count → FollowsScript reader' bytes engine.count → IsTallied bytes reader engine tally begun steps → IsTallied bytes reader' engine tally begun steps
@@ -233,18 +233,18 @@ module _ (bytes : List ℕ) (reader reader' : ScriptState) (limit : limit_of rea
     not_through error so = record {
       up_to = tt;
       all = tt;
-      work = subst (λ (ls : Script). AreWithinTries (language_of engine.labels) ls begun steps) (sym same_known)
-          (front_of_work (language_of engine.labels) (commands_in reader bytes) engine.count begun steps so.work);
+      work = subst (λ (ls : Script). AreWithinTries (language_of engine.handed) ls begun steps) (sym same_known)
+          (front_of_work (language_of engine.handed) (commands_in reader bytes) engine.count begun steps so.work);
     }
 
     module _ (whose before held : Option (List ℕ)) (so : IsAnswered whose bytes reader engine before held begun steps) where
-      pub writes_all : length (commands_in reader bytes) ≡ engine.count → Appends before held (shown (language_of engine.labels) whose (commands_in reader' bytes))
-      writes_all all = subst (λ (ls : Script). Appends before held (shown (language_of engine.labels) whose ls))
+      pub writes_all : length (commands_in reader bytes) ≡ engine.count → Appends before held (shown (language_of engine.handed) whose (commands_in reader' bytes))
+      writes_all all = subst (λ (ls : Script). Appends before held (shown (language_of engine.handed) whose ls))
           (take_all engine.count (commands_in reader bytes) (omega (arith, all)) ∙ sym same_known) so.written
 
-      pub writes_front : AppendsPrefix before held (shown (language_of engine.labels) whose (commands_in reader' bytes))
-      writes_front = subst (λ (ls : Script). AppendsPrefix before held (shown (language_of engine.labels) whose ls)) (sym same_known)
-          (front_of_shown (language_of engine.labels) (commands_in reader bytes) engine.count whose before held so.up_to.few so.written)
+      pub writes_front : AppendsPrefix before held (shown (language_of engine.handed) whose (commands_in reader' bytes))
+      writes_front = subst (λ (ls : Script). AppendsPrefix before held (shown (language_of engine.handed) whose ls)) (sym same_known)
+          (front_of_shown (language_of engine.handed) (commands_in reader bytes) engine.count whose before held so.up_to.few so.written)
 
   -- there is one, and the engine is asked it
   module _ (engine engine' : EngineState) (command : Command) (steps steps' : ℕ) (at : slice_get (commands_in reader bytes) engine.count ≡ Some command) where
@@ -254,25 +254,25 @@ module _ (bytes : List ℕ) (reader reader' : ScriptState) (limit : limit_of rea
       up_to = tt;
       all = tt;
       work =
-          subst (λ (ls : List Label). AreWithinTries (language_of ls) (commands_in reader' bytes) begun steps') (sym asks.labels)
-          (subst (λ (ls : Script). AreWithinTries (language_of engine.labels) ls begun steps') (sym same_known)
-          (tried_work (commands_in reader bytes) engine.count command at (language_of engine.labels) begun steps steps' so.work (asks.work _ so.stands)));
+          subst (λ (ls : Handed). AreWithinTries (language_of ls) (commands_in reader' bytes) begun steps') (sym asks.handed)
+          (subst (λ (ls : Script). AreWithinTries (language_of engine.handed) ls begun steps') (sym same_known)
+          (tried_work (commands_in reader bytes) engine.count command at (language_of engine.handed) begun steps steps' so.work (asks.work _ so.stands)));
     }
 
-    module _ (whose before held : Option (List ℕ)) {begun : ℕ} (so : IsAnswered whose bytes reader engine before held begun steps) (labels : engine'.labels ≡ engine.labels) where
+    module _ (whose before held : Option (List ℕ)) {begun : ℕ} (so : IsAnswered whose bytes reader engine before held begun steps) (handed : engine'.handed ≡ engine.handed) where
       stopped : (T : Type 0) (held' : Option (List ℕ)) (stop : Stop)
-          → Writes {T = T} held held' (shown_answer (language_of engine.labels) whose (history_of (language_of engine.labels) [] (answered_in reader engine bytes)) (engine.count + 1) command) (Err stop)
-          → Writes {T = T} before held' (shown (language_of engine.labels) whose (commands_in reader bytes)) (Err stop)
-      stopped T held' NoMemory now = stopped_front before held held' _ _ _ _ (all_shown (commands_in reader bytes) engine.count command at (language_of engine.labels) whose) so.written now
-      stopped T held' WriteFault now = stopped_later before held held' _ _ _ _ (all_shown (commands_in reader bytes) engine.count command at (language_of engine.labels) whose) so.written now
+          → Writes {T = T} held held' (shown_answer (language_of engine.handed) whose (history_of (language_of engine.handed) [] (answered_in reader engine bytes)) (engine.count + 1) command) (Err stop)
+          → Writes {T = T} before held' (shown (language_of engine.handed) whose (commands_in reader bytes)) (Err stop)
+      stopped T held' NoMemory now = stopped_front before held held' _ _ _ _ (all_shown (commands_in reader bytes) engine.count command at (language_of engine.handed) whose) so.written now
+      stopped T held' WriteFault now = stopped_later before held held' _ _ _ _ (all_shown (commands_in reader bytes) engine.count command at (language_of engine.handed) whose) so.written now
 
       pub writes_stopped : {T : Type 0} (held' : Option (List ℕ)) (stop : Stop) (result : Result T Stop) → result ≡ Err stop
-          → Writes {T = T} held held' (shown_answer (language_of engine.labels) whose (history_of (language_of engine.labels) [] (answered_in reader engine bytes)) (engine.count + 1) command) (Err stop)
-          → Writes {T = T} before held' (shown (language_of engine'.labels) whose (commands_in reader' bytes)) result
+          → Writes {T = T} held held' (shown_answer (language_of engine.handed) whose (history_of (language_of engine.handed) [] (answered_in reader engine bytes)) (engine.count + 1) command) (Err stop)
+          → Writes {T = T} before held' (shown (language_of engine'.handed) whose (commands_in reader' bytes)) result
       writes_stopped {T = T} held' stop result is now =
-          subst (λ (r : Result T Stop). Writes {T = T} before held' (shown (language_of engine'.labels) whose (commands_in reader' bytes)) r) (sym is)
-          (subst (λ (ls : List Label). Writes {T = T} before held' (shown (language_of ls) whose (commands_in reader' bytes)) (Err stop)) (sym labels)
-          (subst (λ (ls : Script). Writes {T = T} before held' (shown (language_of engine.labels) whose ls) (Err stop)) (sym same_known) (stopped T held' stop now)))
+          subst (λ (r : Result T Stop). Writes {T = T} before held' (shown (language_of engine'.handed) whose (commands_in reader' bytes)) r) (sym is)
+          (subst (λ (ls : Handed). Writes {T = T} before held' (shown (language_of ls) whose (commands_in reader' bytes)) (Err stop)) (sym handed)
+          (subst (λ (ls : Script). Writes {T = T} before held' (shown (language_of engine.handed) whose ls) (Err stop)) (sym same_known) (stopped T held' stop now)))
 
     -- it answered
     module _ {T E : Type 0} (done : T) (asks : Asks {T = T} {E = E} engine command steps engine' steps' (Ok done)) (follows : FollowsScript reader' bytes (engine.count + 1)) where
@@ -283,40 +283,40 @@ module _ (bytes : List ℕ) (reader reader' : ScriptState) (limit : limit_of rea
       up_to_next {begun = begun} so =
           let within = slice_get_within (commands_in reader bytes) engine.count command at in
           let known = commands_in reader bytes in
-          let history : history_of (language_of engine'.labels) [] (answered_in reader' engine' bytes) ≡ history_of (language_of engine.labels) [] (take (engine.count + 1) known) =
-          λ i. history_of (language_of (asks.labels i)) [] (more i) in
+          let history : history_of (language_of engine'.handed) [] (answered_in reader' engine' bytes) ≡ history_of (language_of engine.handed) [] (take (engine.count + 1) known) =
+          λ i. history_of (language_of (asks.handed i)) [] (more i) in
           record {
             follows = subst (FollowsScript reader' bytes) (sym asks.counted) follows;
             few = omega (arith, within, asks.counted, ap length same_known);
-            stands = subst (Stands engine') (sym (history ∙ front_history known engine.count command at (language_of engine.labels))) (asks.stands _ so.stands);
+            stands = subst (Stands engine') (sym (history ∙ front_history known engine.count command at (language_of engine.handed))) (asks.stands _ so.stands);
             work =
-                subst (λ (ls : List Label). AreWithinTries (language_of ls) (answered_in reader' engine' bytes) begun steps') (sym asks.labels)
-                (subst (λ (ls : Script). AreWithinTries (language_of engine.labels) ls begun steps') (sym more)
-                (front_work known engine.count command at (language_of engine.labels) begun steps steps' so.work (asks.work _ so.stands)));
+                subst (λ (ls : Handed). AreWithinTries (language_of ls) (answered_in reader' engine' bytes) begun steps') (sym asks.handed)
+                (subst (λ (ls : Script). AreWithinTries (language_of engine.handed) ls begun steps') (sym more)
+                (front_work known engine.count command at (language_of engine.handed) begun steps steps' so.work (asks.work _ so.stands)));
           }
 
       pub answered_next : {begun : ℕ} {whose before held held' : Option (List ℕ)} → (so : IsAnswered whose bytes reader engine before held begun steps)
-          → Appends held held' (shown_answer (language_of engine.labels) whose (history_of (language_of engine.labels) [] (answered_in reader engine bytes)) (engine.count + 1) command)
+          → Appends held held' (shown_answer (language_of engine.handed) whose (history_of (language_of engine.handed) [] (answered_in reader engine bytes)) (engine.count + 1) command)
           → IsAnswered whose bytes reader' engine' before held' begun steps'
       answered_next {whose = whose} {before = before} {held = held} {held' = held'} so now =
-          let all : shown (language_of engine'.labels) whose (answered_in reader' engine' bytes) ≡ shown (language_of engine.labels) whose (take (engine.count + 1) (commands_in reader bytes)) =
-          λ i. shown (language_of (asks.labels i)) whose (more i) in
+          let all : shown (language_of engine'.handed) whose (answered_in reader' engine' bytes) ≡ shown (language_of engine.handed) whose (take (engine.count + 1) (commands_in reader bytes)) =
+          λ i. shown (language_of (asks.handed i)) whose (more i) in
           record {
             up_to = up_to_next so.up_to;
-            written = subst (Appends before held') (sym (all ∙ front_shown (commands_in reader bytes) engine.count command at (language_of engine.labels) whose)) (Appends-trans before held held' _ _ so.written now);
+            written = subst (Appends before held') (sym (all ∙ front_shown (commands_in reader bytes) engine.count command at (language_of engine.handed) whose)) (Appends-trans before held held' _ _ so.written now);
           }
 
       pub tallied_next : {begun : ℕ} {tally tally' : Tally} → (so : IsTallied bytes reader engine tally begun steps)
-          → tally' ≡ with_command (language_of engine.labels) tally (history_of (language_of engine.labels) [] (answered_in reader engine bytes)) (engine.count + 1) command
+          → tally' ≡ with_command (language_of engine.handed) tally (history_of (language_of engine.handed) [] (answered_in reader engine bytes)) (engine.count + 1) command
           → IsSmall tally' engine'.count → IsTallied bytes reader' engine' tally' begun steps'
       tallied_next {tally = tally} {tally' = tally'} so now small =
-          let all : tally_of (language_of engine'.labels) (answered_in reader' engine' bytes) ≡ tally_of (language_of engine.labels) (take (engine.count + 1) (commands_in reader bytes)) =
-          λ i. tally_of (language_of (asks.labels i)) (more i) in
+          let all : tally_of (language_of engine'.handed) (answered_in reader' engine' bytes) ≡ tally_of (language_of engine.handed) (take (engine.count + 1) (commands_in reader bytes)) =
+          λ i. tally_of (language_of (asks.handed i)) (more i) in
           record {
             up_to = up_to_next so.up_to;
             tallied =
-                now ∙ ap (λ (t : Tally). with_command (language_of engine.labels) t (history_of (language_of engine.labels) [] (answered_in reader engine bytes)) (engine.count + 1) command) so.tallied
-                ∙ sym (all ∙ front_tally (commands_in reader bytes) engine.count command at (language_of engine.labels));
+                now ∙ ap (λ (t : Tally). with_command (language_of engine.handed) t (history_of (language_of engine.handed) [] (answered_in reader engine bytes)) (engine.count + 1) command) so.tallied
+                ∙ sym (all ∙ front_tally (commands_in reader bytes) engine.count command at (language_of engine.handed));
             small = small;
           }
 
@@ -325,10 +325,10 @@ pub record HasAdvanced (reader : ScriptState) (engine : EngineState) (steps : �
   pub up_to : (bytes : List ℕ) (begun : ℕ) → IsUpTo bytes reader engine begun steps → IsUpTo bytes reader' engine' begun steps'
   pub limit : limit_of reader' ≡ limit_of reader
   pub finished : is_finished reader' ≡ is_finished reader
-  pub labels : engine'.labels ≡ engine.labels
+  pub handed : engine'.handed ≡ engine.handed
 
 pub advanced_none : (reader : ScriptState) (engine : EngineState) (steps : ℕ) → HasAdvanced reader engine steps reader engine steps
-advanced_none reader engine steps = record { up_to = λ bytes begun so. so; limit = refl; finished = refl; labels = refl }
+advanced_none reader engine steps = record { up_to = λ bytes begun so. so; limit = refl; finished = refl; handed = refl }
 
 module _ {first : ScriptState} {begins : EngineState} {earlier : ℕ} {reader : ScriptState} {engine : EngineState} {steps : ℕ} (was : HasAdvanced first begins earlier reader engine steps)
     (reader' : ScriptState) (limit : limit_of reader' ≡ limit_of reader) (finished : is_finished reader' ≡ is_finished reader) where
@@ -342,7 +342,7 @@ module _ {first : ScriptState} {begins : EngineState} {earlier : ℕ} {reader : 
           up_to_next bytes reader reader' limit finished engine engine' command steps steps' now.0 done asks now.1 up_to;
       limit = limit ∙ was.limit;
       finished = finished ∙ was.finished;
-      labels = asks.labels ∙ was.labels;
+      handed = asks.handed ∙ was.handed;
     }
 
     pub advances_tried : {T E T' E' : Type 0} (error : E) (result : Result T' E') (error' : E') → result ≡ Err error' → Asks {T = T} {E = E} engine command steps engine' steps' (Err error) → Advances first begins earlier reader' engine' steps' result
@@ -352,7 +352,7 @@ module _ {first : ScriptState} {begins : EngineState} {earlier : ℕ} {reader : 
           tried_through bytes reader reader' limit finished engine engine' command steps steps' (next bytes engine.count up_to.follows).0 error error' asks up_to;
       limit = limit ∙ was.limit;
       finished = finished ∙ was.finished;
-      labels = asks.labels ∙ was.labels;
+      handed = asks.handed ∙ was.handed;
     })
 
   pub advances_all : {T E : Type 0} (done : T) → ((bytes : List ℕ) (count : ℕ) → FollowsScript reader bytes count → (length (commands_in reader bytes) ≡ count) × FollowsScript reader' bytes count)
@@ -364,7 +364,7 @@ module _ {first : ScriptState} {begins : EngineState} {earlier : ℕ} {reader : 
         all_through bytes reader reader' limit finished engine begun steps done now.0 now.1 up_to;
     limit = limit ∙ was.limit;
     finished = finished ∙ was.finished;
-    labels = was.labels;
+    handed = was.handed;
   }
 
   pub advances_not : {T E : Type 0} (error : E) → Advances {T = T} {E = E} first begins earlier reader' engine steps (Err error)
@@ -372,5 +372,5 @@ module _ {first : ScriptState} {begins : EngineState} {earlier : ℕ} {reader : 
     through = λ bytes begun so. not_through bytes reader reader' limit finished engine begun steps error (was.up_to bytes begun so);
     limit = limit ∙ was.limit;
     finished = finished ∙ was.finished;
-    labels = was.labels;
+    handed = was.handed;
   }

@@ -34,14 +34,14 @@ module _ (language : Language) (history : History) (command : Command) where
 -- the answer is this, and the engine stands for what is after it
 abbrev pub Answers : EngineState → Command → EngineState → List ℕ → Type 0
 Answers old command new text = (history : History) → Stands old history
-    → (text ≡ output (language_of old.labels) history (old.count + 1) command) × Stands new (after (language_of old.labels) history command)
+    → (text ≡ output (language_of old.handed) history (old.count + 1) command) × Stands new (after (language_of old.handed) history command)
 
 pub answers_accepted : (old : EngineState) (command : Command) (out : List ℕ) (new : EngineState) (text : List ℕ) → out ≡ []
-    → OfEach old (λ history. first_refusal (language_of old.labels) history command ≡ None)
+    → OfEach old (λ history. first_refusal (language_of old.handed) history command ≡ None)
     → OfEach old (λ history. Stands new (command ∷ history))
-    → OfEach old (λ history. text ≡ out ++ accepted_text (language_of old.labels) history (old.count + 1) command) → Answers old command new text
+    → OfEach old (λ history. text ≡ out ++ accepted_text (language_of old.handed) history (old.count + 1) command) → Answers old command new text
 answers_accepted old command out new text empty accepted joined answer history stands =
-    let language = language_of old.labels in
+    let language = language_of old.handed in
     let none = accepted history stands in
     let texts : text ≡ accepted_text language history (old.count + 1) command =
     answer history stands ∙ ap (λ (xs : List ℕ). xs ++ accepted_text language history (old.count + 1) command) empty in (
@@ -50,11 +50,11 @@ answers_accepted old command out new text empty accepted joined answer history s
     )
 
 pub answers_refused : (old : EngineState) (command : Command) (out : List ℕ) (why : Refusal) (new : EngineState) (out' text : List ℕ) (number : ℕ) → out ≡ []
-    → OfEach old (λ history. first_refusal (language_of old.labels) history command ≡ Some why)
+    → OfEach old (λ history. first_refusal (language_of old.handed) history command ≡ Some why)
     → OfEach old (Stands new) → out' ≡ out → new.count ≡ old.count + 1
     → number ≡ new.count → text ≡ out' ++ refused_text number why → Answers old command new text
 answers_refused old command out why new out' text number empty refused stays unwritten counted is written history stands =
-    let language = language_of old.labels in
+    let language = language_of old.handed in
     let some = refused history stands in
     let same : number ≡ old.count + 1 = is ∙ counted in
     let texts : text ≡ refused_text (old.count + 1) why =
@@ -65,30 +65,30 @@ answers_refused old command out why new out' text number empty refused stays unw
 
 -- where the notices stand, if the command was accepted
 pub spans_accepted : (old : EngineState) (command : Command) (out : List ℕ) (new : EngineState) → out ≡ []
-    → OfEach old (λ history. first_refusal (language_of old.labels) history command ≡ None)
+    → OfEach old (λ history. first_refusal (language_of old.handed) history command ≡ None)
     → OfEach old (λ history. AreSpans old history command out new.spans)
-    → OfEach old (λ history. new.spans ≡ answer_spans (language_of old.labels) history (old.count + 1) command)
+    → OfEach old (λ history. new.spans ≡ answer_spans (language_of old.handed) history (old.count + 1) command)
 spans_accepted old command out new empty accepted told history stands =
-    let language = language_of old.labels in
+    let language = language_of old.handed in
     let none : length out + length (ok_text (old.count + 1)) ≡ length (ok_text (old.count + 1)) = omega (arith, ap length empty) in
     told history stands ∙ ap (spans language history command) none
     ∙ sym (ap (λ o. unless_refused [] o (spans language history command (length (ok_text (old.count + 1))))) (accepted history stands))
 
 -- and if it was refused
 pub spans_refused : (old : EngineState) (command : Command) (why : Refusal) (new : EngineState) → new.spans ≡ []
-    → OfEach old (λ history. first_refusal (language_of old.labels) history command ≡ Some why)
-    → OfEach old (λ history. new.spans ≡ answer_spans (language_of old.labels) history (old.count + 1) command)
+    → OfEach old (λ history. first_refusal (language_of old.handed) history command ≡ Some why)
+    → OfEach old (λ history. new.spans ≡ answer_spans (language_of old.handed) history (old.count + 1) command)
 spans_refused old command why new none refused history stands =
-    none ∙ sym (ap (λ o. unless_refused [] o (spans (language_of old.labels) history command (length (ok_text (old.count + 1))))) (refused history stands))
+    none ∙ sym (ap (λ o. unless_refused [] o (spans (language_of old.handed) history command (length (ok_text (old.count + 1))))) (refused history stands))
 
 -- it did not answer
 pub asks_failed : {T E : Type 0} (engine : EngineState) (command : Command) (steps : ℕ) (engine' : EngineState) (steps' : ℕ) (result : Result T E) (error : E) → result ≡ Err error
-    → engine'.labels ≡ engine.labels → IsWithinTries engine command steps steps' → Asks {T = T} {E = E} engine command steps engine' steps' result
-asks_failed {T = T} {E = E} engine command steps engine' steps' result error is labels work =
-    subst (λ (r : Result T E). Asks {T = T} {E = E} engine command steps engine' steps' r) (sym is) (record { stands = tt; counted = tt; labels = labels; work = work })
+    → engine'.handed ≡ engine.handed → IsWithinTries engine command steps steps' → Asks {T = T} {E = E} engine command steps engine' steps' result
+asks_failed {T = T} {E = E} engine command steps engine' steps' result error is handed work =
+    subst (λ (r : Result T E). Asks {T = T} {E = E} engine command steps engine' steps' r) (sym is) (record { stands = tt; counted = tt; handed = handed; work = work })
 
 -- it answered; what came after may have failed
 pub asks_after : {T E T' E' : Type 0} {engine : EngineState} {command : Command} {steps : ℕ} {engine' : EngineState} {steps' : ℕ} (done : T) → Asks {T = T} {E = E} engine command steps engine' steps' (Ok done)
     → (later : Result T' E') → Asks {T = T'} {E = E'} engine command steps engine' steps' later
-asks_after done asks (Ok x) = record { stands = asks.stands; counted = asks.counted; labels = asks.labels; work = asks.work }
-asks_after done asks (Err e) = record { stands = tt; counted = tt; labels = asks.labels; work = asks.work }
+asks_after done asks (Ok x) = record { stands = asks.stands; counted = asks.counted; handed = asks.handed; work = asks.work }
+asks_after done asks (Err e) = record { stands = tt; counted = tt; handed = asks.handed; work = asks.work }

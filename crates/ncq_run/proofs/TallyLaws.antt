@@ -2,7 +2,7 @@
 use Rattle.std.proofs.Common.{◌≡◌, ◌+◌, ◌*◌, ◌≤◌, ◌<◌, ◌^◌, ◌++◌, ◌∷◌, ℕ, Bool, zero, suc, ◌-◌, List, [], length, take, ap, sym, ◌∙◌, subst, arith, append_assoc}
 use Rattle.std.specs.Prelude.{None, Some, Option, if◌then◌else◌, true, false}
 use Rattle.std.specs.Option.{is_none}
-use Rattle.ncq_callback.specs.Labels.{Label}
+use Rattle.ncq_callback.specs.Labels.{Handed}
 use Rattle.std.proofs.lemmas.List.{append-nil, take_all}
 use Rattle.ncq_report.specs.Loads.{load_text, part_text, parts_text}
 use Rattle.ncq_report.specs.declared.tally.Tally.{Tally}
@@ -93,26 +93,26 @@ load_work language limit n parts begun steps few work =
     subst (λ (bs : List ℕ). AreWithinTries language (script limit bs) begun steps) (sym front.1 ∙ ap (parts_text n) whole) (work front.0)
 
 -- the steps so far are within twice the work of the load, in the language that it began with
-pub part_work : (labels : List Label) (limit n parts : ℕ) (bytes : List ℕ) (reader : ScriptState) (engine : EngineState) (begun steps : ℕ) → parts ≤ 2 * n + 4 → bytes ≡ parts_text n parts → engine.labels ≡ labels
-    → limit_of reader ≡ limit → is_finished reader ≡ false → AreWithinTries (language_of engine.labels) (commands_in reader bytes) begun steps → AreWithinTries (language_of labels) (script limit (load_text n)) begun steps
-part_work labels limit n parts bytes reader engine begun steps few is same limited opened work =
-    load_work (language_of labels) limit n parts begun steps few (λ more. all_work (language_of labels) limit (parts_text n parts) begun more steps
-    (subst (λ (ls : List Label). AreWithinTries (language_of ls) (whole_script limit (parts_text n parts)) begun steps) same
-    (subst (λ (cs : Script). AreWithinTries (language_of engine.labels) cs begun steps)
+pub part_work : (handed : Handed) (limit n parts : ℕ) (bytes : List ℕ) (reader : ScriptState) (engine : EngineState) (begun steps : ℕ) → parts ≤ 2 * n + 4 → bytes ≡ parts_text n parts → engine.handed ≡ handed
+    → limit_of reader ≡ limit → is_finished reader ≡ false → AreWithinTries (language_of engine.handed) (commands_in reader bytes) begun steps → AreWithinTries (language_of handed) (script limit (load_text n)) begun steps
+part_work handed limit n parts bytes reader engine begun steps few is same limited opened work =
+    load_work (language_of handed) limit n parts begun steps few (λ more. all_work (language_of handed) limit (parts_text n parts) begun more steps
+    (subst (λ (ls : Handed). AreWithinTries (language_of ls) (whole_script limit (parts_text n parts)) begun steps) same
+    (subst (λ (cs : Script). AreWithinTries (language_of engine.handed) cs begun steps)
     (known_open limit (limit_of reader) (is_finished reader) bytes limited opened ∙ ap (whole_script limit) is) work)))
 
 -- the whole load was pushed, and its end was marked
-module _ (labels : List Label) (limit n : ℕ) (bytes : List ℕ) (reader : ScriptState) (engine : EngineState) (begun steps : ℕ) (is : bytes ≡ load_text n) (same : engine.labels ≡ labels) (limited : limit_of reader ≡ limit)
+module _ (handed : Handed) (limit n : ℕ) (bytes : List ℕ) (reader : ScriptState) (engine : EngineState) (begun steps : ℕ) (is : bytes ≡ load_text n) (same : engine.handed ≡ handed) (limited : limit_of reader ≡ limit)
     (closed : is_finished reader ≡ true) where
   load_known : commands_in reader bytes ≡ script limit (load_text n)
   load_known = known_closed limit (limit_of reader) (is_finished reader) bytes limited closed ∙ ap (script limit) is
 
-  pub load_worked : AreWithinTries (language_of engine.labels) (commands_in reader bytes) begun steps → AreWithinTries (language_of labels) (script limit (load_text n)) begun steps
-  load_worked work = subst (λ (ls : List Label). AreWithinTries (language_of ls) (script limit (load_text n)) begun steps) same
-      (subst (λ (cs : Script). AreWithinTries (language_of engine.labels) cs begun steps) load_known work)
+  pub load_worked : AreWithinTries (language_of engine.handed) (commands_in reader bytes) begun steps → AreWithinTries (language_of handed) (script limit (load_text n)) begun steps
+  load_worked work = subst (λ (ls : Handed). AreWithinTries (language_of ls) (script limit (load_text n)) begun steps) same
+      (subst (λ (cs : Script). AreWithinTries (language_of engine.handed) cs begun steps) load_known work)
 
   pub load_tallied : (tally : Tally) → IsTallied bytes reader engine tally begun steps → engine.count ≡ length (commands_in reader bytes)
-      → (tally ≡ tally_of (language_of labels) (script limit (load_text n))) × StandsForThe (language_of labels) (script limit (load_text n)) engine
+      → (tally ≡ tally_of (language_of handed) (script limit (load_text n))) × StandsForThe (language_of handed) (script limit (load_text n)) engine
   load_tallied tally so all =
       let answered : answered_in reader engine bytes ≡ script limit (load_text n) = take_all engine.count (commands_in reader bytes) (omega (arith, all)) ∙ load_known in (
         so.tallied ∙ (λ i. tally_of (language_of (same i)) (answered i)),
@@ -131,10 +131,10 @@ loaded_none reader engine tally begun follows fresh nothing =
       up_to = record {
         follows = subst (FollowsScript reader []) (sym none) follows;
         few = omega (arith, none);
-        stands = subst (λ (ls : Script). Stands engine (history_of (language_of engine.labels) [] ls)) (sym empty) fresh.0;
+        stands = subst (λ (ls : Script). Stands engine (history_of (language_of engine.handed) [] ls)) (sym empty) fresh.0;
         work = λ bound works. omega arith;
       };
-      tallied = nothing ∙ sym (ap (tally_of (language_of engine.labels)) empty);
+      tallied = nothing ∙ sym (ap (tally_of (language_of engine.handed)) empty);
       small = subst (λ (t : Tally). IsSmall t engine.count) (sym nothing) (record { commands = sym none; refused = omega arith; notices = omega arith; bytes = omega arith });
     }
 

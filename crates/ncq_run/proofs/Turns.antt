@@ -11,7 +11,7 @@ use Rattle.ncq_script.specs.declared.command.Command.{Command}
 use Rattle.ncq_script.specs.Script.{script, whole_script}
 use Rattle.ncq_script.specs.ScriptReading.{ScriptState, FollowsScript, is_finished, limit_of}
 use Rattle.ncq_script.proofs.CallerLemmas.{whole_script-nil}
-use Rattle.ncq_callback.specs.Labels.{Label}
+use Rattle.ncq_callback.specs.Labels.{Handed}
 use Rattle.ncq_engine.specs.Languages.{language_of}
 use Rattle.ncq_engine.specs.Notices.{Language}
 use Rattle.ncq_engine.specs.Output.{history_of}
@@ -66,26 +66,26 @@ record Said {T : Type 0} (language : Language) (whose : Option (List ℕ)) (comm
   written : Writes before held (shown language whose commands) result
   work : AreWithinTries language commands begun steps
 
-module _ {T : Type 0} (labels : List Label) (whose : Option (List ℕ)) (bytes : List ℕ) (reader : ScriptState) (engine : EngineState) (before held : Option (List ℕ)) (begun steps : ℕ) (same : engine.labels ≡ labels) where
-  stands_said : (result : Result T Stop) → IsThrough bytes reader engine begun steps result → OnOk result (StandsForThe (language_of labels) (commands_in reader bytes) engine)
+module _ {T : Type 0} (handed : Handed) (whose : Option (List ℕ)) (bytes : List ℕ) (reader : ScriptState) (engine : EngineState) (before held : Option (List ℕ)) (begun steps : ℕ) (same : engine.handed ≡ handed) where
+  stands_said : (result : Result T Stop) → IsThrough bytes reader engine begun steps result → OnOk result (StandsForThe (language_of handed) (commands_in reader bytes) engine)
   stands_said (Ok done) through =
       let all : answered_in reader engine bytes ≡ commands_in reader bytes = take_all engine.count (commands_in reader bytes) (omega (arith, through.all)) in
       (subst (Stands engine) (λ i. history_of (language_of (same i)) [] (all i)) through.up_to.stands, through.all)
   stands_said (Err error) through = tt
 
   said : (commands : Script) → commands_in reader bytes ≡ commands → (result : Result T Stop) → IsThrough bytes reader engine begun steps result
-      → Writes before held (shown (language_of engine.labels) whose (commands_in reader bytes)) result → Said (language_of labels) whose commands engine before held begun steps result
+      → Writes before held (shown (language_of engine.handed) whose (commands_in reader bytes)) result → Said (language_of handed) whose commands engine before held begun steps result
   said commands is result through written =
-      subst (λ (cs : Script). Said (language_of labels) whose cs engine before held begun steps result) is (record {
+      subst (λ (cs : Script). Said (language_of handed) whose cs engine before held begun steps result) is (record {
         stands = stands_said result through;
-        written = subst (λ (ls : List Label). Writes before held (shown (language_of ls) whose (commands_in reader bytes)) result) same written;
-        work = subst (λ (ls : List Label). AreWithinTries (language_of ls) (commands_in reader bytes) begun steps) same through.work;
+        written = subst (λ (ls : Handed). Writes before held (shown (language_of ls) whose (commands_in reader bytes)) result) same written;
+        work = subst (λ (ls : Handed). AreWithinTries (language_of ls) (commands_in reader bytes) begun steps) same through.work;
       })
 
 module _ (whose : Option (List ℕ)) (reader : ScriptState) (engine : EngineState) (taken most : ℕ) (start : Outside) (left held : Option (List ℕ)) (given rf wf begun steps : ℕ)
     (so : SoFar whose reader engine taken start (outside left held given rf wf) begun steps) (opened : is_finished reader ≡ false) (within : taken ≤ most) where
   abbrev language : Language
-  language = language_of engine.labels
+  language = language_of engine.handed
 
   abbrev limit : ℕ
   limit = limit_of reader
@@ -117,11 +117,11 @@ module _ (whose : Option (List ℕ)) (reader : ScriptState) (engine : EngineStat
     }
 
   -- the call that answers what was read left this
-  module _ (reader' : ScriptState) (engine' : EngineState) (left' held' : Option (List ℕ)) (given' rf' wf' steps' : ℕ) (labels : engine'.labels ≡ engine.labels) (limit' : limit_of reader' ≡ limit)
+  module _ (reader' : ScriptState) (engine' : EngineState) (left' held' : Option (List ℕ)) (given' rf' wf' steps' : ℕ) (handed : engine'.handed ≡ engine.handed) (limit' : limit_of reader' ≡ limit)
       (buffer : List ℕ) (n : ℕ) (read : Consumes left left' (take n buffer)) {T : Type 0} where
     -- at the end of the source
     module _ (none : n ≡ 0) (end : IsAtEnd left') (closed : is_finished reader' ≡ true) (result : Result T Stop) (through : IsThrough so.bytes reader' engine' begun steps' result)
-        (writes : Writes start.held held' (shown (language_of engine'.labels) whose (commands_in reader' so.bytes)) result) where
+        (writes : Writes start.held held' (shown (language_of engine'.handed) whose (commands_in reader' so.bytes)) result) where
       all_read : Consumes start.left left' so.bytes
       all_read =
           let e : so.bytes ++ take n buffer ≡ so.bytes = ap (λ (k : ℕ). so.bytes ++ take k buffer) none ∙ append-nil so.bytes in
@@ -131,7 +131,7 @@ module _ (whose : Option (List ℕ)) (reader : ScriptState) (engine : EngineStat
       at_end P p = Consumes-whole start.left left' so.bytes P all_read end p
 
       end_said : Said language whose (script limit so.bytes) engine' start.held held' begun steps' result
-      end_said = said engine.labels whose so.bytes reader' engine' start.held held' begun steps' labels (script limit so.bytes)
+      end_said = said engine.handed whose so.bytes reader' engine' start.held held' begun steps' handed (script limit so.bytes)
           (known_closed limit (limit_of reader') (is_finished reader') so.bytes limit' closed) result through writes
 
       end_work : IfSome start.left (λ bytes. AreWithinTries language (script limit bytes) begun steps')
@@ -172,7 +172,7 @@ module _ (whose : Option (List ℕ)) (reader : ScriptState) (engine : EngineStat
 
     -- behind a piece
     module _ (inside : ℕ) (le : inside ≤ n) (piece : List ℕ) (front : piece ≡ take inside buffer) (open' : is_finished reader' ≡ false) (result : Result T Stop) (through : IsThrough (so.bytes ++ piece) reader' engine' begun steps' result)
-        (writes : Writes start.held held' (shown (language_of engine'.labels) whose (commands_in reader' (so.bytes ++ piece))) result) where
+        (writes : Writes start.held held' (shown (language_of engine'.handed) whose (commands_in reader' (so.bytes ++ piece))) result) where
       abbrev now_bytes : List ℕ
       now_bytes = so.bytes ++ take inside buffer
 
@@ -187,7 +187,7 @@ module _ (whose : Option (List ℕ)) (reader : ScriptState) (engine : EngineStat
       piece_known = known_open limit (limit_of reader') (is_finished reader') (so.bytes ++ piece) limit' open' ∙ ap (whole_script limit) now_is
 
       piece_said : Said language whose (whole_script limit now_bytes) engine' start.held held' begun steps' result
-      piece_said = said engine.labels whose (so.bytes ++ piece) reader' engine' start.held held' begun steps' labels (whole_script limit now_bytes) piece_known result through writes
+      piece_said = said engine.handed whose (so.bytes ++ piece) reader' engine' start.held held' begun steps' handed (whole_script limit now_bytes) piece_known result through writes
 
       piece_work : IfSome start.left (λ bytes. AreWithinTries language (script limit bytes) begun steps')
       piece_work = over_rest (λ bytes. AreWithinTries language (script limit bytes) begun steps') (λ more. all_work language limit now_bytes begun more steps' piece_said.work)
@@ -257,8 +257,8 @@ module _ (whose : Option (List ℕ)) (reader : ScriptState) (engine : EngineStat
                 long = omega (arith, ap length now_is, length-append so.bytes (take inside buffer), length-take inside buffer, so.long);
                 answered = record {
                   up_to = ok.up_to;
-                  written = subst (λ (cs : Script). Appends start.held held' (shown (language_of engine'.labels) whose cs)) (sym full)
-                      (subst (λ r. Writes start.held held' (shown (language_of engine'.labels) whose (commands_in reader' (so.bytes ++ piece))) r) is writes);
+                  written = subst (λ (cs : Script). Appends start.held held' (shown (language_of engine'.handed) whose cs)) (sym full)
+                      (subst (λ r. Writes start.held held' (shown (language_of engine'.handed) whose (commands_in reader' (so.bytes ++ piece))) r) is writes);
                 };
                 all = ok.all;
                 read = subst (λ (bs : List ℕ). Consumes start.left left' bs) (sym (now_is ∙ ap (λ (k : ℕ). so.bytes ++ take k buffer) same)) (Consumes-trans _ _ _ _ _ so.read read);
@@ -280,10 +280,10 @@ at_start whose reader engine left held given rf wf steps follows opened fresh =
         up_to = record {
           follows = subst (FollowsScript reader []) (sym none) follows;
           few = omega (arith, none);
-          stands = subst (λ (cs : Script). Stands engine (history_of (language_of engine.labels) [] cs)) (sym empty) fresh.0;
+          stands = subst (λ (cs : Script). Stands engine (history_of (language_of engine.handed) [] cs)) (sym empty) fresh.0;
           work = λ bound works. omega arith;
         };
-        written = subst (Appends held held) (sym (ap (shown (language_of engine.labels) whose) empty ∙ shown_is (language_of engine.labels) whose [])) (Appends-nil held);
+        written = subst (Appends held held) (sym (ap (shown (language_of engine.handed) whose) empty ∙ shown_is (language_of engine.handed) whose [])) (Appends-nil held);
       };
       all = none ∙ sym (ap length nothing);
       read = Consumes-nil left;
@@ -297,10 +297,10 @@ pub never_begun : (language : Language) (whose left held : Option (List ℕ)) (l
     → IsOver language whose limit most (outside left held given rf wf) (outside left held given rf wf) engine steps steps status.NoMemory
 never_begun language whose left held limit most given rf wf steps engine = record { ended = record { written = nothing_written language whose left held limit }; stands = tt; work = no_step language limit left steps }
 
--- labels that stay leave the language
-pub over_same : (labels labels' : List Label) → labels ≡ labels' → (whose : Option (List ℕ)) (limit limit' most most' : ℕ) (start now : Outside) (engine : EngineState) (begun steps : ℕ) (status : Status) → limit ≡ limit' → most ≡ most'
-    → IsOver (language_of labels) whose limit most start now engine begun steps status → IsOver (language_of labels') whose limit' most' start now engine begun steps status
-over_same labels labels' same whose limit limit' most most' start now engine begun steps status e f over = rw (← same, ← e, ← f) over
+-- handed that stay leave the language
+pub over_same : (handed handed' : Handed) → handed ≡ handed' → (whose : Option (List ℕ)) (limit limit' most most' : ℕ) (start now : Outside) (engine : EngineState) (begun steps : ℕ) (status : Status) → limit ≡ limit' → most ≡ most'
+    → IsOver (language_of handed) whose limit most start now engine begun steps status → IsOver (language_of handed') whose limit' most' start now engine begun steps status
+over_same handed handed' same whose limit limit' most most' start now engine begun steps status e f over = rw (← same, ← e, ← f) over
 
 -- a session that stopped for a write fault alone ends with one, and none ends with a read fault
 pub stopped_write : (why : Stop) (ended : Status) → ended ≡ status_of why → Some ended ≡ Some status.WriteFault → why ≡ stop.WriteFault

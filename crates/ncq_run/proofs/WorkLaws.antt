@@ -4,7 +4,7 @@ use Rattle.std.specs.Prelude.{Some, None, Option, IfSome}
 use Rattle.ncq_script.specs.Script.{script, whole_script}
 use Rattle.ncq_script.specs.declared.command.Command.{Command}
 use Rattle.ncq_script.proofs.CallerLemmas.{script_then}
-use Rattle.ncq_callback.specs.Labels.{Label}
+use Rattle.ncq_callback.specs.Labels.{Handed}
 use Rattle.ncq_engine.specs.Languages.{language_of}
 use Rattle.ncq_engine.specs.History.{History}
 use Rattle.ncq_engine.specs.Notices.{Language}
@@ -54,9 +54,9 @@ pub one_try : (engine : EngineState) (command : Command) (old new : ℕ) → IsW
 one_try engine command old new within history stands bound works = let once = within history stands bound works in omega (arith, once)
 
 -- an engine that stands as before and has the same handlers is asked once more: both tries are within twice the work
-pub two_tries : (engine again : EngineState) (command : Command) → again.labels ≡ engine.labels → OfEach engine (Stands again) → (before middle after : ℕ)
+pub two_tries : (engine again : EngineState) (command : Command) → again.handed ≡ engine.handed → OfEach engine (Stands again) → (before middle after : ℕ)
     → IsWithinWork engine command before middle → IsWithinWork again command middle after → IsWithinTries engine command before after
-two_tries engine again command labels stays before middle last first second history stands bound works =
+two_tries engine again command handed stays before middle last first second history stands bound works =
     let once = first history stands bound works in
-    let twice = second history (stays history stands) bound (subst (λ (ls : List Label). IsWorkUpTo (language_of ls) history command bound) (sym labels) works) in
+    let twice = second history (stays history stands) bound (subst (λ (ls : Handed). IsWorkUpTo (language_of ls) history command bound) (sym handed) works) in
     omega (arith, once, twice)

@@ -42,8 +42,8 @@ pub record IsUpTo (bytes : List ℕ) (reader : ScriptState) (engine : EngineStat
   pub follows : FollowsScript reader bytes engine.count
   pub few : engine.count ≤ length (commands_in reader bytes)
   pub stands : Stands engine
-      (history_of (language_of engine.labels) [] (answered_in reader engine bytes))
-  pub work : AreWithinTries (language_of engine.labels) (answered_in reader engine bytes)
+      (history_of (language_of engine.handed) [] (answered_in reader engine bytes))
+  pub work : AreWithinTries (language_of engine.handed) (answered_in reader engine bytes)
       begun steps
 
 -- and what is shown of them was written
@@ -51,7 +51,7 @@ pub record IsAnswered (whose : Option (List ℕ)) (bytes : List ℕ) (reader : S
     (engine : EngineState) (before held : Option (List ℕ)) (begun steps : ℕ) : Type 0 where
   pub up_to : IsUpTo bytes reader engine begun steps
   pub written : Appends before held
-      (shown (language_of engine.labels) whose (answered_in reader engine bytes))
+      (shown (language_of engine.handed) whose (answered_in reader engine bytes))
 
 -- what a tally counts is small enough to count on
 pub record IsSmall (tally : Tally) (count : ℕ) : Type 0 where
@@ -65,7 +65,7 @@ pub record IsTallied (bytes : List ℕ) (reader : ScriptState) (engine : EngineS
     (tally : Tally) (begun steps : ℕ) : Type 0 where
   pub up_to : IsUpTo bytes reader engine begun steps
   pub tallied : tally
-      ≡ tally_of (language_of engine.labels) (answered_in reader engine bytes)
+      ≡ tally_of (language_of engine.handed) (answered_in reader engine bytes)
   pub small : IsSmall tally engine.count
 
 -- the steps are within twice the work of the command, for each history that the engine stands for:
@@ -73,15 +73,15 @@ pub record IsTallied (bytes : List ℕ) (reader : ScriptState) (engine : EngineS
 abbrev pub IsWithinTries : EngineState → Command → ℕ → ℕ → Type 0
 IsWithinTries engine command old new =
     OfEach engine (λ history. (bound : ℕ)
-    → IsWorkUpTo (language_of engine.labels) history command bound → new ≤ old + 2 * bound)
+    → IsWorkUpTo (language_of engine.handed) history command bound → new ≤ old + 2 * bound)
 
 -- the engine was asked a command: where it answered, it counted it and stands for what is after it
 pub record Asks {T E : Type 0} (engine : EngineState) (command : Command) (steps : ℕ)
     (engine' : EngineState) (steps' : ℕ) (result : Result T E) : Type 0 where
   pub stands : OnOk result ((history : History) → Stands engine history
-      → Stands engine' (after (language_of engine.labels) history command))
+      → Stands engine' (after (language_of engine.handed) history command))
   pub counted : OnOk result (engine'.count ≡ engine.count + 1)
-  pub labels : engine'.labels ≡ engine.labels
+  pub handed : engine'.handed ≡ engine.handed
   pub work : IsWithinTries engine command steps steps'
 
 -- all commands of these bytes were to be answered: they are, unless the call failed; either way the
@@ -90,7 +90,7 @@ pub record IsThrough {T E : Type 0} (bytes : List ℕ) (reader : ScriptState) (e
     (begun steps : ℕ) (result : Result T E) : Type 0 where
   pub up_to : OnOk result (IsUpTo bytes reader engine begun steps)
   pub all : OnOk result (engine.count ≡ length (commands_in reader bytes))
-  pub work : AreWithinTries (language_of engine.labels) (commands_in reader bytes) begun steps
+  pub work : AreWithinTries (language_of engine.handed) (commands_in reader bytes) begun steps
 
 -- a call answers all that its reader can tell; what the reader can tell stays, and the handlers
 pub record Advances {T E : Type 0} (reader : ScriptState) (engine : EngineState) (steps : ℕ)
@@ -100,7 +100,7 @@ pub record Advances {T E : Type 0} (reader : ScriptState) (engine : EngineState)
       → IsThrough bytes reader' engine' begun steps' result
   pub limit : limit_of reader' ≡ limit_of reader
   pub finished : is_finished reader' ≡ is_finished reader
-  pub labels : engine'.labels ≡ engine.labels
+  pub handed : engine'.handed ≡ engine.handed
 
 -- all of these bytes were written, unless the call stopped: then a front of them, and after a write
 -- fault not all

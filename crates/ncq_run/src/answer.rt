@@ -4,7 +4,7 @@ ghost use Rattle.std.specs.Prelude.{length, drop};
 ghost use Rattle.std.specs.Io.KnownBytes.{Appends};
 ghost use Rattle.std.specs.List.{filter, flat_map, AllByRecursion};
 ghost use Rattle.std.specs.Option.{is_none, option_copied};
-ghost use Rattle.ncq_callback.specs.Labels.{labels};
+ghost use Rattle.ncq_callback.specs.Labels.{handed_in};
 ghost use Rattle.ncq_outside.specs.Causes.{HasCause, IsFull};
 ghost use Rattle.ncq_script.specs.Proper.{IsProperCommand};
 ghost use Rattle.ncq_engine.specs.History.{History};
@@ -79,16 +79,17 @@ pub(crate) fn make_answer<L: Ledger>(
 ) -> Result<bool, AllocError>
     requires few { engine.old.count < 2 ^ 48 }
     requires proper { IsProperCommand command.now }
-    requires handlers { engine.old.labels
-        ≡ (labels task.now.handlers.now.items.items (λ h. h.name) (λ h. h.kind)) }
+    requires handlers { engine.old.handed
+        ≡ (handed_in task.now.handlers.now.items.items (λ h. h.name) (λ h. h.kind)
+        task.now.handlers.now.predicates.items (λ p. p.name) (λ p. p.relation)) }
     ensures made { OnOk result ((history : History) → Stands engine.old history →
-        text.new.items ≡ answer_to (language_of engine.old.labels) history
+        text.new.items ≡ answer_to (language_of engine.old.handed) history
         (engine.old.count + 1) command.now) }
     ensures spans { OnOk result ((history : History) → Stands engine.old history →
-        engine.new.spans ≡ answer_spans (language_of engine.old.labels) history
+        engine.new.spans ≡ answer_spans (language_of engine.old.handed) history
         (engine.old.count + 1) command.now) }
     ensures accepted { IfOk result (λ accepted. (history : History) → Stands engine.old history →
-        accepted ≡ is_none (first_refusal (language_of engine.old.labels) history command.now)) }
+        accepted ≡ is_none (first_refusal (language_of engine.old.handed) history command.now)) }
     ensures asks { Asks engine.old command.now steps.old engine.new steps.new result }
 {
     text.clear();
@@ -114,10 +115,11 @@ fn make_shown<L: Ledger>(
     requires few { engine.old.count < 2 ^ 48 }
     requires proper { IsProperCommand command.now }
     requires stands { (history : History) × Stands engine.old history }
-    requires handlers { engine.old.labels
-        ≡ (labels task.now.handlers.now.items.items (λ h. h.name) (λ h. h.kind)) }
+    requires handlers { engine.old.handed
+        ≡ (handed_in task.now.handlers.now.items.items (λ h. h.name) (λ h. h.kind)
+        task.now.handlers.now.predicates.items (λ p. p.name) (λ p. p.relation)) }
     ensures made { OnOk result ((history : History) → Stands engine.old history →
-        text.new.items ≡ shown_answer (language_of engine.old.labels)
+        text.new.items ≡ shown_answer (language_of engine.old.handed)
         (option_copied task.now.whose) history (engine.old.count + 1) command.now) }
     ensures asks { Asks engine.old command.now steps.old engine.new steps.new result }
 {
@@ -180,11 +182,12 @@ fn answer_one<O: Sink, L: Ledger>(
     requires few { engine.old.count < 2 ^ 48 }
     requires proper { IsProperCommand command }
     requires stands { (history : History) × Stands engine.old history }
-    requires handlers { engine.old.labels
-        ≡ (labels task.now.handlers.now.items.items (λ h. h.name) (λ h. h.kind)) }
+    requires handlers { engine.old.handed
+        ≡ (handed_in task.now.handlers.now.items.items (λ h. h.name) (λ h. h.kind)
+        task.now.handlers.now.predicates.items (λ p. p.name) (λ p. p.relation)) }
     ensures asks { Asks engine.old command steps.old engine.new steps.new result }
     ensures written { (history : History) → Stands engine.old history →
-        Writes (O.held output.old) (O.held output.new) (shown_answer (language_of engine.old.labels)
+        Writes (O.held output.old) (O.held output.new) (shown_answer (language_of engine.old.handed)
         (option_copied task.now.whose) history (engine.old.count + 1) command) result }
     ensures sink { LeavesSink (O.faults output.old) (O.faults output.new)
         (O.sure output.old) (O.sure output.new) (O.held output.new) result }
@@ -210,14 +213,15 @@ pub(crate) fn answer_commands<O: Sink, L: Ledger>(
 ) -> Result<(), Stop>
     requires so_far { (bytes : List ℕ) × (begun : ℕ) × (length bytes < 2 ^ 48)
         × IsUpTo bytes reader.old engine.old begun steps.old }
-    requires handlers { engine.old.labels
-        ≡ (labels task.now.handlers.now.items.items (λ h. h.name) (λ h. h.kind)) }
+    requires handlers { engine.old.handed
+        ≡ (handed_in task.now.handlers.now.items.items (λ h. h.name) (λ h. h.kind)
+        task.now.handlers.now.predicates.items (λ p. p.name) (λ p. p.relation)) }
     ensures advances { Advances reader.old engine.old steps.old
         reader.new engine.new steps.new result }
     ensures written { (bytes : List ℕ) (before : Option (List ℕ)) (begun : ℕ)
         → IsAnswered (option_copied task.now.whose) bytes reader.old engine.old
         before (O.held output.old) begun steps.old
-        → Writes before (O.held output.new) (shown (language_of engine.new.labels)
+        → Writes before (O.held output.new) (shown (language_of engine.new.handed)
         (option_copied task.now.whose) (commands_in reader.new bytes)) result }
     ensures sink { LeavesSink (O.faults output.old) (O.faults output.new)
         (O.sure output.old) (O.sure output.new) (O.held output.new) result }

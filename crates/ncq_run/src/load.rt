@@ -1,7 +1,7 @@
 //! A load: commands that are made here are answered, and their tally is written.
 ghost use Rattle.std.specs.Prelude.{◌≡◌, ◌+◌, ◌*◌, ◌<◌, ◌≤◌, ◌^◌, ◌++◌, ℕ, List, [], OnOk, IfOk};
 ghost use Rattle.std.specs.Prelude.{Option, false, if◌then◌else◌, length, true};
-ghost use Rattle.ncq_callback.specs.Labels.{labels};
+ghost use Rattle.ncq_callback.specs.Labels.{handed_in};
 ghost use Rattle.ncq_outside.specs.Causes.{IsFull};
 ghost use Rattle.ncq_report.specs.Loads.{load_text};
 ghost use Rattle.ncq_script.specs.Proper.{IsProperCommand};
@@ -36,11 +36,12 @@ fn tally_one<L: Ledger>(
 ) -> Result<(), AllocError>
     requires few { engine.old.count < 2 ^ 48 }
     requires proper { IsProperCommand command }
-    requires handlers { engine.old.labels
-        ≡ (labels task.now.handlers.now.items.items (λ h. h.name) (λ h. h.kind)) }
+    requires handlers { engine.old.handed
+        ≡ (handed_in task.now.handlers.now.items.items (λ h. h.name) (λ h. h.kind)
+        task.now.handlers.now.predicates.items (λ p. p.name) (λ p. p.relation)) }
     requires small { IsSmall tally.old engine.old.count }
     ensures tallied { OnOk result ((history : History) → Stands engine.old history →
-        tally.new ≡ with_command (language_of engine.old.labels) tally.old history
+        tally.new ≡ with_command (language_of engine.old.handed) tally.old history
         (engine.old.count + 1) command) }
     ensures small { OnOk result (IsSmall tally.new engine.new.count) }
     ensures asks { Asks engine.old command steps.old engine.new steps.new result }
@@ -79,8 +80,9 @@ fn tally_commands<L: Ledger>(
 ) -> Result<(), AllocError>
     requires so_far { (bytes : List ℕ) × (begun : ℕ) × (length bytes < 2 ^ 48)
         × IsTallied bytes reader.old engine.old tally.old begun steps.old }
-    requires handlers { engine.old.labels
-        ≡ (labels task.now.handlers.now.items.items (λ h. h.name) (λ h. h.kind)) }
+    requires handlers { engine.old.handed
+        ≡ (handed_in task.now.handlers.now.items.items (λ h. h.name) (λ h. h.kind)
+        task.now.handlers.now.predicates.items (λ p. p.name) (λ p. p.relation)) }
     ensures advances { Advances reader.old engine.old steps.old
         reader.new engine.new steps.new result }
     ensures tallied { OnOk result ((bytes : List ℕ) (begun : ℕ)
@@ -114,8 +116,9 @@ fn tally_part<L: Ledger>(
     requires so_far { (bytes : List ℕ) × (begun : ℕ) × (length bytes + length part.now < 2 ^ 48)
         × IsTallied bytes reader.old engine.old tally.old begun steps.old }
     requires is_open { is_finished reader.old ≡ false }
-    requires handlers { engine.old.labels
-        ≡ (labels task.now.handlers.now.items.items (λ h. h.name) (λ h. h.kind)) }
+    requires handlers { engine.old.handed
+        ≡ (handed_in task.now.handlers.now.items.items (λ h. h.name) (λ h. h.kind)
+        task.now.handlers.now.predicates.items (λ p. p.name) (λ p. p.relation)) }
     ensures through { (bytes : List ℕ) (begun : ℕ)
         → IsUpTo bytes reader.old engine.old begun steps.old
         → IsThrough (bytes ++ part.now) reader.new engine.new begun steps.new result }
@@ -124,7 +127,7 @@ fn tally_part<L: Ledger>(
         → IsTallied (bytes ++ part.now) reader.new engine.new tally.new begun steps.new) }
     ensures limit { limit_of reader.new ≡ limit_of reader.old }
     ensures is_open { is_finished reader.new ≡ false }
-    ensures labels { engine.new.labels ≡ engine.old.labels }
+    ensures handed { engine.new.handed ≡ engine.old.handed }
 {
     reader.push(part)?;
     tally_commands(task, reader, engine, tally, steps)
@@ -141,8 +144,9 @@ fn tally_rest<L: Ledger>(
     requires so_far { (bytes : List ℕ) × (begun : ℕ) × (length bytes < 2 ^ 48)
         × IsTallied bytes reader.old engine.old tally.old begun steps.old }
     requires is_open { is_finished reader.old ≡ false }
-    requires handlers { engine.old.labels
-        ≡ (labels task.now.handlers.now.items.items (λ h. h.name) (λ h. h.kind)) }
+    requires handlers { engine.old.handed
+        ≡ (handed_in task.now.handlers.now.items.items (λ h. h.name) (λ h. h.kind)
+        task.now.handlers.now.predicates.items (λ p. p.name) (λ p. p.relation)) }
     ensures through { (bytes : List ℕ) (begun : ℕ)
         → IsUpTo bytes reader.old engine.old begun steps.old
         → IsThrough bytes reader.new engine.new begun steps.new result }
@@ -151,7 +155,7 @@ fn tally_rest<L: Ledger>(
         → IsTallied bytes reader.new engine.new tally.new begun steps.new) }
     ensures limit { limit_of reader.new ≡ limit_of reader.old }
     ensures closed { is_finished reader.new ≡ true }
-    ensures labels { engine.new.labels ≡ engine.old.labels }
+    ensures handed { engine.new.handed ≡ engine.old.handed }
 {
     reader.finish();
     tally_commands(task, reader, engine, tally, steps)
@@ -182,16 +186,17 @@ fn tally_parts<L: Ledger>(
     requires few { n ≤ 2000 }
     requires follows { FollowsScript reader.old [] 0 }
     requires is_open { is_finished reader.old ≡ false }
-    requires fresh { StandsForThe (language_of engine.old.labels) [] engine.old }
-    requires handlers { engine.old.labels
-        ≡ (labels task.now.handlers.now.items.items (λ h. h.name) (λ h. h.kind)) }
-    ensures tallied { IfOk result (λ tally. (tally ≡ tally_of (language_of engine.old.labels)
+    requires fresh { StandsForThe (language_of engine.old.handed) [] engine.old }
+    requires handlers { engine.old.handed
+        ≡ (handed_in task.now.handlers.now.items.items (λ h. h.name) (λ h. h.kind)
+        task.now.handlers.now.predicates.items (λ p. p.name) (λ p. p.relation)) }
+    ensures tallied { IfOk result (λ tally. (tally ≡ tally_of (language_of engine.old.handed)
         (script (limit_of reader.old) (load_text n)))
-        × StandsForThe (language_of engine.old.labels)
+        × StandsForThe (language_of engine.old.handed)
         (script (limit_of reader.old) (load_text n)) engine.new) }
-    ensures work { AreWithinTries (language_of engine.old.labels)
+    ensures work { AreWithinTries (language_of engine.old.handed)
         (script (limit_of reader.old) (load_text n)) steps.old steps.new }
-    ensures labels { engine.new.labels ≡ engine.old.labels }
+    ensures handed { engine.new.handed ≡ engine.old.handed }
 {
     loads_are_short();
     let mut tally = empty_tally();
@@ -216,15 +221,16 @@ fn tally_load<L: Ledger>(
     requires some { 1 ≤ n }
     requires few { n ≤ 2000 }
     requires limit { limit < 2 ^ 59 }
-    requires fresh { StandsForThe (language_of engine.old.labels) [] engine.old }
-    requires handlers { engine.old.labels
-        ≡ (labels task.now.handlers.now.items.items (λ h. h.name) (λ h. h.kind)) }
-    ensures tallied { IfOk result (λ tally. (tally ≡ tally_of (language_of engine.old.labels)
+    requires fresh { StandsForThe (language_of engine.old.handed) [] engine.old }
+    requires handlers { engine.old.handed
+        ≡ (handed_in task.now.handlers.now.items.items (λ h. h.name) (λ h. h.kind)
+        task.now.handlers.now.predicates.items (λ p. p.name) (λ p. p.relation)) }
+    ensures tallied { IfOk result (λ tally. (tally ≡ tally_of (language_of engine.old.handed)
         (script limit (load_text n)))
-        × StandsForThe (language_of engine.old.labels) (script limit (load_text n)) engine.new) }
-    ensures work { AreWithinTries (language_of engine.old.labels) (script limit (load_text n))
+        × StandsForThe (language_of engine.old.handed) (script limit (load_text n)) engine.new) }
+    ensures work { AreWithinTries (language_of engine.old.handed) (script limit (load_text n))
         steps.old steps.new }
-    ensures labels { engine.new.labels ≡ engine.old.labels }
+    ensures handed { engine.new.handed ≡ engine.old.handed }
 {
     let mut reader = ScriptReader::new(task.alloc, limit);
     tally_parts(task, n, &mut reader, engine, steps)
@@ -242,20 +248,21 @@ pub(crate) fn load<O: Sink, L: Ledger>(
     requires some { 1 ≤ n }
     requires few { n ≤ 2000 }
     requires limit { limit < 2 ^ 59 }
-    requires fresh { StandsForThe (language_of engine.old.labels) [] engine.old }
-    requires handlers { engine.old.labels
-        ≡ (labels task.now.handlers.now.items.items (λ h. h.name) (λ h. h.kind)) }
+    requires fresh { StandsForThe (language_of engine.old.handed) [] engine.old }
+    requires handlers { engine.old.handed
+        ≡ (handed_in task.now.handlers.now.items.items (λ h. h.name) (λ h. h.kind)
+        task.now.handlers.now.predicates.items (λ p. p.name) (λ p. p.relation)) }
     ensures ended { (left left' : Option (List ℕ)) (given given' faults faults' : ℕ)
-        → Loaded (language_of engine.old.labels) limit n
+        → Loaded (language_of engine.old.handed) limit n
         (outside left (O.held output.old) given faults (O.faults output.old))
         (outside left' (O.held output.new) given' faults' (O.faults output.new)) result }
     ensures stands { result ≡ Status.Done
-        → StandsForThe (language_of engine.old.labels) (script limit (load_text n)) engine.new }
-    ensures work { AreWithinTries (language_of engine.old.labels) (script limit (load_text n))
+        → StandsForThe (language_of engine.old.handed) (script limit (load_text n)) engine.new }
+    ensures work { AreWithinTries (language_of engine.old.handed) (script limit (load_text n))
         steps.old steps.new }
     ensures sure_sink { result ≡ Status.WriteFault
         → IsFull (O.sure output.old) (O.held output.new) }
-    ensures labels { engine.new.labels ≡ engine.old.labels }
+    ensures handed { engine.new.handed ≡ engine.old.handed }
 {
     let Ok(tally) = tally_load(task, n, limit, engine, steps) else {
         return Status::NoMemory;

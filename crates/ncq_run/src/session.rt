@@ -4,7 +4,7 @@ ghost use Rattle.std.specs.Prelude.{OnErr, IfOk, IfSome, IfNone, IsOk, Some, Non
 ghost use Rattle.std.specs.Prelude.{◌⊎◌, true, false, length, take};
 ghost use Rattle.std.specs.Io.KnownBytes.{Consumes, Keeps, IsAtEnd};
 ghost use Rattle.std.specs.Option.{option_copied};
-ghost use Rattle.ncq_callback.specs.Labels.{labels};
+ghost use Rattle.ncq_callback.specs.Labels.{handed_in};
 ghost use Rattle.ncq_outside.specs.Causes.{HasCause, IsFull, RoseBy};
 ghost use Rattle.ncq_script.specs.ScriptReading.{limit_of, is_finished};
 ghost use Rattle.ncq_engine.specs.Languages.{language_of};
@@ -84,21 +84,22 @@ fn answer_piece<O: Sink, L: Ledger>(
     requires so_far { (bytes : List ℕ) × (begun : ℕ) × (length bytes + length piece.now < 2 ^ 48)
         × IsUpTo bytes reader.old engine.old begun steps.old }
     requires is_open { is_finished reader.old ≡ false }
-    requires handlers { engine.old.labels
-        ≡ (labels task.now.handlers.now.items.items (λ h. h.name) (λ h. h.kind)) }
+    requires handlers { engine.old.handed
+        ≡ (handed_in task.now.handlers.now.items.items (λ h. h.name) (λ h. h.kind)
+        task.now.handlers.now.predicates.items (λ p. p.name) (λ p. p.relation)) }
     ensures through { (bytes : List ℕ) (begun : ℕ)
         → IsUpTo bytes reader.old engine.old begun steps.old
         → IsThrough (bytes ++ piece.now) reader.new engine.new begun steps.new result }
     ensures written { (bytes : List ℕ) (before : Option (List ℕ)) (begun : ℕ)
         → IsAnswered (option_copied task.now.whose) bytes reader.old engine.old
         before (O.held output.old) begun steps.old
-        → Writes before (O.held output.new) (shown (language_of engine.new.labels)
+        → Writes before (O.held output.new) (shown (language_of engine.new.handed)
         (option_copied task.now.whose) (commands_in reader.new (bytes ++ piece.now))) result }
     ensures sink { LeavesSink (O.faults output.old) (O.faults output.new)
         (O.sure output.old) (O.sure output.new) (O.held output.new) result }
     ensures limit { limit_of reader.new ≡ limit_of reader.old }
     ensures is_open { is_finished reader.new ≡ false }
-    ensures labels { engine.new.labels ≡ engine.old.labels }
+    ensures handed { engine.new.handed ≡ engine.old.handed }
 {
     match reader.push(piece) {
         Ok(()) => answer_commands(task, reader, engine, output, steps),
@@ -117,21 +118,22 @@ fn answer_rest<O: Sink, L: Ledger>(
     requires so_far { (bytes : List ℕ) × (begun : ℕ) × (length bytes < 2 ^ 48)
         × IsUpTo bytes reader.old engine.old begun steps.old }
     requires is_open { is_finished reader.old ≡ false }
-    requires handlers { engine.old.labels
-        ≡ (labels task.now.handlers.now.items.items (λ h. h.name) (λ h. h.kind)) }
+    requires handlers { engine.old.handed
+        ≡ (handed_in task.now.handlers.now.items.items (λ h. h.name) (λ h. h.kind)
+        task.now.handlers.now.predicates.items (λ p. p.name) (λ p. p.relation)) }
     ensures through { (bytes : List ℕ) (begun : ℕ)
         → IsUpTo bytes reader.old engine.old begun steps.old
         → IsThrough bytes reader.new engine.new begun steps.new result }
     ensures written { (bytes : List ℕ) (before : Option (List ℕ)) (begun : ℕ)
         → IsAnswered (option_copied task.now.whose) bytes reader.old engine.old
         before (O.held output.old) begun steps.old
-        → Writes before (O.held output.new) (shown (language_of engine.new.labels)
+        → Writes before (O.held output.new) (shown (language_of engine.new.handed)
         (option_copied task.now.whose) (commands_in reader.new bytes)) result }
     ensures sink { LeavesSink (O.faults output.old) (O.faults output.new)
         (O.sure output.old) (O.sure output.new) (O.held output.new) result }
     ensures limit { limit_of reader.new ≡ limit_of reader.old }
     ensures closed { is_finished reader.new ≡ true }
-    ensures labels { engine.new.labels ≡ engine.old.labels }
+    ensures handed { engine.new.handed ≡ engine.old.handed }
 {
     reader.finish();
     answer_commands(task, reader, engine, output, steps)
@@ -187,8 +189,9 @@ fn turn<I: Source, O: Sink, L: Ledger>(
 ) -> Option<Status>
     requires ready { IsReady session.old.reader engine.old session.old.taken session.old.most
         (length session.old.buffer.items) steps.old }
-    requires handlers { engine.old.labels
-        ≡ (labels task.now.handlers.now.items.items (λ h. h.name) (λ h. h.kind)) }
+    requires handlers { engine.old.handed
+        ≡ (handed_in task.now.handlers.now.items.items (λ h. h.name) (λ h. h.kind)
+        task.now.handlers.now.predicates.items (λ p. p.name) (λ p. p.relation)) }
     ensures ready { IfNone result (IsReady session.new.reader engine.new session.new.taken
         session.old.most (length session.new.buffer.items) steps.new) }
     ensures falls { IfNone result (session.old.taken < session.new.taken) }
@@ -196,7 +199,7 @@ fn turn<I: Source, O: Sink, L: Ledger>(
         → SoFar (option_copied task.now.whose) session.old.reader engine.old session.old.taken start
         (outside (I.left input.old) (O.held output.old) (I.given input.old) (I.faults input.old)
         (O.faults output.old)) begun steps.old
-        → Turns (language_of engine.old.labels) (option_copied task.now.whose)
+        → Turns (language_of engine.old.handed) (option_copied task.now.whose)
         (limit_of session.old.reader) session.old.most start
         (outside (I.left input.new) (O.held output.new) (I.given input.new) (I.faults input.new)
         (O.faults output.new)) session.new.reader engine.new session.new.taken begun steps.new
@@ -210,7 +213,7 @@ fn turn<I: Source, O: Sink, L: Ledger>(
         → IsFull (O.sure output.old) (O.held output.new) }
     ensures stays { (I.is_sure input.new ≡ I.is_sure input.old)
         × (O.sure output.new ≡ O.sure output.old) }
-    ensures labels { engine.new.labels ≡ engine.old.labels }
+    ensures handed { engine.new.handed ≡ engine.old.handed }
 {
     let room = session.most - session.taken;
     let Ok(got) = fill(input, &mut session.buffer, PIECE.min(room + 1)) else {
@@ -246,10 +249,11 @@ fn serve<I: Source, O: Sink, L: Ledger>(
 ) -> Status
     requires most { most < 2 ^ 48 }
     requires limit { limit < 2 ^ 59 }
-    requires fresh { StandsForThe (language_of engine.old.labels) [] engine.old }
-    requires handlers { engine.old.labels
-        ≡ (labels task.now.handlers.now.items.items (λ h. h.name) (λ h. h.kind)) }
-    ensures over { IsOver (language_of engine.old.labels) (option_copied task.now.whose) limit most
+    requires fresh { StandsForThe (language_of engine.old.handed) [] engine.old }
+    requires handlers { engine.old.handed
+        ≡ (handed_in task.now.handlers.now.items.items (λ h. h.name) (λ h. h.kind)
+        task.now.handlers.now.predicates.items (λ p. p.name) (λ p. p.relation)) }
+    ensures over { IsOver (language_of engine.old.handed) (option_copied task.now.whose) limit most
         (outside (I.left input.old) (O.held output.old) (I.given input.old) (I.faults input.old)
         (O.faults output.old)) (outside (I.left input.new) (O.held output.new) (I.given input.new)
         (I.faults input.new) (O.faults output.new)) engine.new steps.old steps.new result }
@@ -257,7 +261,7 @@ fn serve<I: Source, O: Sink, L: Ledger>(
     ensures sure_source { result ≡ Status.ReadFault → I.is_sure input.old ≡ true → ⊥ }
     ensures sure_sink { result ≡ Status.WriteFault
         → IsFull (O.sure output.old) (O.held output.new) }
-    ensures labels { engine.new.labels ≡ engine.old.labels }
+    ensures handed { engine.new.handed ≡ engine.old.handed }
 {
     let Ok(buffer) = vec![in task.alloc; 0u8; PIECE] else {
         return Status::NoMemory;
@@ -309,15 +313,16 @@ pub fn run<I: Source, O: Sink, L: Ledger>(
 ) -> Status
     requires stands { Stands engine.old [] }
     requires fresh { engine.old.count ≡ 0 }
-    requires handlers { engine.old.labels
-        ≡ (labels handlers.now.items.items (λ h. h.name) (λ h. h.kind)) }
+    requires handlers { engine.old.handed
+        ≡ (handed_in handlers.now.items.items (λ h. h.name) (λ h. h.kind)
+        handlers.now.predicates.items (λ p. p.name) (λ p. p.relation)) }
     ensures usage { result ≡ Status.Usage → form_of (texts_of words.now) ≡ None }
     ensures no_form { IfNone (form_of (texts_of words.now))
         ((result ≡ Status.Usage) ⊎ (result ≡ Status.NoMemory)) }
     ensures untouched { IfNone (form_of (texts_of words.now))
         ((input.new ≡ input.old) × (output.new ≡ output.old) × (engine.new ≡ engine.old)) }
     ensures ended { IfSome (form_of (texts_of words.now)) (λ form.
-        EndedAs form (language_of engine.old.labels) longest_line longest_script
+        EndedAs form (language_of engine.old.handed) longest_line longest_script
         (outside (I.left input.old) (O.held output.old) (I.given input.old)
         (I.faults input.old) (O.faults output.old))
         (outside (I.left input.new) (O.held output.new) (I.given input.new)
@@ -325,17 +330,17 @@ pub fn run<I: Source, O: Sink, L: Ledger>(
     ensures unread { IfSome (form_of (texts_of words.now)) (λ form.
         is_load form ≡ true → input.new ≡ input.old) }
     ensures stands { IfSome (form_of (texts_of words.now)) (λ form.
-        StandsAs form (language_of engine.old.labels) longest_line longest_script
+        StandsAs form (language_of engine.old.handed) longest_line longest_script
         (I.left input.old) (I.left input.new) engine.new result) }
     ensures work { IfSome (form_of (texts_of words.now)) (λ form.
-        WorksAs form (language_of engine.old.labels) longest_line (I.left input.old)
+        WorksAs form (language_of engine.old.handed) longest_line (I.left input.old)
         steps.old steps.new) }
     ensures within { I.given input.new ≤ I.given input.old + (longest_script + 1) }
     ensures sure_source { result ≡ Status.ReadFault → I.is_sure input.old ≡ true → ⊥ }
     ensures sure_sink { result ≡ Status.WriteFault
         → IsFull (O.sure output.old) (O.held output.new) }
     ensures no_steps { IfNone (form_of (texts_of words.now)) (steps.new ≡ steps.old) }
-    ensures labels { engine.new.labels ≡ engine.old.labels }
+    ensures handed { engine.new.handed ≡ engine.old.handed }
 {
     let task = Task {
         alloc,

@@ -1,6 +1,6 @@
 //! A command that is tried once more where memory runs out.
 ghost use Rattle.std.specs.Prelude.{◌≡◌, ◌+◌, ◌<◌, ◌^◌, ◌++◌, ◌∷◌, [], None, Some, OnOk, OnErr};
-ghost use Rattle.ncq_callback.specs.Labels.{labels};
+ghost use Rattle.ncq_callback.specs.Labels.{handed_in};
 ghost use Rattle.ncq_script.specs.Proper.{IsProperCommand};
 ghost use Rattle.ncq_engine.specs.Applies.{AreSpans, IfAnswered, IfRefused, OfEach};
 ghost use Rattle.ncq_engine.specs.Languages.{language_of};
@@ -26,24 +26,25 @@ pub(crate) fn apply_twice<L: Ledger>(
 ) -> Result<Applied, ApplyError>
     requires few { engine.old.count < 2 ^ 48 }
     requires proper { IsProperCommand command.now }
-    requires handlers { engine.old.labels
-        ≡ (labels task.now.handlers.now.items.items (λ h. h.name) (λ h. h.kind)) }
+    requires handlers { engine.old.handed
+        ≡ (handed_in task.now.handlers.now.items.items (λ h. h.name) (λ h. h.kind)
+        task.now.handlers.now.predicates.items (λ p. p.name) (λ p. p.relation)) }
     ensures accepted { OnOk result (OfEach engine.old (λ history.
-        first_refusal (language_of engine.old.labels) history command.now ≡ None)) }
+        first_refusal (language_of engine.old.handed) history command.now ≡ None)) }
     ensures joined { OnOk result (OfEach engine.old (λ history.
         Stands engine.new (command.now ∷ history))) }
     ensures answer { OnOk result (OfEach engine.old (λ history. out.new.items
-        ≡ out.old.items ++ accepted_text (language_of engine.old.labels) history
+        ≡ out.old.items ++ accepted_text (language_of engine.old.handed) history
         (engine.old.count + 1) command.now)) }
     ensures spans { OnOk result (OfEach engine.old (λ history.
         AreSpans engine.old history command.now out.old.items engine.new.spans)) }
     ensures no_spans { OnErr result (engine.new.spans ≡ []) }
     ensures refused { IfRefused result (λ why. OfEach engine.old (λ history.
-        first_refusal (language_of engine.old.labels) history command.now ≡ Some why)) }
+        first_refusal (language_of engine.old.handed) history command.now ≡ Some why)) }
     ensures stays { OnErr result (OfEach engine.old (Stands engine.new)) }
     ensures unwritten { OnErr result (out.new.items ≡ out.old.items) }
     ensures counted { IfAnswered result (engine.new.count ≡ engine.old.count + 1) }
-    ensures labels { engine.new.labels ≡ engine.old.labels }
+    ensures handed { engine.new.handed ≡ engine.old.handed }
     ensures work { IsWithinTries engine.old command.now steps.old steps.new }
 {
     match engine.apply(task.alloc, command, task.handlers, out, steps) {

@@ -4,6 +4,7 @@ use std::alloc::{AllocError, Global};
 use std::process::Abort;
 
 mod bags;
+mod predicates;
 mod queries;
 mod shown;
 mod tables;

@@ -12,6 +12,7 @@ mod intervals;
 mod making;
 mod parcels;
 mod plans;
+mod predicates;
 mod ranges;
 mod rows;
 mod signatures;

@@ -1,6 +1,6 @@
 -- Items: what is read is spelled so, and what is spelled so is read.
-use Rattle.std.proofs.Common.{◌≡◌, ℕ, zero, suc, ◌≤◌, ◌<◌, Bool, true, false, List, [], ◌∷◌, length, Some, IsTrue, cond, refl, sym, ap, subst, ◌∙◌, arith}
-use Rattle.std.specs.Prelude.{codes, ◌||◌, not}
+use Rattle.std.proofs.Common.{◌≡◌, ℕ, zero, suc, ◌≤◌, ◌<◌, Bool, true, false, List, [], ◌∷◌, length, Some, None, IsTrue, cond, refl, sym, ap, subst, ◌∙◌, arith, true≢false}
+use Rattle.std.specs.Prelude.{codes, ◌||◌, not, Option}
 use Rattle.ncq_base.specs.declared.atom.Op.{Op}
 use Rattle.ncq_token.specs.declared.token.Token.{Token}
 use Rattle.ncq_token.specs.declared.token.Token.TheVariants.{TagStart, TagClose, Name, Variable, Quoted, Word, Cmp, Comma}
@@ -8,12 +8,12 @@ use Rattle.ncq_xmlql.specs.declared.model.Operand.{Operand}
 use Rattle.ncq_xmlql.specs.declared.model.Operand.TheVariants as operand
 use Rattle.ncq_xmlql.specs.declared.model.Pattern.{Pattern}
 use Rattle.ncq_xmlql.specs.declared.model.QueryItem.{QueryItem}
-use Rattle.ncq_xmlql.specs.declared.model.QueryItem.TheVariants.{Match, Condition}
-use Rattle.ncq_xmlql.specs.Reading.{◌>>=◌, is_keyword, checked, tag_at, end_close_at, end_at, starts_tag, many_in, many}
+use Rattle.ncq_xmlql.specs.declared.model.QueryItem.TheVariants.{Match, Condition, Satisfies}
+use Rattle.ncq_xmlql.specs.Reading.{◌>>=◌, is_keyword, lowered, checked, tag_at, end_close_at, end_at, starts_tag, many_in, many}
 use Rattle.ncq_xmlql.specs.PatternReading.{pattern_at}
 use Rattle.ncq_xmlql.specs.Grammar.{IsEnd, IsPatterns}
-use Rattle.ncq_xmlql.specs.ItemReading.{literal_at, source_at, root_at, has_arm, match_at, operand_at, op_at, is_variable, condition_at, next_item_at, starts_construct, continues, items_at}
-use Rattle.ncq_xmlql.specs.ItemGrammar.{IsLiteral, IsOperand, IsMatch, IsCondition, IsMore, IsItems}
+use Rattle.ncq_xmlql.specs.ItemReading.{literal_at, source_at, root_at, has_arm, match_at, operand_at, op_at, is_variable, asks, comparison_at, satisfies_at, value_behind, starts_argument, condition_at, next_item_at, starts_construct, continues, items_at}
+use Rattle.ncq_xmlql.specs.ItemGrammar.{IsLiteral, IsOperand, IsMatch, IsArgument, IsCondition, IsMore, IsItems}
 use Rattle.ncq_xmlql.proofs.Sound.{bind_some, checked_is, at_value, tag_sound, end_close_sound, end_sound}
 use Rattle.ncq_xmlql.proofs.PatternSound.{many_sound, pattern_sound}
 use Rattle.ncq_xmlql.proofs.Loops.{last_turn}
@@ -37,15 +37,39 @@ op_sound : (tokens : List Token) (x : Op × List Token) → op_at tokens ≡ Som
 op_sound ((Cmp op) ∷ rest) x e = at_value (λ (y : Op × List Token). (Cmp op ∷ rest) ≡ Cmp y.0 ∷ y.1) (op, rest) x e refl
 op_sound tokens x e = absurd cc
 
-condition_sound : (tokens : List Token) (x : QueryItem × List Token) → condition_at tokens ≡ Some x → IsCondition tokens x.0 x.1
-unfolding condition_at
-condition_sound tokens x e =
+comparison_sound : (tokens : List Token) (x : QueryItem × List Token) → comparison_at tokens ≡ Some x → IsCondition tokens x.0 x.1
+unfolding comparison_at
+comparison_sound tokens x e =
     let a = bind_some (operand_at tokens) (λ left. op_at left.1 >>= λ op. operand_at op.1 >>= λ right. checked (is_variable left.0 || is_variable right.0) (Some (Condition left.0 op.0 right.0, right.1))) x e in
     let b = bind_some (op_at a.0.1) (λ op. operand_at op.1 >>= λ right. checked (is_variable a.0.0 || is_variable right.0) (Some (Condition a.0.0 op.0 right.0, right.1))) x a.2 in
     let c = bind_some (operand_at b.0.1) (λ right. checked (is_variable a.0.0 || is_variable right.0) (Some (Condition a.0.0 b.0.0 right.0, right.1))) x b.2 in
     let d = checked_is (is_variable a.0.0 || is_variable c.0.0) (Some (Condition a.0.0 b.0.0 c.0.0, c.0.1)) x c.2 in
     at_value (λ (y : QueryItem × List Token). IsCondition tokens y.0 y.1) (Condition a.0.0 b.0.0 c.0.0, c.0.1) x d.1
     (IsCondition.compared (subst (λ (ts : List Token). IsOperand tokens a.0.0 ts) (op_sound a.0.1 b.0 b.1) (operand_sound tokens a.0 a.1)) (operand_sound b.0.1 c.0 c.1) d.0)
+
+argument_sound : (tokens : List Token) (x : Option (List ℕ) × List Token) → value_behind tokens ≡ Some x → IsArgument tokens x.0 x.1
+argument_sound [] x e = at_value (λ (y : Option (List ℕ) × List Token). IsArgument [] y.0 y.1) (None, []) x e (IsArgument.none refl)
+argument_sound ((Quoted text) ∷ rest) x e = at_value (λ (y : Option (List ℕ) × List Token). IsArgument (Quoted text ∷ rest) y.0 y.1) (Some text, rest) x e IsArgument.quoted
+argument_sound ((Word word) ∷ rest) x e = elim (is_keyword (codes "construct") word) as (λ t. is_keyword (codes "construct") word ≡ t
+    → cond {A = Option (Option (List ℕ) × List Token)} t (Some (None, Word word ∷ rest)) (Some (Some word, rest)) ≡ Some x → IsArgument (Word word ∷ rest) x.0 x.1) [
+      | true ↦ λ k q. at_value (λ (y : Option (List ℕ) × List Token). IsArgument (Word word ∷ rest) y.0 y.1) (None, Word word ∷ rest) x q (IsArgument.none (ap not k))
+      | false ↦ λ k q. at_value (λ (y : Option (List ℕ) × List Token). IsArgument (Word word ∷ rest) y.0 y.1) (Some word, rest) x q (IsArgument.word k)
+    ] refl e
+argument_sound (other ∷ rest) x e = at_value (λ (y : Option (List ℕ) × List Token). IsArgument (other ∷ rest) y.0 y.1) (None, other ∷ rest) x e (IsArgument.none refl)
+
+satisfies_sound : (tokens : List Token) (x : QueryItem × List Token) → asks tokens ≡ true → satisfies_at tokens ≡ Some x → IsCondition tokens x.0 x.1
+unfolding satisfies_at
+satisfies_sound ((Variable v) ∷ (Word keyword) ∷ (Word name) ∷ rest) x asked e =
+    let c = bind_some (value_behind rest) (λ argument. Some (Satisfies v (lowered name) argument.0, argument.1)) x e in
+    at_value (λ (y : QueryItem × List Token). IsCondition (Variable v ∷ Word keyword ∷ Word name ∷ rest) y.0 y.1) (Satisfies v (lowered name) c.0.0, c.0.1) x c.2 (IsCondition.satisfied asked (argument_sound rest c.0 c.1))
+satisfies_sound tokens x asked e = absurd cc
+
+condition_by : (b : Bool) (tokens : List Token) (x : QueryItem × List Token) → asks tokens ≡ b → cond b (satisfies_at tokens) (comparison_at tokens) ≡ Some x → IsCondition tokens x.0 x.1
+condition_by true tokens x asked e = satisfies_sound tokens x asked e
+condition_by false tokens x asked e = comparison_sound tokens x e
+
+condition_sound : (tokens : List Token) (x : QueryItem × List Token) → condition_at tokens ≡ Some x → IsCondition tokens x.0 x.1
+condition_sound tokens x e = condition_by (asks tokens) tokens x refl e
 
 record Sourced (tokens : List Token) (source : List ℕ) (rest : List Token) : Type 0 where
   pub word : List ℕ
@@ -97,8 +121,14 @@ operand_within : {a b : List Token} {o : Operand} → IsOperand a o b → length
 operand_within IsOperand.variable = omega arith
 operand_within (IsOperand.literal h) = literal_within h
 
+argument_within : {a b : List Token} {argument : Option (List ℕ)} → IsArgument a argument b → length b ≤ length a
+argument_within IsArgument.quoted = omega arith
+argument_within (IsArgument.word other) = omega arith
+argument_within (IsArgument.none free) = omega arith
+
 condition_within : {a b : List Token} {i : QueryItem} → IsCondition a i b → length b < length a
 condition_within (IsCondition.compared l r some) = omega (arith, operand_within l, operand_within r)
+condition_within (IsCondition.satisfied keyword argument) = omega (arith, argument_within argument)
 
 match_within : {a b : List Token} {i : QueryItem} → IsMatch a i b → length b < length a
 match_within (IsMatch.matched ps end w source) = omega (arith, patterns_within ps, end_within end, literal_within source)
@@ -158,12 +188,42 @@ operand_starts IsOperand.variable = refl
 operand_starts (IsOperand.literal IsLiteral.quoted) = refl
 operand_starts (IsOperand.literal IsLiteral.word) = refl
 
+operand_compared : {a b : List Token} {o : Operand} {op : Op} → IsOperand a o (Cmp op ∷ b) → asks a ≡ false
+operand_compared IsOperand.variable = refl
+operand_compared (IsOperand.literal IsLiteral.quoted) = refl
+operand_compared (IsOperand.literal IsLiteral.word) = refl
+
+argument_complete : {a b : List Token} {argument : Option (List ℕ)} → IsArgument a argument b → value_behind a ≡ Some (argument, b)
+argument_complete IsArgument.quoted = refl
+argument_complete (IsArgument.word other) = rw other refl
+argument_complete (IsArgument.none {a = a} free) = nothing a free
+  where
+    was_true : (b : Bool) → not b ≡ false → b ≡ true
+    was_true true h = refl
+    was_true false h = absurd cc
+
+    nothing : (a : List Token) → starts_argument a ≡ false → value_behind a ≡ Some (None, a)
+    nothing [] free = refl
+    nothing ((Quoted text) ∷ rest) free = absurd cc
+    nothing ((Word word) ∷ rest) free = rw (was_true (is_keyword (codes "construct") word) free) refl
+    nothing (other ∷ rest) free = refl
+
+comparison_complete : {a b : List Token} {i : QueryItem} → IsCondition a i b → asks a ≡ false → comparison_at a ≡ Some (i, b)
+unfolding comparison_at
+comparison_complete (IsCondition.compared l r some) plain = rw (operand_complete l, operand_complete r, some) refl
+comparison_complete (IsCondition.satisfied keyword argument) plain = absurd (true≢false (sym keyword ∙ plain))
+
+satisfies_complete : (x keyword name : List ℕ) {argument : Option (List ℕ)} {a b : List Token} → IsArgument a argument b → satisfies_at (Variable x ∷ Word keyword ∷ Word name ∷ a) ≡ Some (Satisfies x (lowered name) argument, b)
+unfolding satisfies_at
+satisfies_complete x keyword name argument = rw (argument_complete argument) refl
+
 condition_complete : {a b : List Token} {i : QueryItem} → IsCondition a i b → condition_at a ≡ Some (i, b)
-unfolding condition_at
-condition_complete (IsCondition.compared l r some) = rw (operand_complete l, operand_complete r, some) refl
+condition_complete (IsCondition.compared {a = a} l r some) = let plain : asks a ≡ false = operand_compared l in rw plain (comparison_complete (IsCondition.compared l r some) plain)
+condition_complete (IsCondition.satisfied {x = x} {keyword = word} {name = name} keyword argument) = rw keyword (satisfies_complete x word name argument)
 
 condition_starts : {a b : List Token} {i : QueryItem} → IsCondition a i b → starts_tag a ≡ false
 condition_starts (IsCondition.compared l r some) = operand_starts l
+condition_starts (IsCondition.satisfied keyword argument) = refl
 
 match_starts : {a b : List Token} {i : QueryItem} → IsMatch a i b → starts_tag a ≡ true
 match_starts (IsMatch.matched ps end w source) = refl

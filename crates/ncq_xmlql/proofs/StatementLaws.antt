@@ -11,12 +11,12 @@ use Rattle.ncq_xmlql.specs.declared.model.Template.{Template}
 use Rattle.ncq_xmlql.specs.declared.model.Query.{Query}
 use Rattle.ncq_xmlql.specs.declared.model.Statement.{Statement}
 use Rattle.ncq_xmlql.specs.declared.time.Times.{Times}
-use Rattle.ncq_xmlql.specs.Reading.{◌>>=◌, Gives, is_keyword}
+use Rattle.ncq_xmlql.specs.Reading.{◌>>=◌, Gives, is_keyword, lowered}
 use Rattle.ncq_xmlql.specs.ItemReading.{items_at, continues}
 use Rattle.ncq_xmlql.specs.TemplateReading.{top_at}
 use Rattle.ncq_xmlql.specs.Times.{times, AreTimes, times_from, is_time_word}
 use Rattle.ncq_xmlql.specs.TemplateGrammar.{IsElement, IsTop}
-use Rattle.ncq_xmlql.specs.StatementReading.{keyword_at, title_at, head_at, construct_at, distinct_at, query_at, lowered, action_word_at, action_at, argument_at, or_zero, statement_at}
+use Rattle.ncq_xmlql.specs.StatementReading.{keyword_at, title_at, head_at, construct_at, distinct_at, query_at, action_word_at, action_at, argument_at, or_zero, statement_at}
 use Rattle.ncq_xmlql.specs.StatementGrammar.{IsComma, IsDistinct, IsQuery, IsArgument, IsSpelled}
 use Rattle.ncq_xmlql.specs.Statements.{IsStatement}
 use Rattle.ncq_xmlql.proofs.Sound.{bind_some, some_is, checked_is, at_value}

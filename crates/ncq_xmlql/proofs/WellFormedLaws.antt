@@ -1,6 +1,6 @@
 -- What is spelled is well formed.
 use Rattle.std.proofs.Common.{◌≡◌, ℕ, suc, Bool, true, false, List, [], ◌∷◌, length, map, Result, Ok, Err, IsTrue, refl, sym, ap, ◌∙◌, arith}
-use Rattle.std.specs.Prelude.{◌&&◌, nat_lt, IfOk}
+use Rattle.std.specs.Prelude.{◌&&◌, nat_lt, IfOk, Option}
 use Rattle.std.specs.List.{list_all}
 use Rattle.std.proofs.lemmas.Bool.{lt-ltb}
 use Rattle.std.proofs.lemmas.Bool.Decides.{nat_tests}
@@ -24,7 +24,7 @@ use Rattle.ncq_xmlql.specs.declared.statement.StatementError.{StatementError}
 use Rattle.ncq_xmlql.specs.Reading.{names_of, names_differ}
 use Rattle.ncq_xmlql.specs.TemplateReading.{template_attribute}
 use Rattle.ncq_xmlql.specs.Grammar.{IsAttributes, IsWords, IsEnd, IsPathEnd, IsSuffix, IsPattern, IsContent, IsPatterns}
-use Rattle.ncq_xmlql.specs.ItemGrammar.{IsLiteral, IsOperand, IsMatch, IsCondition, IsMore, IsItems}
+use Rattle.ncq_xmlql.specs.ItemGrammar.{IsLiteral, IsOperand, IsMatch, IsArgument, IsCondition, IsMore, IsItems}
 use Rattle.ncq_xmlql.specs.TemplateGrammar.{IsElement, IsPart, IsParts, IsTop}
 use Rattle.ncq_xmlql.specs.StatementGrammar.{IsComma, IsDistinct, IsQuery, IsSpelled}
 use Rattle.ncq_xmlql.specs.Statements.{IsStatement, AreWithin}
@@ -155,8 +155,14 @@ match_named (IsMatch.matched {root = root} {a = rest} arms end keyword source) n
     let s = both (is_name root) (list_all is_well_named rest) named in
     literal_named source (end_named end (patterns_named arms s.1))
 
+argument_named : {a b : List Token} {argument : Option (List ℕ)} → IsArgument a argument b → AreNamed a → AreNamed b
+argument_named IsArgument.quoted named = named
+argument_named (IsArgument.word other) named = named
+argument_named (IsArgument.none free) named = named
+
 condition_named : {a b : List Token} {item : QueryItem} → IsCondition a item b → AreNamed a → AreNamed b
 condition_named (IsCondition.compared left right some) named = operand_named right (operand_named left named)
+condition_named (IsCondition.satisfied keyword argument) named = argument_named argument named
 
 more_named : {a b : List Token} {items : List QueryItem} → IsMore a items b → AreNamed a → AreNamed b
 more_named IsMore.no_more named = named
@@ -207,6 +213,7 @@ match_formed (IsMatch.matched arms end keyword source) few = patterns_formed arm
 
 condition_formed : {a b : List Token} {item : QueryItem} → IsCondition a item b → item_paths is_formed item ≡ true
 condition_formed (IsCondition.compared left right some) = refl
+condition_formed (IsCondition.satisfied keyword argument) = refl
 
 more_formed : {a b : List Token} {items : List QueryItem} → IsMore a items b → all_paths is_few items ≡ true → all_paths is_formed items ≡ true
 more_formed IsMore.no_more few = refl
@@ -229,6 +236,7 @@ match_whole (IsMatch.matched arms end keyword source) = refl
 
 condition_whole : {a b : List Token} {item : QueryItem} → IsCondition a item b → item_is_whole item ≡ true
 condition_whole (IsCondition.compared left right some) = some
+condition_whole (IsCondition.satisfied keyword argument) = refl
 
 more_whole : {a b : List Token} {items : List QueryItem} → IsMore a items b → list_all item_is_whole items ≡ true
 more_whole IsMore.no_more = refl

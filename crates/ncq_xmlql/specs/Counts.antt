@@ -9,7 +9,7 @@ use Rattle.ncq_xmlql.specs.declared.model.Pattern.{Pattern}
 use Rattle.ncq_xmlql.specs.declared.model.Suffix.{Suffix}
 use Rattle.ncq_xmlql.specs.declared.model.Suffix.TheVariants.{Plain, ElementAs, ContentAs}
 use Rattle.ncq_xmlql.specs.declared.model.QueryItem.{QueryItem}
-use Rattle.ncq_xmlql.specs.declared.model.QueryItem.TheVariants.{Match, Condition}
+use Rattle.ncq_xmlql.specs.declared.model.QueryItem.TheVariants.{Match, Condition, Satisfies}
 
 -- a suffix that binds is a slot
 abbrev pub suffix_slots : Suffix → ℕ
@@ -36,15 +36,18 @@ content_slots = para-Content ℕ ℕ content_layer pattern_layer
 abbrev pub item_arms : QueryItem → ℕ
 item_arms (Match root arms source) = length arms
 item_arms (Condition left op right) = 0
+item_arms (Satisfies variable predicate argument) = 0
 
 -- the slots of all patterns, at every depth
 abbrev pub item_slots : QueryItem → ℕ
 item_slots (Match root arms source) = sum_by pattern_slots arms
 item_slots (Condition left op right) = 0
+item_slots (Satisfies variable predicate argument) = 0
 
 abbrev pub item_conditions : QueryItem → ℕ
 item_conditions (Match root arms source) = 0
 item_conditions (Condition left op right) = 1
+item_conditions (Satisfies variable predicate argument) = 1
 
 abbrev pub arms : List QueryItem → ℕ
 arms items = sum_by item_arms items

@@ -1,6 +1,6 @@
 -- Reading the items of a query: matches and conditions.
-use Rattle.std.specs.Prelude.{ℕ, Bool, true, false, ◌||◌, not, if◌then◌else◌, List, [], ◌∷◌, Some}
-use Rattle.std.specs.Prelude.{None, codes}
+use Rattle.std.specs.Prelude.{ℕ, Bool, true, false, ◌||◌, not, if◌then◌else◌, List, [], ◌∷◌}
+use Rattle.std.specs.Prelude.{Option, Some, None, codes}
 use Rattle.ncq_base.specs.declared.atom.Op.{Op}
 use Rattle.ncq_token.specs.declared.token.Token.{Token}
 use Rattle.ncq_token.specs.declared.token.Token.TheVariants.{Variable, Quoted, Word, Cmp, Comma}
@@ -8,9 +8,9 @@ use Rattle.ncq_xmlql.specs.declared.model.Operand.{Operand}
 use Rattle.ncq_xmlql.specs.declared.model.Operand.TheVariants as operand
 use Rattle.ncq_xmlql.specs.declared.model.Pattern.{Pattern}
 use Rattle.ncq_xmlql.specs.declared.model.QueryItem.{QueryItem}
-use Rattle.ncq_xmlql.specs.declared.model.QueryItem.TheVariants.{Match, Condition}
+use Rattle.ncq_xmlql.specs.declared.model.QueryItem.TheVariants.{Match, Condition, Satisfies}
 use Rattle.ncq_xmlql.specs.Reading.{Read, ◌>>=◌, is_keyword, checked, tag_at, end_close_at, end_at}
-use Rattle.ncq_xmlql.specs.Reading.{starts_tag, many}
+use Rattle.ncq_xmlql.specs.Reading.{lowered, variable_at, starts_tag, many}
 use Rattle.ncq_xmlql.specs.PatternReading.{pattern_at}
 
 abbrev pub literal_at : List Token → Read (List ℕ)
@@ -52,13 +52,50 @@ abbrev pub is_variable : Operand → Bool
 is_variable (operand.Variable x) = true
 is_variable (operand.Literal text) = false
 
-unfoldable pub condition_at : List Token → Read QueryItem
-condition_at tokens = do
+unfoldable pub comparison_at : List Token → Read QueryItem
+comparison_at tokens = do
   left ← operand_at tokens
   op ← op_at left.1
   right ← operand_at op.1
   checked (is_variable left.0 || is_variable right.0)
       (Some (Condition left.0 op.0 right.0, right.1))
+
+abbrev pub starts_satisfies : List Token → Bool
+starts_satisfies ((Word word) ∷ rest) = is_keyword (codes "satisfies") word
+starts_satisfies tokens = false
+
+-- a variable with the word `satisfies` behind it
+abbrev pub asks : List Token → Bool
+asks ((Variable x) ∷ rest) = starts_satisfies rest
+asks tokens = false
+
+-- a word that is passed over, then the name of a predicate in lower case
+abbrev pub predicate_at : List Token → Read (List ℕ)
+predicate_at ((Word word) ∷ (Word name) ∷ rest) = Some (lowered name, rest)
+predicate_at tokens = None
+
+-- whether an argument stands in front
+abbrev pub starts_argument : List Token → Bool
+starts_argument ((Quoted text) ∷ rest) = true
+starts_argument ((Word word) ∷ rest) = not (is_keyword (codes "construct") word)
+starts_argument tokens = false
+
+-- the argument of a predicate, or none: `construct` is none
+abbrev pub value_behind : List Token → Read (Option (List ℕ))
+value_behind ((Quoted text) ∷ rest) = Some (Some text, rest)
+value_behind ((Word word) ∷ rest) = if is_keyword (codes "construct") word
+    then Some (None, Word word ∷ rest) else Some (Some word, rest)
+value_behind tokens = Some (None, tokens)
+
+unfoldable pub satisfies_at : List Token → Read QueryItem
+satisfies_at tokens = do
+  variable ← variable_at tokens
+  predicate ← predicate_at variable.1
+  argument ← value_behind predicate.1
+  Some (Satisfies variable.0 predicate.0 argument.0, argument.1)
+
+abbrev pub condition_at : List Token → Read QueryItem
+condition_at tokens = if asks tokens then satisfies_at tokens else comparison_at tokens
 
 abbrev pub item_at : ℕ → List Token → Read QueryItem
 item_at depth tokens = if starts_tag tokens then match_at depth tokens else condition_at tokens

@@ -9,7 +9,7 @@ use Rattle.ncq_xmlql.specs.declared.model.Content.TheOpen.Content-F.{Parts, Valu
 use Rattle.ncq_xmlql.specs.declared.model.Content.TheFolds.{para-Content, para-Pattern}
 use Rattle.ncq_xmlql.specs.declared.model.Pattern.{Pattern}
 use Rattle.ncq_xmlql.specs.declared.model.QueryItem.{QueryItem}
-use Rattle.ncq_xmlql.specs.declared.model.QueryItem.TheVariants.{Match, Condition}
+use Rattle.ncq_xmlql.specs.declared.model.QueryItem.TheVariants.{Match, Condition, Satisfies}
 
 -- those of each part
 abbrev pub content_layer : Content-F (Content × Bool) (Pattern × Bool) → Bool
@@ -30,6 +30,7 @@ content_paths test = para-Content Bool Bool content_layer (pattern_layer test)
 abbrev pub item_paths : (Path → Bool) → QueryItem → Bool
 item_paths test (Match root arms source) = list_all (pattern_paths test) arms
 item_paths test (Condition left op right) = true
+item_paths test (Satisfies variable predicate argument) = true
 
 abbrev pub all_paths : (Path → Bool) → List QueryItem → Bool
 all_paths test items = list_all (item_paths test) items

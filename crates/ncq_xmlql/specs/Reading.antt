@@ -3,6 +3,7 @@
 use Rattle.std.specs.Prelude.{◌≡◌, ◌++◌, ℕ, zero, suc, Bool, true, false, ◌&&◌, not, if◌then◌else◌}
 use Rattle.std.specs.Prelude.{List, [], ◌∷◌, length, map, Option, Some, None, Result, Ok, Err}
 use Rattle.std.specs.Prelude.{codes}
+use Rattle.std.specs.Char.{to_ascii_lowercase}
 use Rattle.std.specs.List.{list_any}
 use Rattle.std.specs.Option.{option_and_then}
 use Rattle.std.specs.Str.{bytes_eq, str_eq_ignore_ascii_case}
@@ -44,6 +45,10 @@ is_same = bytes_eq
 -- a word, in any case of letters
 abbrev pub is_keyword : List ℕ → List ℕ → Bool
 is_keyword keyword word = str_eq_ignore_ascii_case word keyword
+
+-- a word in lower case
+abbrev pub lowered : List ℕ → List ℕ
+lowered word = map to_ascii_lowercase word
 
 -- the value of an attribute, behind its name
 abbrev pub value_at : List Token → Read Operand

@@ -9,11 +9,11 @@ use Rattle.ncq_xmlql.specs.declared.model.Template.{Template}
 use Rattle.ncq_xmlql.specs.declared.model.Query.{Query}
 use Rattle.ncq_xmlql.specs.declared.model.Statement.{Statement}
 use Rattle.ncq_xmlql.specs.declared.time.Times.{Times}
-use Rattle.ncq_xmlql.specs.Reading.{is_keyword}
+use Rattle.ncq_xmlql.specs.Reading.{is_keyword, lowered}
 use Rattle.ncq_xmlql.specs.ItemGrammar.{IsItems}
 use Rattle.ncq_xmlql.specs.TemplateGrammar.{IsTop}
 use Rattle.ncq_xmlql.specs.Times.{times, AreTimes, is_time_word}
-use Rattle.ncq_xmlql.specs.StatementReading.{lowered, or_zero}
+use Rattle.ncq_xmlql.specs.StatementReading.{or_zero}
 
 -- [Comma]
 pub data IsComma : List Token → List Token → Type 0 where

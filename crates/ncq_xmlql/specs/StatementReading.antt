@@ -1,13 +1,12 @@
 -- Reading a statement from all of its tokens.
-use Rattle.std.specs.Prelude.{ℕ, Bool, true, false, if◌then◌else◌, List, ◌∷◌, length, map, Option}
-use Rattle.std.specs.Prelude.{Some, None, codes}
-use Rattle.std.specs.Char.{to_ascii_lowercase}
+use Rattle.std.specs.Prelude.{ℕ, Bool, true, false, if◌then◌else◌, List, ◌∷◌, length, Option, Some}
+use Rattle.std.specs.Prelude.{None, codes}
 use Rattle.ncq_base.specs.Names.{is_name}
 use Rattle.ncq_token.specs.declared.token.Token.{Token}
 use Rattle.ncq_token.specs.declared.token.Token.TheVariants.{Quoted, Word, Comma}
 use Rattle.ncq_xmlql.specs.declared.model.Query.{Query}
 use Rattle.ncq_xmlql.specs.declared.model.Statement.{Statement}
-use Rattle.ncq_xmlql.specs.Reading.{Read, ◌>>=◌, is_keyword, checked}
+use Rattle.ncq_xmlql.specs.Reading.{Read, ◌>>=◌, is_keyword, lowered, checked}
 use Rattle.ncq_xmlql.specs.ItemReading.{items_at}
 use Rattle.ncq_xmlql.specs.TemplateReading.{top_at}
 use Rattle.ncq_xmlql.specs.Times.{times, times_from, is_time_word}
@@ -46,9 +45,6 @@ query_at depth tokens = do
     record { items = items.0; distinct = (distinct_at behind).0; template = template.0 },
     template.1,
   )
-
-abbrev pub lowered : List ℕ → List ℕ
-lowered word = map to_ascii_lowercase word
 
 abbrev pub action_word_at : List Token → Read (List ℕ)
 action_word_at ((Word word) ∷ rest) = Some (lowered word, rest)

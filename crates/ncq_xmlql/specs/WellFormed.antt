@@ -8,7 +8,7 @@ use Rattle.ncq_xmlql.specs.declared.model.Template.TheOpen.{Template-F}
 use Rattle.ncq_xmlql.specs.declared.model.Template.TheOpen.Template-F.{Variable, Literal, Element}
 use Rattle.ncq_xmlql.specs.declared.model.Template.TheFolds.{para-Template}
 use Rattle.ncq_xmlql.specs.declared.model.QueryItem.{QueryItem}
-use Rattle.ncq_xmlql.specs.declared.model.QueryItem.TheVariants.{Match, Condition}
+use Rattle.ncq_xmlql.specs.declared.model.QueryItem.TheVariants.{Match, Condition, Satisfies}
 use Rattle.ncq_xmlql.specs.declared.model.Statement.{Statement}
 use Rattle.ncq_xmlql.specs.Reading.{all_differ}
 use Rattle.ncq_xmlql.specs.ItemReading.{has_arm, is_variable}
@@ -21,11 +21,13 @@ abbrev pub begins_with_match : List QueryItem → Bool
 begins_with_match [] = false
 begins_with_match ((Match root arms source) ∷ more) = true
 begins_with_match ((Condition left op right) ∷ more) = false
+begins_with_match ((Satisfies variable predicate argument) ∷ more) = false
 
 -- a match has an arm, and a condition a variable
 abbrev pub item_is_whole : QueryItem → Bool
 item_is_whole (Match root arms source) = has_arm arms
 item_is_whole (Condition left op right) = is_variable left || is_variable right
+item_is_whole (Satisfies variable predicate argument) = true
 
 -- each of these names is a PYX name, and none comes twice
 abbrev pub names_are_good : List (List ℕ) → Bool

@@ -1,10 +1,10 @@
 //! The name of a statement, its action, and the keywords between its parts.
 ghost use Rattle.std.specs.Prelude.{◌≡◌, codes, map, IfOk};
 ghost use Rattle.std.specs.Char.{to_ascii_lowercase};
-ghost use Rattle.ncq_xmlql.specs.Reading.{Gives};
+ghost use Rattle.ncq_xmlql.specs.Reading.{Gives, lowered};
 ghost use Rattle.ncq_xmlql.specs.StatementReading.{keyword_at, title_at, head_at, construct_at};
-ghost use Rattle.ncq_xmlql.specs.StatementReading.{distinct_at};
-ghost use Rattle.ncq_xmlql.specs.StatementReading.{lowered, action_word_at, action_at, argument_at};
+ghost use Rattle.ncq_xmlql.specs.StatementReading.{distinct_at, action_word_at, action_at};
+ghost use Rattle.ncq_xmlql.specs.StatementReading.{argument_at};
 
 use crate::keyword::{is_distinct, is_word};
 use crate::mismatch::Mismatch;
@@ -67,7 +67,7 @@ pub(crate) fn distinct_at(tokens: &[Token]) -> (bool, &[Token])
 }
 
 /// The word in lower case.
-fn lowered(alloc: Global, word: &[u8]) -> Result<Bytes, AllocError>
+pub(crate) fn lowered(alloc: Global, word: &[u8]) -> Result<Bytes, AllocError>
     ensures { IfOk result (λ b. b ≡ lowered word.now) }
 {
     let mut lower = Vec::new(alloc);

@@ -1,7 +1,8 @@
 //! The arms, slots and conditions of a query. Each count stops at the greatest `usize`.
-ghost use Rattle.std.specs.Prelude.{◌≡◌, ◌-◌, ◌^◌, min};
+ghost use Rattle.std.specs.Prelude.{◌≡◌, ◌-◌, ◌^◌, min, if◌then◌else◌};
 ghost use Rattle.std.specs.List.{sum_by};
-ghost use Rattle.ncq_xmlql.specs.Counts.{arms, slots, conditions, suffix_slots, content_slots};
+ghost use Rattle.ncq_xmlql.specs.Counts.{arms, slots, conditions, item_conditions, suffix_slots};
+ghost use Rattle.ncq_xmlql.specs.Counts.{content_slots};
 ghost use Rattle.ncq_xmlql.specs.Counts.{pattern_slots};
 
 use crate::model::{Content, Pattern, QueryItem, Suffix};
@@ -48,11 +49,21 @@ pub(crate) fn conditions_of(items: &[QueryItem]) -> usize
 {
     let mut conditions = 0usize;
     for item in items {
-        if let QueryItem::Condition { .. } = item {
+        if is_condition(item) {
             conditions = conditions.saturating_add(1);
         }
     }
     conditions
+}
+
+/// Whether the item is a condition.
+fn is_condition(item: &QueryItem) -> bool
+    ensures { item_conditions item.now ≡ (if result then 1 else 0) }
+{
+    match item {
+        QueryItem::Condition { .. } | QueryItem::Satisfies { .. } => true,
+        QueryItem::Match { .. } => false,
+    }
 }
 
 /// The slots of all of the patterns.

@@ -32,7 +32,7 @@ fn item_is_few(item: &QueryItem) -> bool
             arms,
             source: _,
         } => patterns_are_few(arms.as_slice()),
-        QueryItem::Condition { .. } => true,
+        QueryItem::Condition { .. } | QueryItem::Satisfies { .. } => true,
     }
 }
 

@@ -3,12 +3,15 @@ ghost use Rattle.std.specs.Prelude.{◌≡◌};
 ghost use Rattle.ncq_xmlql.specs.Reading.{Gives, checked, end_at};
 ghost use Rattle.ncq_xmlql.specs.ItemReading.{literal_at, source_at, root_at, match_at, operand_at};
 ghost use Rattle.ncq_xmlql.specs.ItemReading.{op_at, is_variable, has_arm, condition_at, item_at};
+ghost use Rattle.ncq_xmlql.specs.ItemReading.{asks, comparison_at, predicate_at, satisfies_at};
+ghost use Rattle.ncq_xmlql.specs.ItemReading.{starts_satisfies, value_behind};
 ghost use Rattle.ncq_xmlql.specs.ItemReading.{next_item_at, starts_construct, continues, items_at};
 
-use crate::keyword::{is_construct, is_in};
+use crate::action::lowered;
+use crate::keyword::{is_construct, is_in, is_satisfies};
 use crate::mismatch::Mismatch;
 use crate::model::{Operand, Pattern, QueryItem, QueryItems};
-use crate::parts::{end_at, end_close_at, tag_at};
+use crate::parts::{end_at, end_close_at, tag_at, variable_at};
 use crate::pattern::{patterns_at, starts_tag};
 use ncq_base::{Bytes, Copied, Op};
 use ncq_token::Token;
@@ -119,10 +122,86 @@ fn is_variable(operand: &Operand) -> bool
     }
 }
 
+/// Whether the word `satisfies` stands in front.
+fn starts_satisfies(tokens: &[Token]) -> bool
+    ensures { result ≡ starts_satisfies tokens.now }
+{
+    match tokens.split_first() {
+        Some((Token::Word(word), _)) => is_satisfies(word),
+        _ => false,
+    }
+}
+
+/// Whether a variable stands in front, and the word `satisfies` behind it.
+fn asks(tokens: &[Token]) -> bool
+    ensures { result ≡ asks tokens.now }
+{
+    match tokens.split_first() {
+        Some((Token::Variable(_), rest)) => starts_satisfies(rest),
+        _ => false,
+    }
+}
+
+/// The name of a predicate in lower case behind a word, and the tokens behind it.
+fn predicate_at(alloc: Global, tokens: &[Token]) -> Result<(Bytes, &[Token]), Mismatch>
+    ensures { Gives (λ x. (x.0, x.1.now)) result (predicate_at tokens.now) }
+{
+    let Some((Token::Word(_), rest)) = tokens.split_first() else {
+        return Err(Mismatch::NotSpelled);
+    };
+    match rest.split_first() {
+        Some((Token::Word(name), rest)) => Ok((lowered(alloc, name.as_slice())?, rest)),
+        _ => Err(Mismatch::NotSpelled),
+    }
+}
+
+/// The argument of a predicate, if one stands in front, and the tokens behind it.
+fn value_behind(alloc: Global, tokens: &[Token]) -> Result<(Option<Bytes>, &[Token]), Mismatch>
+    ensures { Gives (λ x. (x.0, x.1.now)) result (value_behind tokens.now) }
+{
+    match tokens.split_first() {
+        Some((Token::Quoted(text), rest)) => Ok((Some(text.copy(alloc)?), rest)),
+        Some((Token::Word(word), rest)) if !is_construct(word) => Ok((
+            Some(word.copy(alloc)?),
+            rest,
+        )),
+        _ => Ok((None, tokens)),
+    }
+}
+
+/// The condition that asks a predicate in front, and the tokens behind it.
+#[tactic(auto, unfolding(crate::specs::ItemReading::satisfies_at))]
+fn satisfies_at(alloc: Global, tokens: &[Token]) -> Result<(QueryItem, &[Token]), Mismatch>
+    ensures { Gives (λ x. (x.0, x.1.now)) result (satisfies_at tokens.now) }
+{
+    let (variable, rest) = variable_at(alloc, tokens)?;
+    let (predicate, rest) = predicate_at(alloc, rest)?;
+    let (argument, rest) = value_behind(alloc, rest)?;
+    Ok((
+        QueryItem::Satisfies {
+            variable,
+            predicate,
+            argument,
+        },
+        rest,
+    ))
+}
+
 /// The condition in front, and the tokens behind it.
-#[tactic(auto, unfolding(crate::specs::ItemReading::condition_at))]
 fn condition_at(alloc: Global, tokens: &[Token]) -> Result<(QueryItem, &[Token]), Mismatch>
     ensures { Gives (λ x. (x.0, x.1.now)) result (condition_at tokens.now) }
+{
+    if asks(tokens) {
+        satisfies_at(alloc, tokens)
+    } else {
+        comparison_at(alloc, tokens)
+    }
+}
+
+/// The comparison of two operands in front, and the tokens behind it.
+#[tactic(auto, unfolding(crate::specs::ItemReading::comparison_at))]
+fn comparison_at(alloc: Global, tokens: &[Token]) -> Result<(QueryItem, &[Token]), Mismatch>
+    ensures { Gives (λ x. (x.0, x.1.now)) result (comparison_at tokens.now) }
 {
     let (left, rest) = operand_at(alloc, tokens)?;
     let (op, rest) = op_at(rest)?;

@@ -32,6 +32,13 @@ pub(crate) fn is_construct(word: &Bytes) -> bool
     is_word(word.as_slice(), b"construct")
 }
 
+/// Whether the word is `satisfies`, in any case of letters.
+pub(crate) fn is_satisfies(word: &Bytes) -> bool
+    ensures { result ≡ is_keyword (codes "satisfies") word.now }
+{
+    is_word(word.as_slice(), b"satisfies")
+}
+
 /// Whether the word is `distinct`, in any case of letters.
 pub(crate) fn is_distinct(word: &Bytes) -> bool
     ensures { result ≡ is_keyword (codes "distinct") word.now }

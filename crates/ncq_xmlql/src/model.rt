@@ -58,7 +58,7 @@ pub struct Pattern {
 /// Patterns, in the order in which they are written.
 pub type Patterns = Sequence<Pattern>;
 
-/// An item of a query: patterns under the root of a source, or a comparison.
+/// An item of a query: patterns under the root of a source, a comparison, or a predicate.
 pub enum QueryItem {
     /// The arms are one pattern or more.
     Match {
@@ -71,6 +71,13 @@ pub enum QueryItem {
         left: Operand,
         op: Op,
         right: Operand,
+    },
+    /// The variable satisfies the predicate, whose name is in lower case. The argument is in its
+    /// own case and without quotation marks.
+    Satisfies {
+        variable: Bytes,
+        predicate: Bytes,
+        argument: Option<Bytes>,
     },
 }
 
@@ -85,6 +92,15 @@ impl Drop for QueryItem {
             QueryItem::Condition { left, op: _, right } => {
                 drop(left);
                 drop(right);
+            }
+            QueryItem::Satisfies {
+                variable,
+                predicate,
+                argument,
+            } => {
+                drop(variable);
+                drop(predicate);
+                drop(argument);
             }
         }
     }

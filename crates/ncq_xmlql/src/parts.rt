@@ -142,7 +142,7 @@ fn name_at(alloc: Global, tokens: &[Token]) -> Result<(Bytes, &[Token]), Mismatc
 }
 
 /// The variable in front, and the tokens behind it.
-fn variable_at(alloc: Global, tokens: &[Token]) -> Result<(Bytes, &[Token]), Mismatch>
+pub(crate) fn variable_at(alloc: Global, tokens: &[Token]) -> Result<(Bytes, &[Token]), Mismatch>
     ensures { Gives (λ x. (x.0, x.1.now)) result (variable_at tokens.now) }
 {
     match tokens.split_first() {

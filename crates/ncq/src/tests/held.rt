@@ -1,7 +1,7 @@
 //! How many signed rows the files have while quotes change again and again.
 
 ghost use Rattle.std.specs.Prelude.{◌≡◌, ◌<◌, IfOk};
-ghost use Rattle.ncq_callback.specs.Labels.{labels};
+ghost use Rattle.ncq_callback.specs.Labels.{handed_in};
 ghost use Rattle.ncq_script.specs.Proper.{IsProperCommand};
 
 use super::{OneSeed, SOURCE, WATCH};
@@ -62,9 +62,10 @@ fn answer<L: Ledger>(
     most: u64,
 )
     requires proper { IsProperCommand command.now }
-    requires handlers { engine.old.labels
-        ≡ (labels handlers.now.items.items (λ h. h.name) (λ h. h.kind)) }
-    ensures labels { engine.new.labels ≡ engine.old.labels }
+    requires handlers { engine.old.handed
+        ≡ (handed_in handlers.now.items.items (λ h. h.name) (λ h. h.kind)
+        handlers.now.predicates.items (λ p. p.name) (λ p. p.relation)) }
+    ensures handed { engine.new.handed ≡ engine.old.handed }
 {
     assert!(rt; engine.count() < MAX_COMMANDS);
     let mut text = Vec::new(alloc);
@@ -96,9 +97,10 @@ fn give<L: Ledger>(
     steps: &mut Steps<L>,
     most: u64,
 ) -> Result<(), AllocError>
-    requires { engine.old.labels
-        ≡ (labels handlers.now.items.items (λ h. h.name) (λ h. h.kind)) }
-    ensures { engine.new.labels ≡ engine.old.labels }
+    requires { engine.old.handed
+        ≡ (handed_in handlers.now.items.items (λ h. h.name) (λ h. h.kind)
+        handlers.now.predicates.items (λ p. p.name) (λ p. p.relation)) }
+    ensures { engine.new.handed ≡ engine.old.handed }
 {
     let command = command_of(rt, alloc, text)?;
     answer(rt, alloc, engine, &command, handlers, steps, most);
@@ -114,9 +116,10 @@ fn turns<L: Ledger>(
     handlers: &Handlers,
     steps: &mut Steps<L>,
 ) -> Result<(), AllocError>
-    requires { engine.old.labels
-        ≡ (labels handlers.now.items.items (λ h. h.name) (λ h. h.kind)) }
-    ensures { engine.new.labels ≡ engine.old.labels }
+    requires { engine.old.handed
+        ≡ (handed_in handlers.now.items.items (λ h. h.name) (λ h. h.kind)
+        handlers.now.predicates.items (λ p. p.name) (λ p. p.relation)) }
+    ensures { engine.new.handed ≡ engine.old.handed }
 {
     for _ in 0..count {
         give(rt, alloc, engine, PUT_1, handlers, steps, MAX_ROWS)?;
@@ -190,8 +193,9 @@ fn periods<L: Ledger>(
     handlers: &Handlers,
     steps: &mut Steps<L>,
 ) -> Result<(), AllocError>
-    requires { engine.old.labels
-        ≡ (labels handlers.now.items.items (λ h. h.name) (λ h. h.kind)) }
+    requires { engine.old.handed
+        ≡ (handed_in handlers.now.items.items (λ h. h.name) (λ h. h.kind)
+        handlers.now.predicates.items (λ p. p.name) (λ p. p.relation)) }
 {
     for period in 1..41u64 {
         turns(rt, alloc, engine, 4, handlers, steps)?;
@@ -273,9 +277,10 @@ fn watch_all<L: Ledger>(
     handlers: &Handlers,
     steps: &mut Steps<L>,
 ) -> Result<(), AllocError>
-    requires { engine.old.labels
-        ≡ (labels handlers.now.items.items (λ h. h.name) (λ h. h.kind)) }
-    ensures { engine.new.labels ≡ engine.old.labels }
+    requires { engine.old.handed
+        ≡ (handed_in handlers.now.items.items (λ h. h.name) (λ h. h.kind)
+        handlers.now.predicates.items (λ p. p.name) (λ p. p.relation)) }
+    ensures { engine.new.handed ≡ engine.old.handed }
 {
     for quote in 0..QUOTES {
         let text = watch(alloc, quote)?;
@@ -301,9 +306,10 @@ fn put_all<L: Ledger>(
     handlers: &Handlers,
     steps: &mut Steps<L>,
 ) -> Result<(), AllocError>
-    requires { engine.old.labels
-        ≡ (labels handlers.now.items.items (λ h. h.name) (λ h. h.kind)) }
-    ensures { engine.new.labels ≡ engine.old.labels }
+    requires { engine.old.handed
+        ≡ (handed_in handlers.now.items.items (λ h. h.name) (λ h. h.kind)
+        handlers.now.predicates.items (λ p. p.name) (λ p. p.relation)) }
+    ensures { engine.new.handed ≡ engine.old.handed }
 {
     for quote in 0..QUOTES {
         let text = put(alloc, quote, price)?;
@@ -328,8 +334,9 @@ fn rounds<L: Ledger>(
     handlers: &Handlers,
     steps: &mut Steps<L>,
 ) -> Result<(), AllocError>
-    requires { engine.old.labels
-        ≡ (labels handlers.now.items.items (λ h. h.name) (λ h. h.kind)) }
+    requires { engine.old.handed
+        ≡ (handed_in handlers.now.items.items (λ h. h.name) (λ h. h.kind)
+        handlers.now.predicates.items (λ p. p.name) (λ p. p.relation)) }
 {
     for round in 0..ROUNDS {
         put_all(rt, alloc, engine, round, handlers, steps)?;

@@ -1,7 +1,7 @@
 //! What the engine keeps of what it told, and who is told it again.
 
 ghost use Rattle.std.specs.Prelude.{◌≡◌, ◌<◌};
-ghost use Rattle.ncq_callback.specs.Labels.{labels};
+ghost use Rattle.ncq_callback.specs.Labels.{handed_in};
 ghost use Rattle.ncq_script.specs.Proper.{IsProperCommand};
 
 use super::held::{command_of, printing};
@@ -87,9 +87,10 @@ fn answer<L: Ledger>(
     steps: &mut Steps<L>,
 ) -> Vec<u8>
     requires proper { IsProperCommand command.now }
-    requires handlers { engine.old.labels
-        ≡ (labels handlers.now.items.items (λ h. h.name) (λ h. h.kind)) }
-    ensures labels { engine.new.labels ≡ engine.old.labels }
+    requires handlers { engine.old.handed
+        ≡ (handed_in handlers.now.items.items (λ h. h.name) (λ h. h.kind)
+        handlers.now.predicates.items (λ p. p.name) (λ p. p.relation)) }
+    ensures handed { engine.new.handed ≡ engine.old.handed }
 {
     assert!(rt; engine.count() < MAX_COMMANDS);
     let mut text = Vec::new(alloc);
@@ -107,9 +108,10 @@ fn give<L: Ledger>(
     handlers: &Handlers,
     steps: &mut Steps<L>,
 ) -> Result<(), AllocError>
-    requires { engine.old.labels
-        ≡ (labels handlers.now.items.items (λ h. h.name) (λ h. h.kind)) }
-    ensures { engine.new.labels ≡ engine.old.labels }
+    requires { engine.old.handed
+        ≡ (handed_in handlers.now.items.items (λ h. h.name) (λ h. h.kind)
+        handlers.now.predicates.items (λ p. p.name) (λ p. p.relation)) }
+    ensures { engine.new.handed ≡ engine.old.handed }
 {
     let (text, wanted, kept) = *turn;
     let command = command_of(rt, alloc, text.as_bytes())?;

@@ -5,7 +5,7 @@ use super::shown::add_query;
 use super::{expect_bytes, joined};
 use ncq_base::bytes_of;
 use ncq_bind::{BindError, bind};
-use ncq_plan::NormalQuery;
+use ncq_plan::{NormalQuery, Predicates};
 use ncq_source::{Key, Store};
 use ncq_xmlql::{Statement, parse_statement};
 use std::alloc::{AllocError, Global};
@@ -48,19 +48,29 @@ fn refusal(error: BindError) -> Result<&'static str, AllocError> {
 }
 
 /// What a statement means, or why it means nothing.
-fn meaning(alloc: Global, store: &Store, statement: &Statement) -> Result<Vec<u8>, AllocError>
+fn meaning(
+    alloc: Global,
+    store: &Store,
+    predicates: &Predicates,
+    statement: &Statement,
+) -> Result<Vec<u8>, AllocError>
     requires { IsWellFormed statement.now }
 {
-    match bind(alloc, statement, store) {
+    match bind(alloc, statement, store, predicates) {
         Ok(query) => text_of(alloc, &query),
         Err(error) => joined(alloc, &[refusal(error)?]),
     }
 }
 
 /// The normal query of the statement, or why it has none.
-fn answer(alloc: Global, store: &Store, text: &[u8]) -> Result<Vec<u8>, Fail> {
+fn answer(
+    alloc: Global,
+    store: &Store,
+    predicates: &Predicates,
+    text: &[u8],
+) -> Result<Vec<u8>, Fail> {
     let statement = parse_statement(alloc, text)?;
-    Ok(meaning(alloc, store, &statement)?)
+    Ok(meaning(alloc, store, predicates, &statement)?)
 }
 
 /// The statement of this text has this normal query.
@@ -68,17 +78,33 @@ fn expect_answer(
     rt: &impl Abort,
     alloc: Global,
     store: &Store,
+    predicates: &Predicates,
     text: &[&str],
     want: &[&str],
 ) -> Result<(), Fail> {
     let text = joined(alloc, text)?;
     let want = joined(alloc, want)?;
-    let got = answer(alloc, store, text.as_slice())?;
+    let got = answer(alloc, store, predicates, text.as_slice())?;
     expect_bytes(rt, got.as_slice(), want.as_slice(), "");
     Ok(())
 }
 
-/// Each query has its normal query.
+/// Each query has its normal query, where these predicates are handed in.
+pub(super) fn expect_each(
+    rt: &impl Abort,
+    alloc: Global,
+    store: &Store,
+    predicates: &Predicates,
+    cases: &[(&str, &str)],
+) -> Result<(), Fail> {
+    for (query, want) in cases {
+        let text = ["create x where ", query, " do print"];
+        expect_answer(rt, alloc, store, predicates, &text, &[want])?;
+    }
+    Ok(())
+}
+
+/// Each query has its normal query, where no predicate is handed in.
 fn expect_answers(
     rt: &impl Abort,
     alloc: Global,
@@ -86,11 +112,8 @@ fn expect_answers(
     cases: &[(&str, &str)],
 ) -> Result<(), Fail> {
     let store = sources(alloc, seed)?;
-    for (query, want) in cases {
-        let text = ["create x where ", query, " do print"];
-        expect_answer(rt, alloc, &store, &text, &[want])?;
-    }
-    Ok(())
+    let predicates = Predicates::new(alloc);
+    expect_each(rt, alloc, &store, &predicates, cases)
 }
 
 const STATEMENTS: &[(&str, &str)] = &[
@@ -267,6 +290,11 @@ const REFUSALS: &[(&str, &str)] = &[
         "no source",
     ),
     ("<Q><Quote>$q</></> in quotes, $h = 5 construct $h", "root"),
+    // no predicate is handed in
+    (
+        "<Quotes><Quote>$q</></> in quotes, $q satisfies starts A construct $q",
+        "unbound",
+    ),
 ];
 
 #[test]
@@ -320,17 +348,19 @@ const CONDITIONS: &[(&str, &str)] = &[
     ),
 ];
 
-fn expect_conditions(
+/// Each list of conditions has its normal query.
+pub(super) fn expect_conditions(
     rt: &impl Abort,
     alloc: Global,
     store: &Store,
+    predicates: &Predicates,
     cases: &[(&str, &str)],
 ) -> Result<(), Fail> {
     let front = "create x where <Quotes><Quote><Symbol>$s</><Price>$p</></></> in quotes, ";
     for (conditions, want) in cases {
         let text = [front, conditions, " construct $p do print"];
         let want = ["quotes:Quote(Symbol=Price=)", want, "#1"];
-        expect_answer(rt, alloc, store, &text, &want)?;
+        expect_answer(rt, alloc, store, predicates, &text, &want)?;
     }
     Ok(())
 }
@@ -338,7 +368,8 @@ fn expect_conditions(
 #[test]
 fn conditions_stand_where_they_are_met(rt: HostRuntime) -> Result<(), Fail> {
     let store = sources(rt.alloc(), RandomState::new(&rt)?)?;
-    expect_conditions(&rt, rt.alloc(), &store, CONDITIONS)
+    let predicates = Predicates::new(rt.alloc());
+    expect_conditions(&rt, rt.alloc(), &store, &predicates, CONDITIONS)
 }
 
 /// 8 arms with 64 slots together, and 32 conditions.

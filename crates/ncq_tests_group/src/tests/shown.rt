@@ -1,12 +1,13 @@
 //! Normal queries as texts.
 //!
 //! An arm is its source and its shape, then ` 0="A"` for a slot with a constant, ` 1 in [2,3)` for
-//! a slot in an interval and ` 0~1` for a pair. A test compares a slot, as `#0`, with a slot or a
-//! constant. A template shows a slot as `#0` and a text in single quotation marks.
+//! a slot in an interval and ` 0~1` for a pair. A check compares a slot, as `#0`, with a slot or a
+//! constant, or asks a predicate of it, as `#0 satisfies starts "A"`. A template shows a slot as
+//! `#0` and a text in single quotation marks.
 
 use ncq_base::{Bytes, End, Interval, Op, write_atom, write_decimal, write_number};
 use ncq_path::write_path;
-use ncq_plan::{Arm, NormalQuery, Side, SlotTemplate, SlotText, Test};
+use ncq_plan::{Arm, Check, NormalQuery, Side, SlotTemplate, SlotText, Test};
 use ncq_row::{Shape, ShapeContent, ShapeSuffix};
 use std::alloc::AllocError;
 
@@ -135,6 +136,21 @@ fn add_test(out: &mut Vec<u8>, test: &Test) -> Result<(), AllocError> {
     }
 }
 
+fn add_check(out: &mut Vec<u8>, check: &Check) -> Result<(), AllocError> {
+    match check {
+        Check::Compare(test) => add_test(out, test),
+        Check::Satisfies {
+            slot,
+            predicate,
+            argument,
+        } => {
+            add_slot(out, "#", *slot)?;
+            add_bytes(out, " satisfies ", predicate, " ")?;
+            write_atom(argument, out)
+        }
+    }
+}
+
 #[cycle(templates)]
 fn add_template(out: &mut Vec<u8>, template: &SlotTemplate) -> Result<(), AllocError> {
     match template {
@@ -167,14 +183,14 @@ fn add_templates(out: &mut Vec<u8>, templates: &[SlotTemplate]) -> Result<(), Al
     add(out, ")>")
 }
 
-/// The arms, each with `; ` behind it, the tests likewise, and the template.
+/// The arms, each with `; ` behind it, the checks likewise, and the template.
 pub(super) fn add_query(out: &mut Vec<u8>, query: &NormalQuery) -> Result<(), AllocError> {
     for arm in query.arms.as_slice() {
         add_arm(out, arm)?;
         add(out, "; ")?;
     }
-    for test in query.residual.as_slice() {
-        add_test(out, test)?;
+    for check in query.residual.as_slice() {
+        add_check(out, check)?;
         add(out, "; ")?;
     }
     add_template(out, &query.template)

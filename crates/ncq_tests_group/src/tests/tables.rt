@@ -13,7 +13,7 @@ use super::queries::sources;
 use ncq_base::{FileId, Lines, Steps, bytes_of, is_line};
 use ncq_bind::bind;
 use ncq_group::GroupTable;
-use ncq_plan::{NormalQuery, plan};
+use ncq_plan::{NormalQuery, Predicates, plan};
 use ncq_pyx::{Items, read_block};
 use ncq_source::{Change, Section, Sections, Store};
 use ncq_xmlql::parse_statement;
@@ -158,7 +158,8 @@ fn query_of(alloc: Global, store: &Store, text: &str) -> Result<NormalQuery, Fai
     ensures { IfOk result IsWellFormed }
 {
     let statement = parse_statement(alloc, text.as_bytes())?;
-    Ok(bind(alloc, &statement, store)?)
+    let predicates = Predicates::new(alloc);
+    Ok(bind(alloc, &statement, store, &predicates)?)
 }
 
 /// The store has no change yet.

@@ -6,7 +6,7 @@ use super::plans::{paired_quotes, priced_quotes};
 use ncq_base::{Bytes, FileId, Sequence, Shared, bytes_of};
 use ncq_book::{Book, Subscription};
 use ncq_event::{Firings, Timing};
-use ncq_plan::{Arms, Expr, NormalQuery, SlotTemplate, Tests, bare};
+use ncq_plan::{Arms, Checks, Expr, NormalQuery, SlotTemplate, bare};
 use ncq_strategy::Choice;
 use std::alloc::{AllocError, Global};
 use std::hash::RandomState;
@@ -104,7 +104,7 @@ const EXPIRED: &[(u64, &[u64])] = &[
 fn any_query(alloc: Global) -> NormalQuery {
     NormalQuery {
         arms: Arms::new(alloc),
-        residual: Tests::new(alloc),
+        residual: Checks::new(alloc),
         template: SlotTemplate::Slot(0),
     }
 }

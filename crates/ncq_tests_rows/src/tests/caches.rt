@@ -5,7 +5,7 @@ use super::making::{some_row, text_template};
 use ncq_base::{FileId, Op, atom_of};
 use ncq_cache::{NoticeCache, NoticeKey};
 use ncq_callback::{Entries, Gather};
-use ncq_plan::{Side, Test, Tests};
+use ncq_plan::{Check, Checks, Predicates, Side, Test};
 use ncq_row::Row;
 use std::alloc::{AllocError, Global};
 use std::ops::Range;
@@ -66,17 +66,17 @@ const STEPS: &[(Step, usize)] = &[
     (Step::Take(KEY, Some("-a\n")), 0),
 ];
 
-/// The tests that the first slot is none of the texts.
-fn tests(alloc: Global, texts: &[&str]) -> Result<Tests, AllocError> {
-    let mut tests = Tests::new(alloc);
+/// The checks that the first slot is none of the texts.
+fn checks(alloc: Global, texts: &[&str]) -> Result<Checks, AllocError> {
+    let mut checks = Checks::new(alloc);
     for text in texts {
-        tests.push(Test {
+        checks.push(Check::Compare(Test {
             op: Op::Ne,
             left: 0,
             right: Side::Constant(atom_of(alloc, text.as_bytes())?),
-        })?;
+        }))?;
     }
-    Ok(tests)
+    Ok(checks)
 }
 
 /// The key of these parts, made anew.
@@ -84,7 +84,7 @@ fn key_of(alloc: Global, key: &Key) -> Result<NoticeKey, AllocError> {
     let (file, texts, text, mark, change) = *key;
     Ok(NoticeKey {
         file: FileId(file),
-        residual: tests(alloc, texts)?,
+        residual: checks(alloc, texts)?,
         template: text_template(alloc, text)?,
         mark,
         change,
@@ -95,7 +95,14 @@ fn key_of(alloc: Global, key: &Key) -> Result<NoticeKey, AllocError> {
 fn entries_of(alloc: Global, row: &Row, text: &str) -> Result<Entries, AllocError> {
     let template = text_template(alloc, text)?;
     let mut gather = Gather::new(alloc);
-    gather.take(alloc, &Tests::new(alloc), &template, row, true)?;
+    gather.take(
+        alloc,
+        &Checks::new(alloc),
+        &Predicates::new(alloc),
+        &template,
+        row,
+        true,
+    )?;
     gather.finish(alloc)
 }
 

@@ -7,7 +7,7 @@ use super::making::{some_row, text_template};
 use ncq_bag::Difference;
 use ncq_callback::{Entries, Gather};
 use ncq_distinct::DistinctTable;
-use ncq_plan::Tests;
+use ncq_plan::{Checks, Predicates};
 use ncq_row::Row;
 use std::alloc::{AllocError, Global};
 use std::hash::RandomState;
@@ -119,7 +119,14 @@ fn take(alloc: Global, gather: &mut Gather, row: &Row, entry: &Entry) -> Result<
         if gather.takes() >= Gather::MOST_TAKES {
             return Err(AllocError);
         }
-        gather.take(alloc, &Tests::new(alloc), &template, row, *gain)?;
+        gather.take(
+            alloc,
+            &Checks::new(alloc),
+            &Predicates::new(alloc),
+            &template,
+            row,
+            *gain,
+        )?;
     }
     Ok(())
 }

@@ -3,7 +3,7 @@
 //! The query has a row of each letter but `x`.
 ghost use Rattle.std.specs.Prelude.{◌≡◌, ◌<◌, true, length, IfOk};
 ghost use Rattle.std.specs.List.{AllByRecursion, list_all};
-ghost use Rattle.ncq_plan.specs.Residuals.{tests_are_within};
+ghost use Rattle.ncq_plan.specs.Residuals.{checks_are_within};
 ghost use Rattle.ncq_plan.specs.Templates.{template_is_within};
 ghost use Rattle.ncq_plan.specs.WellFormed.{arms_width, equals_in, ranges_in, ArmsFit};
 ghost use Rattle.ncq_plan.specs.WellFormed.{arm_is_formed, IsWellFormed};
@@ -18,8 +18,8 @@ use ncq_callback::Entries;
 use ncq_midfile::{MidFile, RangeFile, View};
 use ncq_news::news;
 use ncq_plan::{
-    Arm, Arms, EqualTos, NormalQuery, Pairs, Side, SlotAttributes, SlotTemplate, SlotTemplates,
-    Test, Tests, Withins,
+    Arm, Arms, Check, Checks, EqualTos, NormalQuery, Pairs, Predicates, Side, SlotAttributes,
+    SlotTemplate, SlotTemplates, Test, Withins,
 };
 use std::alloc::{AllocError, Global};
 use std::marker::Brand;
@@ -134,16 +134,16 @@ fn template(alloc: Global) -> Result<SlotTemplate, AllocError>
 }
 
 /// Each letter but `x`.
-fn tests(alloc: Global) -> Result<Tests, AllocError>
-    ensures { IfOk result (λ t. tests_are_within 1 t ≡ true) }
+fn checks(alloc: Global) -> Result<Checks, AllocError>
+    ensures { IfOk result (λ checks. checks_are_within 1 checks ≡ true) }
 {
-    let mut tests = Tests::new(alloc);
-    tests.push(Test {
+    let mut checks = Checks::new(alloc);
+    checks.push(Check::Compare(Test {
         op: Op::Ne,
         left: 0,
         right: Side::Constant(atom_of(alloc, b"x")?),
-    })?;
-    Ok(tests)
+    }))?;
+    Ok(checks)
 }
 
 /// One arm, of all letters.
@@ -173,7 +173,7 @@ fn query(alloc: Global) -> Result<NormalQuery, AllocError>
 {
     Ok(NormalQuery {
         arms: arms(alloc)?,
-        residual: tests(alloc)?,
+        residual: checks(alloc)?,
         template: template(alloc)?,
     })
 }
@@ -187,7 +187,7 @@ fn told(alloc: Global, view: &View<'_>, mark: Option<u64>, now: u64) -> Result<E
     if view.base() != 0 || view.last() > now {
         return Err(AllocError);
     }
-    news(alloc, &query, view, mark, now)
+    news(alloc, &query, &Predicates::new(alloc), view, mark, now)
 }
 
 /// Whether the entries are these, with their sign and count.

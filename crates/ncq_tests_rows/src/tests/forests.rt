@@ -8,7 +8,8 @@ use super::making::{element_with, rows_of, shape_with, text_node, value_shapes};
 use ncq_base::{Op, atom_of, bytes_of};
 use ncq_construct::{answer_bytes, build, passes};
 use ncq_plan::{
-    Side, SlotAttribute, SlotAttributes, SlotTemplate, SlotTemplates, SlotText, Test, Tests,
+    Check, Checks, Predicates, Side, SlotAttribute, SlotAttributes, SlotTemplate, SlotTemplates,
+    SlotText, Test,
 };
 use ncq_pyx::write_forest;
 use ncq_row::{Names, Row, Rows, Shape, ShapeSuffix};
@@ -288,9 +289,9 @@ fn passes_one(
     if left >= row.len() || !within {
         return Ok(false);
     }
-    let mut tests = Tests::new(alloc);
-    tests.push(Test { op, left, right })?;
-    Ok(passes(&tests, row))
+    let mut checks = Checks::new(alloc);
+    checks.push(Check::Compare(Test { op, left, right }))?;
+    Ok(passes(&checks, row, &Predicates::new(alloc)))
 }
 
 /// Tests of a slot and a constant, and whether the row passes them.
@@ -330,9 +331,9 @@ fn expect_slots(rt: &impl Abort, alloc: Global, row: &Row) -> Result<(), AllocEr
     Ok(())
 }
 
-/// The row passes no test at all, and each of the tests or not as was worked out.
+/// The row passes where nothing is asked, and each of the tests or not as was worked out.
 fn expect_passes(rt: &impl Abort, alloc: Global, row: &Row) -> Result<(), AllocError> {
-    assert!(rt; passes(&Tests::new(alloc), row));
+    assert!(rt; passes(&Checks::new(alloc), row, &Predicates::new(alloc)));
     expect_constants(rt, alloc, row)?;
     expect_slots(rt, alloc, row)
 }

@@ -11,7 +11,7 @@ use super::making::{shape_with, value_shape};
 use super::signatures::text;
 use ncq_base::{Atom, bytes_of, write_atom};
 use ncq_plan::{
-    Arm, Arms, EqualTo, EqualTos, Expr, NormalQuery, Pair, Pairs, SlotTemplate, Tests, Withins,
+    Arm, Arms, Checks, EqualTo, EqualTos, Expr, NormalQuery, Pair, Pairs, SlotTemplate, Withins,
     bare, plan, plan_late,
 };
 use ncq_row::{Names, ShapeSuffix, Shapes};
@@ -51,7 +51,7 @@ fn query(alloc: Global, arms: Arms) -> Result<NormalQuery, AllocError>
 {
     Ok(NormalQuery {
         arms,
-        residual: Tests::new(alloc),
+        residual: Checks::new(alloc),
         template: SlotTemplate::Text(bytes_of(alloc, b"")?),
     })
 }

@@ -111,7 +111,7 @@ fn mark_of(op: Op) -> &'static str {
     }
 }
 
-/// `root(patterns) in source; ` or `left op right; `.
+/// `root(patterns) in source; `, `left op right; `, or `$x satisfies predicate 'argument'; `.
 fn show_item(out: &mut Vec<u8>, item: &QueryItem) -> Result<(), AllocError> {
     match item {
         QueryItem::Match { root, arms, source } => {
@@ -123,6 +123,18 @@ fn show_item(out: &mut Vec<u8>, item: &QueryItem) -> Result<(), AllocError> {
             show_operand(out, left)?;
             out.extend_from_slice(mark_of(*op).as_bytes())?;
             show_operand(out, right)?;
+            out.extend_from_slice(b"; ")
+        }
+        QueryItem::Satisfies {
+            variable,
+            predicate,
+            argument,
+        } => {
+            show_bytes(out, "$", variable, " satisfies ")?;
+            show_bytes(out, "", predicate, "")?;
+            if let Some(text) = argument {
+                show_bytes(out, " '", text, "'")?;
+            }
             out.extend_from_slice(b"; ")
         }
     }
@@ -407,6 +419,7 @@ const PATTERNS: &[Pair] = &[
         "R(<a()>) in q; S(<b()>) in r; -> $x do x every 0",
     ),
     ("<R></> in q construct $x do x", "none"),
+    ("$x satisfies p, <R><a/></> in q construct $x do x", "none"),
     ("<R/> in q construct $x do x", "none"),
     ("<R b=\"1\"><a/></> in q construct $x do x", "none"),
     ("<R><a></b></> in q construct $x do x", "none"),
@@ -472,6 +485,94 @@ fn conditions_and_templates(rt: HostRuntime) -> Result<(), Fail> {
         "create w where <R><a/></> in q",
         "w: R(<a()>) in q; ",
         CONDITIONS_AND_TEMPLATES,
+    )?;
+    Ok(())
+}
+
+const PREDICATES: &[Pair] = &[
+    (
+        ", $s satisfies starts \"IN\" construct $s do x",
+        "$s satisfies starts 'IN'; -> $s do x every 0",
+    ),
+    (
+        ", $s SATISFIES Starts in construct $s do x",
+        "$s satisfies starts 'in'; -> $s do x every 0",
+    ),
+    (
+        ", $p satisfies multiple 5 construct $s do x",
+        "$p satisfies multiple '5'; -> $s do x every 0",
+    ),
+    (
+        ", $s satisfies starts \"\" construct $s do x",
+        "$s satisfies starts ''; -> $s do x every 0",
+    ),
+    (
+        ", $s satisfies known construct $s do x",
+        "$s satisfies known; -> $s do x every 0",
+    ),
+    (
+        ", $s satisfies known, construct $s do x",
+        "$s satisfies known; -> $s do x every 0",
+    ),
+    (
+        ", $s satisfies known, $s = 1 construct $s do x",
+        "$s satisfies known; $s = '1'; -> $s do x every 0",
+    ),
+    (
+        ", $s satisfies KNOWN, <S><b/></> in r, $t satisfies starts \"a b\", construct $s do x",
+        "$s satisfies known; S(<b()>) in r; $t satisfies starts 'a b'; -> $s do x every 0",
+    ),
+    // Words of the grammar, where it does not ask for them.
+    (
+        ", $s satisfies starts \"construct\" construct $s do x",
+        "$s satisfies starts 'construct'; -> $s do x every 0",
+    ),
+    (
+        ", $s satisfies starts Distinct construct $s do x",
+        "$s satisfies starts 'Distinct'; -> $s do x every 0",
+    ),
+    (
+        ", $s satisfies construct construct $s do x",
+        "$s satisfies construct; -> $s do x every 0",
+    ),
+    (
+        ", $satisfies satisfies satisfies Satisfies construct $s do x",
+        "$satisfies satisfies satisfies 'Satisfies'; -> $s do x every 0",
+    ),
+    (
+        ", $satisfies = satisfies, satisfies = $s construct $s do x",
+        "$satisfies = 'satisfies'; 'satisfies' = $s; -> $s do x every 0",
+    ),
+    (
+        ", $s satisfies known construct distinct $s do x",
+        "$s satisfies known; -> once $s do x every 0",
+    ),
+    (", \"x\" satisfies p construct $s do x", "none"),
+    (", x satisfies p construct $s do x", "none"),
+    (", $s satisfies construct $s do x", "none"),
+    (", $s satisfies, construct $s do x", "none"),
+    (", $s satisfies \"p\" construct $s do x", "none"),
+    (", $s satisfies $p construct $s do x", "none"),
+    (", $s satisfies = 1 construct $s do x", "none"),
+    (", $s satisfies p $t construct $s do x", "none"),
+    (", $s satisfies p a b construct $s do x", "none"),
+    (", $s satisfies p \"a\" \"b\" construct $s do x", "none"),
+    (", $s satisfies p construct construct $s do x", "none"),
+    (", $s satisfies p a = 1 construct $s do x", "none"),
+    (", $s \"satisfies\" p construct $s do x", "none"),
+    (", $s satisfy p construct $s do x", "none"),
+    (", satisfies $s p construct $s do x", "none"),
+    (" $s satisfies p construct $s do x", "none"),
+];
+
+#[test]
+fn predicates(rt: HostRuntime) -> Result<(), Fail> {
+    expect_behind(
+        &rt,
+        rt.alloc(),
+        "create w where <R><a>$s</></> in q",
+        "w: R(<a=$s>) in q; ",
+        PREDICATES,
     )?;
     Ok(())
 }
@@ -618,6 +719,51 @@ const LIMITS: &[(Repeated, &str)] = &[
             (", $x = 1", ""),
             33,
             (" construct $x do x", ""),
+        ),
+        "limit conditions",
+    ),
+    (
+        (
+            "create w where <R><a/></> in q",
+            (", $x satisfies p", ""),
+            32,
+            (" construct $x do x", ""),
+        ),
+        "statement",
+    ),
+    (
+        (
+            "create w where <R><a/></> in q",
+            (", $x satisfies p", ""),
+            33,
+            (" construct $x do x", ""),
+        ),
+        "limit conditions",
+    ),
+    (
+        (
+            "create w where <R><a/></> in q",
+            (", $x satisfies p 1, $x = 1", ""),
+            16,
+            (", construct $x do x", ""),
+        ),
+        "statement",
+    ),
+    (
+        (
+            "create w where <R><a/></> in q",
+            (", $x satisfies p 1, $x = 1", ""),
+            16,
+            (", $x satisfies \"p\" construct $x do x", ""),
+        ),
+        "none",
+    ),
+    (
+        (
+            "create w where <R><a/></> in q",
+            (", $x satisfies p 1, $x = 1", ""),
+            16,
+            (", $x satisfies p construct $x do x", ""),
         ),
         "limit conditions",
     ),

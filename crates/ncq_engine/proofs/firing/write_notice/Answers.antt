@@ -2,7 +2,7 @@ use Rattle.std.proofs.Common.{◌≡◌, ◌∙◌, ◌++◌, length, refl, rule
 use Rattle.std.specs.Prelude.{◌==◌}
 use Rattle.std.proofs.Math.Seq.{take-length}
 use Rattle.std.proofs.lemmas.Result.{on_ok_weaker}
-use Rattle.ncq_callback.specs.Labels.{labels}
+use Rattle.ncq_callback.specs.Labels.{handed_in}
 use Rattle.ncq_engine.specs.Engines.{entries_text}
 use Rattle.ncq_engine.proofs.GivenUp.{front_of}
 use Rattle.ncq_engine.proofs.KeptLaws.{on_any, span_none, span_some, text_none, text_some}
@@ -16,17 +16,17 @@ returns-then-is_empty g c =
     let entries = c.args.notice.now.entries in
     let count = (λ i. length (sym c.as_slice.ensures i) == 0) ∙ sym c.is_empty.ensures in
     record {
-      text = text_none _ m c.requires.action c.args.instant entries c.args.out.now.items c.args.out.now.items (count ∙ c.if-is_empty.true) refl;
+      text = text_none (handed_in c.args.handlers.now.items.items (λ h. h.name) (λ h. h.kind) c.args.handlers.now.predicates.items (λ p. p.name) (λ p. p.relation)) m c.requires.action c.args.instant entries c.args.out.now.items c.args.out.now.items (count ∙ c.if-is_empty.true) refl;
       front = take-length c.args.out.now.items;
-      span = span_none _ m c.requires.action c.args.instant entries (length c.args.out.now.items) c.args.spans.now (count ∙ c.if-is_empty.true);
+      span = span_none (handed_in c.args.handlers.now.items.items (λ h. h.name) (λ h. h.kind) c.args.handlers.now.predicates.items (λ p. p.name) (λ p. p.relation)) m c.requires.action c.args.instant entries (length c.args.out.now.items) c.args.spans.now (count ∙ c.if-is_empty.true);
       entries = refl;
     }
 
 -- the handler wrote the notice
 written : (g : Over) (c : In_ok-call g) → c.call.new.out.items
-    ≡ c.args.out.now.items ++ entries_text (labels c.args.handlers.now.items.items (λ h. h.name) (λ h. h.kind)) c.args.subscription.now c.args.instant c.args.notice.now.entries
+    ≡ c.args.out.now.items ++ entries_text (handed_in c.args.handlers.now.items.items (λ h. h.name) (λ h. h.kind) c.args.handlers.now.predicates.items (λ p. p.name) (λ p. p.relation)) c.args.subscription.now c.args.instant c.args.notice.now.entries
 written g c =
-    text_some _ c.args.subscription.now c.requires.action c.args.instant c.args.notice.now.entries
+    text_some (handed_in c.args.handlers.now.items.items (λ h. h.name) (λ h. h.kind) c.args.handlers.now.predicates.items (λ p. p.name) (λ p. p.relation)) c.args.subscription.now c.requires.action c.args.instant c.args.notice.now.entries
     c.as_slice-argument.result.now c.in_ok-notice.field-0 c.args.out.now.items c.call.new.out.items ((λ i. length (sym c.as_slice.ensures i) == 0) ∙ sym c.is_empty.ensures ∙ c.if-is_empty.false)
     c.as_slice-argument.ensures c.in_ok-notice.ensures c.in_ok-call.ensures.ok
 
@@ -42,7 +42,7 @@ returns g c =
       text = on_any c.push.result text;
       front = front_of c.args.out.now.items _ c.call.new.out.items text;
       span = on_ok_weaker c.push.result
-          (span_some _ m c.requires.action c.args.instant entries c.replace-name.result c.args.out.now.items c.call.new.out.items c.len-from.result c.len-to.result
+          (span_some (handed_in c.args.handlers.now.items.items (λ h. h.name) (λ h. h.kind) c.args.handlers.now.predicates.items (λ p. p.name) (λ p. p.relation)) m c.requires.action c.args.instant entries c.replace-name.result c.args.out.now.items c.call.new.out.items c.len-from.result c.len-to.result
           c.args.spans.now c.push.new.self (count ∙ c.if-is_empty.false) (c.replace-name.ensures.value ∙ c.in_ok-notice.ensures) begins ends text)
           c.push.ensures.ok;
       entries = refl;

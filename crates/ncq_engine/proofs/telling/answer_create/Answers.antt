@@ -3,8 +3,9 @@ use Rattle.std.specs.Prelude.{IsSome}
 use Rattle.std.specs.List.{flat_map, AllByRecursion}
 use Rattle.ncq_base.proofs.Written.{front_still}
 use Rattle.ncq_book.specs.Books.{subscription_of}
-use Rattle.ncq_callback.specs.Labels.{labels}
+use Rattle.ncq_callback.specs.Labels.{handed_in}
 use Rattle.ncq_event.specs.declared.firing.Firing.{Firing}
+use Rattle.ncq_plan.specs.Relations.{relations}
 use Rattle.ncq_engine.specs.declared.telling.Answered.{Answered}
 use Rattle.ncq_engine.specs.Tellings.{Awaits, firing_name, firing_text, started_at}
 use Rattle.ncq_engine.specs.Spans.{spans_of}
@@ -26,7 +27,7 @@ returns-clause-told g c =
     let own : c.in_ok-firings.firings ≡ flat_map (started_at live_table.instant live_table.subscriptions) (c.args.install ∷ []) =
     c.in_ok-firings.ensures ∙ (λ i. flat_map (started_at (c.book.ensures i).instant (c.book.ensures i).subscriptions) (c.args.install ∷ [])) in
     let firings : c.as_slice.result.now ≡ c.in_ok-firings.firings = c.as_slice.ensures in
-    let text : Firing → List ℕ = firing_text (labels c.args.handlers.now.items.items (λ h. h.name) (λ h. h.kind)) c.args.store.now live_table.table.files c.args.distinct.now live_table.subscriptions in
+    let text : Firing → List ℕ = firing_text (handed_in c.args.handlers.now.items.items (λ h. h.name) (λ h. h.kind) c.args.handlers.now.predicates.items (λ p. p.name) (λ p. p.relation)) c.args.store.now live_table.table.files c.args.distinct.now live_table.subscriptions in
     record {
       written = c.in_ok-spans.ensures.text ∙ (λ i. c.in_ok-answered.ensures.text i ++ flat_map text (firings i));
       from = ap (λ (a : Answered). a.from) c.with.ensures ∙ ap (λ (a : Answered). a.from) c.in_ok-answered.ensures.places ∙ ap length c.in_ok-answered.ensures.text;
@@ -48,7 +49,7 @@ returns-clause-waiting g c =
     let own : c.in_ok-firings.firings ≡ flat_map (started_at live_table.instant live_table.subscriptions) (c.args.install ∷ []) =
     c.in_ok-firings.ensures ∙ (λ i. flat_map (started_at (c.book.ensures i).instant (c.book.ensures i).subscriptions) (c.args.install ∷ [])) in
     let firings : c.as_slice.result.now ≡ c.in_ok-firings.firings = c.as_slice.ensures in
-    subst (λ (fs : List Firing). Awaits c.args.store.now live_table fs c.tell.new.distinct) (firings ∙ own) c.in_ok-spans.ensures.waiting
+    subst (λ (fs : List Firing). Awaits (relations c.args.handlers.now.predicates.items (λ p. p.name) (λ p. p.relation)) c.args.store.now live_table fs c.tell.new.distinct) (firings ∙ own) c.in_ok-spans.ensures.waiting
 
 pub returns-clause-front : goal.returns-clause-front
 returns-clause-front g c = front_still c.args.out.now.items _ c.write_accepted.new.out.items c.tell.new.out.items c.in_ok-answered.ensures.text c.tell.ensures.front
@@ -57,7 +58,7 @@ pub returns-in_err-spans-clause-front : goal.returns-in_err-spans-clause-front
 returns-in_err-spans-clause-front g c = front_still c.args.out.now.items _ c.write_accepted.new.out.items c.tell.new.out.items c.in_ok-answered.ensures.text c.tell.ensures.front
 
 pub returns-in_err-answered-clause-cached : goal.returns-in_err-answered-clause-cached
-returns-in_err-answered-clause-cached g c = grows_none c.args.live_table.now.table c.args.cache.now
+returns-in_err-answered-clause-cached g c = grows_none (relations c.args.handlers.now.predicates.items (λ p. p.name) (λ p. p.relation)) c.args.live_table.now.table c.args.cache.now
 
 pub returns-in_err-firings-clause-cached : goal.returns-in_err-firings-clause-cached
-returns-in_err-firings-clause-cached g c = grows_none c.args.live_table.now.table c.args.cache.now
+returns-in_err-firings-clause-cached g c = grows_none (relations c.args.handlers.now.predicates.items (λ p. p.name) (λ p. p.relation)) c.args.live_table.now.table c.args.cache.now

@@ -2,8 +2,9 @@ use Rattle.std.proofs.Common.{◌≡◌, ◌∙◌, ◌++◌, List, ℕ, length,
 use Rattle.std.specs.Prelude.{Some, IfSome}
 use Rattle.std.proofs.lemmas.Result.{on_ok_weaker}
 use Rattle.ncq_book.specs.Books.{BookState, subscription_of}
-use Rattle.ncq_callback.specs.Labels.{Label, labels}
+use Rattle.ncq_callback.specs.Labels.{Handed, handed_in}
 use Rattle.ncq_group.specs.Tables.{TableState}
+use Rattle.ncq_plan.specs.Relations.{relations}
 use Rattle.ncq_engine.specs.Cached.{AllServe, Grows}
 use Rattle.ncq_engine.specs.Engines.{CanTell, notice_text}
 use Rattle.ncq_engine.specs.Spans.{span_of}
@@ -23,22 +24,22 @@ started : (g : Over) (c : In-Some g) → has_started c.args.live_table.now.insta
 started g c = ap (λ (b : BookState). has_started b.instant (subscription_of c.args.install b.subscriptions)) (sym c.book.ensures) ∙ sym c.in-Some.ensures.started
 
 pub returns-in_default-clause-cached : goal.returns-in_default-clause-cached
-returns-in_default-clause-cached g c = grows_none c.args.live_table.now.table c.args.cache.now
+returns-in_default-clause-cached g c = grows_none (relations c.args.handlers.now.predicates.items (λ p. p.name) (λ p. p.relation)) c.args.live_table.now.table c.args.cache.now
 
 pub fire-requires : goal.fire-requires
 fire-requires g c =
-    let all : List Label = labels c.args.handlers.now.items.items (λ h. h.name) (λ h. h.kind) in
+    let all : Handed = handed_in c.args.handlers.now.items.items (λ h. h.name) (λ h. h.kind) c.args.handlers.now.predicates.items (λ p. p.name) (λ p. p.relation) in
     let m = c.in-Some.subscription.now in
     record {
       can = subst (λ (t : TableState). CanTell all c.args.store.now t m) (sym c.groups.ensures)
           (found_has (CanTell all c.args.store.now c.args.live_table.now.table) c.args.install c.args.live_table.now.subscriptions m c.requires.can (found g (goal.at.fire-requires g c).In-Some));
-      latest = subst (λ (t : TableState). IfSome c.args.latest.now (IsLatest c.args.store.now t)) (sym c.groups.ensures) c.requires.latest;
-      serve = subst (λ (t : TableState). AllServe t c.args.cache.now) (sym c.groups.ensures) c.requires.serve;
+      latest = subst (λ (t : TableState). IfSome c.args.latest.now (IsLatest (relations c.args.handlers.now.predicates.items (λ p. p.name) (λ p. p.relation)) c.args.store.now t)) (sym c.groups.ensures) c.requires.latest;
+      serve = subst (λ (t : TableState). AllServe (relations c.args.handlers.now.predicates.items (λ p. p.name) (λ p. p.relation)) t c.args.cache.now) (sym c.groups.ensures) c.requires.serve;
     }
 
 pub returns : goal.returns
 returns g c =
-    let all : List Label = labels c.args.handlers.now.items.items (λ h. h.name) (λ h. h.kind) in
+    let all : Handed = handed_in c.args.handlers.now.items.items (λ h. h.name) (λ h. h.kind) c.args.handlers.now.predicates.items (λ p. p.name) (λ p. p.relation) in
     let store = c.args.store.now in
     let live_table = c.args.live_table.now in
     let m = c.in-Some.subscription.now in
@@ -55,11 +56,11 @@ returns g c =
       front = c.fire.ensures.front;
       spans = on_ok_weaker c.fire.result
           (λ more. more ∙ (λ i. spans ++ span_of m.name (length out) (notice_text all store (c.groups.ensures i).files distinct m (now i))) ∙ ap (λ (s : List Span). spans ++ s) (sym placed)) c.fire.ensures.span;
-      latest = subst (λ (t : TableState). IfSome c.fire.new.latest (IsLatest store t)) c.groups.ensures c.fire.ensures.latest;
-      cached = subst (λ (t : TableState). Grows t c.args.cache.now c.fire.new.cache) c.groups.ensures c.fire.ensures.cached;
+      latest = subst (λ (t : TableState). IfSome c.fire.new.latest (IsLatest (relations c.args.handlers.now.predicates.items (λ p. p.name) (λ p. p.relation)) store t)) c.groups.ensures c.fire.ensures.latest;
+      cached = subst (λ (t : TableState). Grows (relations c.args.handlers.now.predicates.items (λ p. p.name) (λ p. p.relation)) t c.args.cache.now c.fire.new.cache) c.groups.ensures c.fire.ensures.cached;
       counts = c.fire.ensures.counts;
       waiting = on_ok_weaker c.fire.result
           (λ told. waits_started all store distinct live_table c.args.install m (found g at) (started g at) distinct c.fire.new.distinct
-          (subst (λ (t : TableState). AwaitsNews store t.files m distinct c.fire.new.distinct) c.groups.ensures told))
+          (subst (λ (t : TableState). AwaitsNews (relations c.args.handlers.now.predicates.items (λ p. p.name) (λ p. p.relation)) store t.files m distinct c.fire.new.distinct) c.groups.ensures told))
           c.fire.ensures.waiting;
     }

@@ -1,8 +1,9 @@
 use Rattle.std.proofs.Common.{◌≡◌, ◌++◌, length, take}
 use Rattle.std.specs.Prelude.{IfSome}
 use Rattle.std.specs.List.{flat_map}
-use Rattle.ncq_callback.specs.Labels.{labels}
+use Rattle.ncq_callback.specs.Labels.{handed_in}
 use Rattle.ncq_distinct.specs.DistinctTables.{HaveSameCounts}
+use Rattle.ncq_plan.specs.Relations.{relations}
 use Rattle.ncq_engine.specs.Cached.{Grows}
 use Rattle.ncq_engine.specs.Spans.{spans_of}
 use Rattle.ncq_engine.specs.Tellings.{Awaits, IsLatest, firing_name, firing_text, started_at}
@@ -11,11 +12,11 @@ use Rattle.ncq_engine.proofs.telling.tell_started.Given as goal
 abbrev pub invariant-loop-install : goal.invariant-loop-install
 invariant-loop-install g l = record {
   text : l.out.items ≡ l.initial.out.items
-      ++ flat_map (firing_text (labels l.handlers.items.items (λ h. h.name) (λ h. h.kind)) l.store l.live_table.table.files l.fn.distinct l.live_table.subscriptions) (flat_map (started_at l.live_table.instant l.live_table.subscriptions) (take l.install-index l.installs));
-  spans : l.spans ≡ spans_of (firing_name l.live_table.subscriptions) (firing_text (labels l.handlers.items.items (λ h. h.name) (λ h. h.kind)) l.store l.live_table.table.files l.fn.distinct l.live_table.subscriptions)
+      ++ flat_map (firing_text (handed_in l.handlers.items.items (λ h. h.name) (λ h. h.kind) l.handlers.predicates.items (λ p. p.name) (λ p. p.relation)) l.store l.live_table.table.files l.fn.distinct l.live_table.subscriptions) (flat_map (started_at l.live_table.instant l.live_table.subscriptions) (take l.install-index l.installs));
+  spans : l.spans ≡ spans_of (firing_name l.live_table.subscriptions) (firing_text (handed_in l.handlers.items.items (λ h. h.name) (λ h. h.kind) l.handlers.predicates.items (λ p. p.name) (λ p. p.relation)) l.store l.live_table.table.files l.fn.distinct l.live_table.subscriptions)
       (length l.initial.out.items) (flat_map (started_at l.live_table.instant l.live_table.subscriptions) (take l.install-index l.installs));
-  latest : IfSome l.latest (IsLatest l.store l.live_table.table);
-  cached : Grows l.live_table.table l.initial.cache l.cache;
+  latest : IfSome l.latest (IsLatest (relations l.handlers.predicates.items (λ p. p.name) (λ p. p.relation)) l.store l.live_table.table);
+  cached : Grows (relations l.handlers.predicates.items (λ p. p.name) (λ p. p.relation)) l.live_table.table l.initial.cache l.cache;
   counts : HaveSameCounts l.fn.distinct l.distinct;
-  waiting : Awaits l.store l.live_table (flat_map (started_at l.live_table.instant l.live_table.subscriptions) (take l.install-index l.installs)) l.distinct;
+  waiting : Awaits (relations l.handlers.predicates.items (λ p. p.name) (λ p. p.relation)) l.store l.live_table (flat_map (started_at l.live_table.instant l.live_table.subscriptions) (take l.install-index l.installs)) l.distinct;
 }

@@ -1,6 +1,7 @@
 use Rattle.std.proofs.Common.{◌≡◌, true, drop}
 use Rattle.std.specs.FinMap.{empty}
 use Rattle.ncq_plan.specs.Deltas.{signed}
+use Rattle.ncq_plan.specs.Relations.{relations}
 use Rattle.ncq_plan.specs.Residuals.{passes}
 use Rattle.ncq_midfile.specs.Content.{rows_at}
 use Rattle.ncq_midfile.specs.Shown.{rows_below}
@@ -9,6 +10,6 @@ use Rattle.ncq_news.proofs.firing.entries_at.Given as goal
 
 -- what is counted already, with the rows at the places that are left
 abbrev pub invariant-loop-place : goal.invariant-loop-place
-invariant-loop-place l =
-    counts_after (passes l.query.residual) (answer_of l.query.template) l.gather.counts (signed true (rows_at (drop l.place-index l.place-items) (rows_below l.file)))
-    ≡ counts_after (passes l.query.residual) (answer_of l.query.template) empty (signed true (rows_at l.place-items (rows_below l.file)))
+invariant-loop-place g l =
+    counts_after (passes (relations l.predicates.items (λ p. p.name) (λ p. p.relation)) l.query.residual) (answer_of l.query.template) l.gather.counts (signed true (rows_at (drop l.place-index l.place-items) (rows_below l.file)))
+    ≡ counts_after (passes (relations l.predicates.items (λ p. p.name) (λ p. p.relation)) l.query.residual) (answer_of l.query.template) empty (signed true (rows_at l.place-items (rows_below l.file)))

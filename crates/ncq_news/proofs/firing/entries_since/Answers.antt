@@ -1,8 +1,9 @@
-use Rattle.std.proofs.Common.{◌≡◌, ◌+◌, length, drop, ap, sym, ◌∙◌, subst, arith}
+use Rattle.std.proofs.Common.{◌+◌, drop, ap, sym, ◌∙◌, arith}
 use Rattle.std.specs.FinMap.{empty}
 use Rattle.std.proofs.lemmas.List.{at_drop_all}
 use Rattle.std.proofs.lemmas.Result.{IfOk-weaker}
 use Rattle.ncq_bag.specs.Bags.{differences}
+use Rattle.ncq_plan.specs.Relations.{relations}
 use Rattle.ncq_plan.specs.Residuals.{passes}
 use Rattle.ncq_plan.specs.WellFormed.{arms_width}
 use Rattle.ncq_midfile.specs.Content.{signed_at}
@@ -13,11 +14,11 @@ use Rattle.ncq_news.proofs.FiringLaws.{signed_wide, signed_first}
 use Rattle.ncq_news.proofs.firing.entries_since.Goals as goal
 
 pub take-requires-clause-wide : goal.take-requires-clause-wide
-take-requires-clause-wide c = signed_wide (arms_width c.args.query.now.arms) (rows_below c.args.file.now) _ c.signed-signed.result.now c.requires.wide c.signed-signed.ensures
+take-requires-clause-wide g c = signed_wide (arms_width c.args.query.now.arms) (rows_below c.args.file.now) _ c.signed-signed.result.now c.requires.wide c.signed-signed.ensures
 
 pub loop-place-preserved : goal.loop-place-preserved
-loop-place-preserved c =
-    let test = passes c.args.query.now.residual in
+loop-place-preserved g c =
+    let test = passes (relations c.args.predicates.now.items (λ p. p.name) (λ p. p.relation)) c.args.query.now.residual in
     let bytes = answer_of c.args.query.now.template in
     let below = rows_below c.args.file.now in
     let items = c.as_slice-place-items.result.now in
@@ -27,8 +28,8 @@ loop-place-preserved c =
     ∙ c.loop-place.invariant
 
 pub returns : goal.returns
-returns c =
-    let test = passes c.args.query.now.residual in
+returns g c =
+    let test = passes (relations c.args.predicates.now.items (λ p. p.name) (λ p. p.relation)) c.args.query.now.residual in
     let bytes = answer_of c.args.query.now.template in
     let below = rows_below c.args.file.now in
     let items = c.as_slice-place-items.result.now in

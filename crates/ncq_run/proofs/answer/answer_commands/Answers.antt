@@ -17,7 +17,7 @@ pub answer_one-requires-clause-stands : goal.answer_one-requires-clause-stands
 answer_one-requires-clause-stands g c = let so = c.requires.so_far in (_, (c.commands.invariant.advanced.up_to so.0 so.1 so.3).stands)
 
 pub answer_one-requires-clause-handlers : goal.answer_one-requires-clause-handlers
-answer_one-requires-clause-handlers g c = c.commands.invariant.advanced.labels ∙ c.requires.handlers
+answer_one-requires-clause-handlers g c = c.commands.invariant.advanced.handed ∙ c.requires.handlers
 
 pub commands-init : goal.commands-init
 commands-init g c = record { advanced = advanced_none _ _ _; written = λ bytes before begun so. so; sure = refl; later = omega arith }
@@ -52,7 +52,7 @@ returns-in_err-answer_one-in-Ok-Command-clause-written g c bytes before begun so
     let was = c.commands.invariant.written bytes before begun so in
     let now = next bytes c.commands.engine.count was.up_to.follows in
     let stopped = c.in_err-answer_one-in-Ok-Command.ensures in
-    writes_stopped bytes c.commands.reader c.next.new.self c.in-Ok-Command.ensures.limit c.in-Ok-Command.ensures.finished c.commands.engine c.answer_one.new.engine _ c.commands.steps c.answer_one.new.steps now.0 _ _ _ was stopped.asks.labels _ _ _ is (stopped.written _ was.up_to.stands)
+    writes_stopped bytes c.commands.reader c.next.new.self c.in-Ok-Command.ensures.limit c.in-Ok-Command.ensures.finished c.commands.engine c.answer_one.new.engine _ c.commands.steps c.answer_one.new.steps now.0 _ _ _ was stopped.asks.handed _ _ _ is (stopped.written _ was.up_to.stands)
 
 pub returns-in_err-answer_one-in-Ok-Command-clause-sink : goal.returns-in_err-answer_one-in-Ok-Command-clause-sink
 returns-in_err-answer_one-in-Ok-Command-clause-sink g c =

@@ -12,7 +12,7 @@ tally_one-requires-clause-few g c =
     omega (arith, given_few _ _ _ _ _ (next so.0 c.commands.engine.count now.follows).0, so.2)
 
 pub tally_one-requires-clause-handlers : goal.tally_one-requires-clause-handlers
-tally_one-requires-clause-handlers g c = c.commands.invariant.advanced.labels ∙ c.requires.handlers
+tally_one-requires-clause-handlers g c = c.commands.invariant.advanced.handed ∙ c.requires.handlers
 
 pub tally_one-requires-clause-small : goal.tally_one-requires-clause-small
 tally_one-requires-clause-small g c = let so = c.requires.so_far in (c.commands.invariant.tallied so.0 so.1 so.3).small

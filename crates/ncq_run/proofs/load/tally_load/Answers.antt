@@ -14,11 +14,11 @@ new-reader-requires g c = let limit = c.requires.limit in omega (arith, limit)
 
 pub returns-clause-tallied : goal.returns-clause-tallied
 returns-clause-tallied g c =
-    let language = language_of c.args.engine.now.labels in
+    let language = language_of c.args.engine.now.handed in
     subst (λ (limit : ℕ). IfOk c.tally_parts.result (λ (tally : Tally). (tally ≡ tally_of language (script limit (load_text c.args.n))) × StandsForThe language (script limit (load_text c.args.n)) c.tally_parts.new.engine)) c.new-reader.ensures.limit
     c.tally_parts.ensures.tallied
 
 pub returns-clause-work : goal.returns-clause-work
 returns-clause-work g c =
-    let language = language_of c.args.engine.now.labels in
+    let language = language_of c.args.engine.now.handed in
     subst (λ (limit : ℕ). AreWithinTries language (script limit (load_text c.args.n)) c.args.steps.now c.tally_parts.new.steps) c.new-reader.ensures.limit c.tally_parts.ensures.work

@@ -29,8 +29,8 @@ returns-clause-limit g c = c.tally_commands.ensures.advances.limit ∙ c.in_ok-p
 pub returns-clause-is_open : goal.returns-clause-is_open
 returns-clause-is_open g c = c.tally_commands.ensures.advances.finished ∙ c.in_ok-push.ensures.open
 
-pub returns-clause-labels : goal.returns-clause-labels
-returns-clause-labels g c = c.tally_commands.ensures.advances.labels
+pub returns-clause-handed : goal.returns-clause-handed
+returns-clause-handed g c = c.tally_commands.ensures.advances.handed
 
 pub returns-in_err-push-clause-through : goal.returns-in_err-push-clause-through
 returns-in_err-push-clause-through g c bytes begun so =

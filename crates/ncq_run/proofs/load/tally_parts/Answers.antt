@@ -9,7 +9,7 @@ use Rattle.ncq_run.proofs.load.tally_parts.Goals as goal
 pub loop-number-init : goal.loop-number-init
 loop-number-init g c = record {
   so_far = loaded_none _ _ _ _ c.requires.follows c.requires.fresh c.empty_tally-tally.ensures;
-  labels = refl;
+  handed = refl;
   limit = refl;
   is_open = c.requires.is_open;
 }
@@ -18,7 +18,7 @@ pub returns-in_err-generate-clause-work : goal.returns-in_err-generate-clause-wo
 returns-in_err-generate-clause-work g c =
     let here = c.loop-number-test.true in
     let was = c.loop-number.invariant in
-    part_work c.args.engine.now.labels (limit_of c.args.reader.now) c.args.n c.loop-number.number _ c.loop-number.reader c.loop-number.engine _ _ (omega (arith, here)) refl was.labels was.limit was.is_open (up_to_work _ c.loop-number.reader c.loop-number.engine _ _ was.so_far.up_to)
+    part_work c.args.engine.now.handed (limit_of c.args.reader.now) c.args.n c.loop-number.number _ c.loop-number.reader c.loop-number.engine _ _ (omega (arith, here)) refl was.handed was.limit was.is_open (up_to_work _ c.loop-number.reader c.loop-number.engine _ _ was.so_far.up_to)
 
 pub tally_part-requires-clause-so_far : goal.tally_part-requires-clause-so_far
 tally_part-requires-clause-so_far g c =
@@ -36,7 +36,7 @@ returns-in_err-tally_part-clause-work g c =
     let was = c.loop-number.invariant in
     let number = c.loop-number.number in
     let part : c.as_slice.result.now ≡ part_text c.args.n number = c.as_slice.ensures.value ∙ c.in_ok-generate.ensures.ok ∙ ap (λ (xs : List ℕ). xs ++ part_text c.args.n number) c.clear.ensures.items in
-    part_work c.args.engine.now.labels (limit_of c.args.reader.now) c.args.n (suc number) _ c.tally_part.new.reader c.tally_part.new.engine _ _ (omega (arith, here)) (ap (λ (bytes : List ℕ). parts_text c.args.n number ++ bytes) part) (c.tally_part.ensures.labels ∙ was.labels)
+    part_work c.args.engine.now.handed (limit_of c.args.reader.now) c.args.n (suc number) _ c.tally_part.new.reader c.tally_part.new.engine _ _ (omega (arith, here)) (ap (λ (bytes : List ℕ). parts_text c.args.n number ++ bytes) part) (c.tally_part.ensures.handed ∙ was.handed)
     (c.tally_part.ensures.limit ∙ was.limit) c.tally_part.ensures.is_open (c.tally_part.ensures.through _ _ was.so_far.up_to).work
 
 pub loop-number-preserved : goal.loop-number-preserved
@@ -48,7 +48,7 @@ loop-number-preserved g c =
     let bytes : parts_text c.args.n number ++ c.as_slice.result.now ≡ parts_text c.args.n (number + 1) = ap (λ (xs : List ℕ). parts_text c.args.n number ++ xs) part ∙ sym (ap (parts_text c.args.n) one) in
     record {
       so_far = subst (λ (bs : List ℕ). IsTallied bs c.tally_part.new.reader c.tally_part.new.engine c.tally_part.new.tally c.args.steps.now c.tally_part.new.steps) bytes (c.in_ok-tally_part.ensures.tallied _ _ was.so_far);
-      labels = c.tally_part.ensures.labels ∙ was.labels;
+      handed = c.tally_part.ensures.handed ∙ was.handed;
       limit = c.tally_part.ensures.limit ∙ was.limit;
       is_open = c.tally_part.ensures.is_open;
     }
@@ -64,19 +64,19 @@ pub returns-in_err-tally_rest-clause-work : goal.returns-in_err-tally_rest-claus
 returns-in_err-tally_rest-clause-work g c =
     let whole : c.loop-number.number ≡ 2 * c.args.n + 4 = omega (arith, c.loop-number-test.false, c.loop-number.auto.number-end) in
     let was = c.loop-number.invariant in
-    load_worked c.args.engine.now.labels (limit_of c.args.reader.now) c.args.n (parts_text c.args.n c.loop-number.number) c.tally_rest.new.reader c.tally_rest.new.engine _ _ (ap (parts_text c.args.n) whole) (c.tally_rest.ensures.labels ∙ was.labels)
+    load_worked c.args.engine.now.handed (limit_of c.args.reader.now) c.args.n (parts_text c.args.n c.loop-number.number) c.tally_rest.new.reader c.tally_rest.new.engine _ _ (ap (parts_text c.args.n) whole) (c.tally_rest.ensures.handed ∙ was.handed)
     (c.tally_rest.ensures.limit ∙ was.limit) c.tally_rest.ensures.closed (c.tally_rest.ensures.through _ _ was.so_far.up_to).work
 
 pub returns-clause-work : goal.returns-clause-work
 returns-clause-work g c =
     let whole : c.loop-number.number ≡ 2 * c.args.n + 4 = omega (arith, c.loop-number-test.false, c.loop-number.auto.number-end) in
     let was = c.loop-number.invariant in
-    load_worked c.args.engine.now.labels (limit_of c.args.reader.now) c.args.n (parts_text c.args.n c.loop-number.number) c.tally_rest.new.reader c.tally_rest.new.engine _ _ (ap (parts_text c.args.n) whole) (c.tally_rest.ensures.labels ∙ was.labels)
+    load_worked c.args.engine.now.handed (limit_of c.args.reader.now) c.args.n (parts_text c.args.n c.loop-number.number) c.tally_rest.new.reader c.tally_rest.new.engine _ _ (ap (parts_text c.args.n) whole) (c.tally_rest.ensures.handed ∙ was.handed)
     (c.tally_rest.ensures.limit ∙ was.limit) c.tally_rest.ensures.closed (c.tally_rest.ensures.through _ _ was.so_far.up_to).work
 
 pub returns-clause-tallied : goal.returns-clause-tallied
 returns-clause-tallied g c =
     let whole : c.loop-number.number ≡ 2 * c.args.n + 4 = omega (arith, c.loop-number-test.false, c.loop-number.auto.number-end) in
     let was = c.loop-number.invariant in
-    load_tallied c.args.engine.now.labels (limit_of c.args.reader.now) c.args.n (parts_text c.args.n c.loop-number.number) c.tally_rest.new.reader c.tally_rest.new.engine c.args.steps.now c.tally_rest.new.steps (ap (parts_text c.args.n) whole) (c.tally_rest.ensures.labels ∙ was.labels)
+    load_tallied c.args.engine.now.handed (limit_of c.args.reader.now) c.args.n (parts_text c.args.n c.loop-number.number) c.tally_rest.new.reader c.tally_rest.new.engine c.args.steps.now c.tally_rest.new.steps (ap (parts_text c.args.n) whole) (c.tally_rest.ensures.handed ∙ was.handed)
     (c.tally_rest.ensures.limit ∙ was.limit) c.tally_rest.ensures.closed _ (c.in_ok-tally_rest.ensures.tallied _ _ was.so_far) (c.in_ok-tally_rest.ensures.through _ _ was.so_far.up_to).all

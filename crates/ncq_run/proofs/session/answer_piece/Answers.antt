@@ -27,8 +27,8 @@ returns-in-Ok-clause-limit g c = c.answer_commands.ensures.advances.limit ∙ c.
 pub returns-in-Ok-clause-is_open : goal.returns-in-Ok-clause-is_open
 returns-in-Ok-clause-is_open g c = c.answer_commands.ensures.advances.finished ∙ c.in-Ok.ensures.open
 
-pub returns-in-Ok-clause-labels : goal.returns-in-Ok-clause-labels
-returns-in-Ok-clause-labels g c = c.answer_commands.ensures.advances.labels
+pub returns-in-Ok-clause-handed : goal.returns-in-Ok-clause-handed
+returns-in-Ok-clause-handed g c = c.answer_commands.ensures.advances.handed
 
 pub returns-in-Err-clause-through : goal.returns-in-Err-clause-through
 returns-in-Err-clause-through g c bytes begun so = unpushed_through bytes c.args.piece.now _ _ c.args.engine.now c.requires.is_open c.in-Err.ensures.err _ _ refl so

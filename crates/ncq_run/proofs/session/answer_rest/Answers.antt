@@ -24,5 +24,5 @@ returns-clause-limit g c = c.answer_commands.ensures.advances.limit ∙ c.finish
 pub returns-clause-closed : goal.returns-clause-closed
 returns-clause-closed g c = c.answer_commands.ensures.advances.finished ∙ c.finish.ensures.closed
 
-pub returns-clause-labels : goal.returns-clause-labels
-returns-clause-labels g c = c.answer_commands.ensures.advances.labels
+pub returns-clause-handed : goal.returns-clause-handed
+returns-clause-handed g c = c.answer_commands.ensures.advances.handed

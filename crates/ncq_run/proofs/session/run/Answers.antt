@@ -59,7 +59,7 @@ returns-in-Ok-Alone-clause-untouched g c = not_none _ (alone c.in-Ok-Alone.name.
 
 pub returns-in-Ok-Alone-clause-ended : goal.returns-in-Ok-Alone-clause-ended
 returns-in-Ok-Alone-clause-ended g c = of_form _ (alone c.in-Ok-Alone.name.now) _ (rw c.in-Ok-Alone.field-0-is at c.in-Ok-Alone.ensures.form)
-    (ended_for (language_of c.args.engine.now.labels) c.in-Ok-Alone.name.now _ _ _ _ _ _ c.as_bytes.ensures.value c.serve-in-Ok-Alone.ensures.over.ended)
+    (ended_for (language_of c.args.engine.now.handed) c.in-Ok-Alone.name.now _ _ _ _ _ _ c.as_bytes.ensures.value c.serve-in-Ok-Alone.ensures.over.ended)
 
 pub returns-in-Ok-Alone-clause-unread : goal.returns-in-Ok-Alone-clause-unread
 returns-in-Ok-Alone-clause-unread g c = of_form _ (alone c.in-Ok-Alone.name.now) _ (rw c.in-Ok-Alone.field-0-is at c.in-Ok-Alone.ensures.form) (reads (alone c.in-Ok-Alone.name.now) refl _)
@@ -86,7 +86,7 @@ pub load-requires-clause-few : goal.load-requires-clause-few
 load-requires-clause-few g c = (load_is (texts_of c.args.words.now) c.in-Ok-Load.n (rw c.in-Ok-Load.field-0-is at c.in-Ok-Load.ensures.form)).1
 
 pub returns-in-Ok-Load-clause-usage : goal.returns-in-Ok-Load-clause-usage
-returns-in-Ok-Load-clause-usage g c = λ is. absurd (not_usage_load (language_of c.args.engine.now.labels) longest_line c.in-Ok-Load.n
+returns-in-Ok-Load-clause-usage g c = λ is. absurd (not_usage_load (language_of c.args.engine.now.handed) longest_line c.in-Ok-Load.n
     (outside (g.I.Source.left c.args.input.now) (g.O.Sink.held c.args.output.now) (g.I.Source.given c.args.input.now) (g.I.Source.faults c.args.input.now) (g.O.Sink.faults c.args.output.now))
     (outside (g.I.Source.left c.args.input.now) (g.O.Sink.held c.load.new.output) (g.I.Source.given c.args.input.now) (g.I.Source.faults c.args.input.now) (g.O.Sink.faults c.load.new.output)) c.load.result (c.load.ensures.ended (g.I.Source.left c.args.input.now) (g.I.Source.left c.args.input.now) (g.I.Source.given c.args.input.now) (g.I.Source.given c.args.input.now) (g.I.Source.faults c.args.input.now) (g.I.Source.faults c.args.input.now)) is)
 
@@ -104,13 +104,13 @@ returns-in-Ok-Load-clause-unread g c = of_form _ (load c.in-Ok-Load.n) _ (rw c.i
 
 pub returns-in-Ok-Load-clause-stands : goal.returns-in-Ok-Load-clause-stands
 returns-in-Ok-Load-clause-stands g c = of_form _ (load c.in-Ok-Load.n) _ (rw c.in-Ok-Load.field-0-is at c.in-Ok-Load.ensures.form)
-    (load_stands (language_of c.args.engine.now.labels) longest_line longest_script c.in-Ok-Load.n (g.I.Source.left c.args.input.now) (g.I.Source.left c.args.input.now) _ _ c.load.ensures.stands)
+    (load_stands (language_of c.args.engine.now.handed) longest_line longest_script c.in-Ok-Load.n (g.I.Source.left c.args.input.now) (g.I.Source.left c.args.input.now) _ _ c.load.ensures.stands)
 
 pub returns-in-Ok-Load-clause-work : goal.returns-in-Ok-Load-clause-work
 returns-in-Ok-Load-clause-work g c = of_form _ (load c.in-Ok-Load.n) _ (rw c.in-Ok-Load.field-0-is at c.in-Ok-Load.ensures.form) c.load.ensures.work
 
 pub returns-in-Ok-Load-clause-sure_source : goal.returns-in-Ok-Load-clause-sure_source
-returns-in-Ok-Load-clause-sure_source g c = load_never_reads (language_of c.args.engine.now.labels) longest_line c.in-Ok-Load.n
+returns-in-Ok-Load-clause-sure_source g c = load_never_reads (language_of c.args.engine.now.handed) longest_line c.in-Ok-Load.n
     (outside (g.I.Source.left c.args.input.now) (g.O.Sink.held c.args.output.now) (g.I.Source.given c.args.input.now) (g.I.Source.faults c.args.input.now) (g.O.Sink.faults c.args.output.now))
     (outside (g.I.Source.left c.args.input.now) (g.O.Sink.held c.load.new.output) (g.I.Source.given c.args.input.now) (g.I.Source.faults c.args.input.now) (g.O.Sink.faults c.load.new.output)) c.load.result _ (c.load.ensures.ended (g.I.Source.left c.args.input.now) (g.I.Source.left c.args.input.now) (g.I.Source.given c.args.input.now) (g.I.Source.given c.args.input.now) (g.I.Source.faults c.args.input.now) (g.I.Source.faults c.args.input.now))
 
@@ -145,18 +145,18 @@ pub returns-in-Err-OutOfMemory-clause-untouched : goal.returns-in-Err-OutOfMemor
 returns-in-Err-OutOfMemory-clause-untouched g c = if_none _ _ (three_same _ _ _)
 
 pub returns-in-Err-OutOfMemory-clause-ended : goal.returns-in-Err-OutOfMemory-clause-ended
-returns-in-Err-OutOfMemory-clause-ended g c = of_any _ _ (λ form. nothing_yet form (language_of c.args.engine.now.labels) _ _ _ _ _ _ _)
+returns-in-Err-OutOfMemory-clause-ended g c = of_any _ _ (λ form. nothing_yet form (language_of c.args.engine.now.handed) _ _ _ _ _ _ _)
 
 pub returns-in-Err-OutOfMemory-clause-unread : goal.returns-in-Err-OutOfMemory-clause-unread
 returns-in-Err-OutOfMemory-clause-unread g c = of_any _ (λ form. is_load form ≡ true → c.args.input.now ≡ c.args.input.now) (λ form _. refl)
 
 pub returns-in-Err-OutOfMemory-clause-stands : goal.returns-in-Err-OutOfMemory-clause-stands
-returns-in-Err-OutOfMemory-clause-stands g c = of_any _ (λ form. StandsAs form (language_of c.args.engine.now.labels) longest_line longest_script (g.I.Source.left c.args.input.now) (g.I.Source.left c.args.input.now) c.args.engine.now NoMemory)
-    (λ form. nothing_stands form (language_of c.args.engine.now.labels) longest_line longest_script (g.I.Source.left c.args.input.now) (g.I.Source.left c.args.input.now) c.args.engine.now)
+returns-in-Err-OutOfMemory-clause-stands g c = of_any _ (λ form. StandsAs form (language_of c.args.engine.now.handed) longest_line longest_script (g.I.Source.left c.args.input.now) (g.I.Source.left c.args.input.now) c.args.engine.now NoMemory)
+    (λ form. nothing_stands form (language_of c.args.engine.now.handed) longest_line longest_script (g.I.Source.left c.args.input.now) (g.I.Source.left c.args.input.now) c.args.engine.now)
 
 pub returns-in-Err-OutOfMemory-clause-work : goal.returns-in-Err-OutOfMemory-clause-work
-returns-in-Err-OutOfMemory-clause-work g c = of_any _ (λ form. WorksAs form (language_of c.args.engine.now.labels) longest_line (g.I.Source.left c.args.input.now) c.args.steps.now c.args.steps.now)
-    (λ form. no_work form (language_of c.args.engine.now.labels) longest_line (g.I.Source.left c.args.input.now) c.args.steps.now)
+returns-in-Err-OutOfMemory-clause-work g c = of_any _ (λ form. WorksAs form (language_of c.args.engine.now.handed) longest_line (g.I.Source.left c.args.input.now) c.args.steps.now c.args.steps.now)
+    (λ form. no_work form (language_of c.args.engine.now.handed) longest_line (g.I.Source.left c.args.input.now) c.args.steps.now)
 
 pub returns-in-Ok-Run-clause-no_steps : goal.returns-in-Ok-Run-clause-no_steps
 returns-in-Ok-Run-clause-no_steps g c = not_none _ run _ (rw c.in-Ok-Run.field-0-is at c.in-Ok-Run.ensures.form)

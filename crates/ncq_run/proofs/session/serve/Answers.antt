@@ -16,7 +16,7 @@ turns-init g c =
     record {
       ready = record { some = (so_far.bytes, c.args.steps.now, so_far.long, so_far.answered.up_to); within = omega arith; small = c.requires.most; room_is = search rules; is_open = c.new.ensures.open };
       so_far = so_far;
-      labels = refl;
+      handed = refl;
       is_sure = refl;
       sure = refl;
       most = refl;
@@ -27,16 +27,16 @@ pub turn-requires-clause-ready : goal.turn-requires-clause-ready
 turn-requires-clause-ready g c = c.turns.invariant.ready
 
 pub turn-requires-clause-handlers : goal.turn-requires-clause-handlers
-turn-requires-clause-handlers g c = c.turns.invariant.labels ∙ c.requires.handlers
+turn-requires-clause-handlers g c = c.turns.invariant.handed ∙ c.requires.handlers
 
 pub returns-in-Some-clause-over : goal.returns-in-Some-clause-over
-returns-in-Some-clause-over g c = over_same _ _ c.turns.invariant.labels _ _ _ _ _ _ _ _ _ _ _ c.turns.invariant.limit c.turns.invariant.most (c.in-Some.ensures.turns _ _ c.turns.invariant.so_far)
+returns-in-Some-clause-over g c = over_same _ _ c.turns.invariant.handed _ _ _ _ _ _ _ _ _ _ _ c.turns.invariant.limit c.turns.invariant.most (c.in-Some.ensures.turns _ _ c.turns.invariant.so_far)
 
 pub turns-preserved : goal.turns-preserved
 turns-preserved g c = record {
   ready = rw c.turn.ensures.limits.0 c.in_default-turn.ensures.ready;
   so_far = c.in_default-turn.ensures.turns _ _ c.turns.invariant.so_far;
-  labels = c.turn.ensures.labels ∙ c.turns.invariant.labels;
+  handed = c.turn.ensures.handed ∙ c.turns.invariant.handed;
   is_sure = c.turn.ensures.stays.0 ∙ c.turns.invariant.is_sure;
   sure = c.turn.ensures.stays.1 ∙ c.turns.invariant.sure;
   most = c.turn.ensures.limits.0 ∙ c.turns.invariant.most;

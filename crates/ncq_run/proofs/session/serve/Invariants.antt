@@ -11,7 +11,7 @@ invariant-turns g l = record {
   so_far : SoFar (option_copied l.fn.task.whose) l.session.reader l.engine l.session.taken
       (outside (g.I.Source.left l.fn.input) (g.O.Sink.held l.fn.output) (g.I.Source.given l.fn.input) (g.I.Source.faults l.fn.input) (g.O.Sink.faults l.fn.output))
       (outside (g.I.Source.left l.input) (g.O.Sink.held l.output) (g.I.Source.given l.input) (g.I.Source.faults l.input) (g.O.Sink.faults l.output)) l.fn.steps l.steps;
-  labels : l.engine.labels ≡ l.fn.engine.labels;
+  handed : l.engine.handed ≡ l.fn.engine.handed;
   is_sure : g.I.Source.is_sure l.input ≡ g.I.Source.is_sure l.fn.input;
   sure : g.O.Sink.sure l.output ≡ g.O.Sink.sure l.fn.output;
   most : l.session.most ≡ l.fn.most;

@@ -30,13 +30,13 @@ returns-in_default-clause-turns g c start begun so =
 pub returns-in-Ok-answer_rest-clause-turns : goal.returns-in-Ok-answer_rest-clause-turns
 returns-in-Ok-answer_rest-clause-turns g c start begun so =
     over_done _ _ _ _ c.args.session.now.most start _ _ _ _ _ begun _ so c.requires.ready.is_open c.requires.ready.within
-    _ _ _ _ _ _ _ _ c.answer_rest.ensures.labels c.answer_rest.ensures.limit c.fill.new.buffer c.in-Ok.got c.in-Ok.ensures.bytes c.if-got-eq0.true (c.in-Ok.ensures.end c.if-got-eq0.true) c.answer_rest.ensures.closed _
+    _ _ _ _ _ _ _ _ c.answer_rest.ensures.handed c.answer_rest.ensures.limit c.fill.new.buffer c.in-Ok.got c.in-Ok.ensures.bytes c.if-got-eq0.true (c.in-Ok.ensures.end c.if-got-eq0.true) c.answer_rest.ensures.closed _
     (c.in-Ok-answer_rest.ensures.through so.bytes begun so.answered.up_to) (c.in-Ok-answer_rest.ensures.written so.bytes start.held begun so.answered) _ refl c.in-Ok.ensures.given
 
 pub returns-in-Err-clause-turns : goal.returns-in-Err-clause-turns
 returns-in-Err-clause-turns g c start begun so =
     over_stopped_end _ _ _ _ c.args.session.now.most start _ _ _ _ _ begun _ so c.requires.ready.is_open c.requires.ready.within
-    _ _ _ _ _ _ _ _ c.answer_rest.ensures.labels c.answer_rest.ensures.limit c.fill.new.buffer c.in-Ok.got c.in-Ok.ensures.bytes c.if-got-eq0.true (c.in-Ok.ensures.end c.if-got-eq0.true) c.answer_rest.ensures.closed _
+    _ _ _ _ _ _ _ _ c.answer_rest.ensures.handed c.answer_rest.ensures.limit c.fill.new.buffer c.in-Ok.got c.in-Ok.ensures.bytes c.if-got-eq0.true (c.in-Ok.ensures.end c.if-got-eq0.true) c.answer_rest.ensures.closed _
     (c.in-Err.ensures.through so.bytes begun so.answered.up_to) (c.in-Err.ensures.written so.bytes start.held begun so.answered) _ _ refl c.status_of.ensures c.in-Err.ensures.sink.cause
 
 pub returns-in-Err-clause-sure_sink : goal.returns-in-Err-clause-sure_sink
@@ -51,7 +51,7 @@ returns-in-Ok-answer_piece-clause-turns g c start begun so =
     written_front _ c.args.session.now.buffer.len c.fill.new.buffer _ _ _ c.front_of-piece.ensures c.deref.ensures.value (omega (arith, c.fill.auto.buffer, c.deref_mut.ensures.len)) in
     let room : c.in-Ok.got ≤ length c.fill.new.buffer = omega (arith, c.fill.auto.buffer, c.deref_mut.ensures.len, c.in-Ok.ensures.small, c.min.ensures, c.requires.ready.room_is) in
     over_too_long _ _ _ _ c.args.session.now.most start _ _ _ _ _ begun _ so c.requires.ready.is_open c.requires.ready.within
-    _ _ _ _ _ _ _ _ c.answer_piece.ensures.labels c.answer_piece.ensures.limit c.fill.new.buffer c.in-Ok.got c.in-Ok.ensures.bytes c.min-inside.result (omega arith) c.front_of-piece.result.now piece c.answer_piece.ensures.is_open _
+    _ _ _ _ _ _ _ _ c.answer_piece.ensures.handed c.answer_piece.ensures.limit c.fill.new.buffer c.in-Ok.got c.in-Ok.ensures.bytes c.min-inside.result (omega arith) c.front_of-piece.result.now piece c.answer_piece.ensures.is_open _
     (c.in-Ok-answer_piece.ensures.through so.bytes begun so.answered.up_to) (c.in-Ok-answer_piece.ensures.written so.bytes start.held begun so.answered) _ refl room c.in-Ok.ensures.given (search rules) (omega arith)
 
 pub returns-in-Ok-2-clause-turns : goal.returns-in-Ok-2-clause-turns
@@ -60,7 +60,7 @@ returns-in-Ok-2-clause-turns g c start begun so =
     written_front _ c.args.session.now.buffer.len c.fill.new.buffer _ _ _ c.front_of-piece.ensures c.deref.ensures.value (omega (arith, c.fill.auto.buffer, c.deref_mut.ensures.len)) in
     let room : c.in-Ok.got ≤ length c.fill.new.buffer = omega (arith, c.fill.auto.buffer, c.deref_mut.ensures.len, c.in-Ok.ensures.small, c.min.ensures, c.requires.ready.room_is) in
     goes_on _ _ _ _ c.args.session.now.most start _ _ _ _ _ begun _ so c.requires.ready.is_open c.requires.ready.within
-    _ _ _ _ _ _ _ _ c.answer_piece.ensures.labels c.answer_piece.ensures.limit c.fill.new.buffer c.in-Ok.got c.in-Ok.ensures.bytes c.min-inside.result (omega arith) c.front_of-piece.result.now piece c.answer_piece.ensures.is_open _
+    _ _ _ _ _ _ _ _ c.answer_piece.ensures.handed c.answer_piece.ensures.limit c.fill.new.buffer c.in-Ok.got c.in-Ok.ensures.bytes c.min-inside.result (omega arith) c.front_of-piece.result.now piece c.answer_piece.ensures.is_open _
     (c.in-Ok-answer_piece.ensures.through so.bytes begun so.answered.up_to) (c.in-Ok-answer_piece.ensures.written so.bytes start.held begun so.answered) _ refl room c.in-Ok.ensures.given
     (omega arith) c.fill.ensures.cause.later c.answer_piece.ensures.sink.later
 
@@ -86,7 +86,7 @@ returns-in-Err-answer_piece-clause-turns g c start begun so =
     let piece : c.front_of-piece.result.now ≡ take c.min-inside.result c.fill.new.buffer =
     written_front _ c.args.session.now.buffer.len c.fill.new.buffer _ _ _ c.front_of-piece.ensures c.deref.ensures.value (omega (arith, c.fill.auto.buffer, c.deref_mut.ensures.len)) in
     over_stopped _ _ _ _ c.args.session.now.most start _ _ _ _ _ begun _ so c.requires.ready.is_open c.requires.ready.within
-    _ _ _ _ _ _ _ _ c.answer_piece.ensures.labels c.answer_piece.ensures.limit c.fill.new.buffer c.in-Ok.got c.in-Ok.ensures.bytes c.min-inside.result (omega arith) c.front_of-piece.result.now piece c.answer_piece.ensures.is_open _
+    _ _ _ _ _ _ _ _ c.answer_piece.ensures.handed c.answer_piece.ensures.limit c.fill.new.buffer c.in-Ok.got c.in-Ok.ensures.bytes c.min-inside.result (omega arith) c.front_of-piece.result.now piece c.answer_piece.ensures.is_open _
     (c.in-Err-answer_piece.ensures.through so.bytes begun so.answered.up_to) (c.in-Err-answer_piece.ensures.written so.bytes start.held begun so.answered) _ _ refl c.status_of-in-Err-answer_piece.ensures c.in-Err-answer_piece.ensures.sink.cause
 
 pub returns-in-Err-answer_piece-clause-sure_sink : goal.returns-in-Err-answer_piece-clause-sure_sink

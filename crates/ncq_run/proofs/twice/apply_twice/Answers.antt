@@ -16,7 +16,7 @@ again g c =
     let was = c.args.engine.now in
     let given_up = c.apply.new.self in
     let uncounted = subst (λ (why : ApplyError). IfGivenUp (Err why) (given_up.count ≡ was.count)) c.in-Err-OutOfMemory.field-0-is c.in-Err-OutOfMemory.ensures.uncounted in
-    again_of was given_up c.shed.new.self c.apply.ensures.labels uncounted c.in-Err-OutOfMemory.ensures.stays c.shed.ensures.shed c.shed.ensures.stands
+    again_of was given_up c.shed.new.self c.apply.ensures.handed uncounted c.in-Err-OutOfMemory.ensures.stays c.shed.ensures.shed c.shed.ensures.stands
 
 pub returns-clause-accepted : goal.returns-clause-accepted
 returns-clause-accepted g c = again_accepted (again g (goal.at.returns-clause-accepted g c).After-shed) c.args.command.now c.apply-2.result c.apply-2.ensures.accepted
@@ -28,7 +28,7 @@ pub returns-clause-answer : goal.returns-clause-answer
 returns-clause-answer g c =
     let new = c.apply-2.new.out.items in
     let a = again g (goal.at.returns-clause-answer g c).After-shed in
-    subst (λ (out : List ℕ). OnOk c.apply-2.result (OfEach c.args.engine.now (λ h. new ≡ out ++ accepted_text (language_of c.args.engine.now.labels) h (c.args.engine.now.count + 1) c.args.command.now))) c.in-Err-OutOfMemory.ensures.unwritten
+    subst (λ (out : List ℕ). OnOk c.apply-2.result (OfEach c.args.engine.now (λ h. new ≡ out ++ accepted_text (language_of c.args.engine.now.handed) h (c.args.engine.now.count + 1) c.args.command.now))) c.in-Err-OutOfMemory.ensures.unwritten
     (again_answer a c.args.command.now c.apply-2.result c.apply.new.out.items new c.apply-2.ensures.answer)
 
 pub returns-clause-spans : goal.returns-clause-spans
@@ -56,4 +56,4 @@ returns-in_default-2-clause-work g c = one_try c.args.engine.now c.args.command.
 pub returns-clause-work : goal.returns-clause-work
 returns-clause-work g c =
     let a = again g (goal.at.returns-clause-work g c).After-shed in
-    two_tries c.args.engine.now c.shed.new.self c.args.command.now a.labels a.stands c.args.steps.now c.apply.new.steps c.apply-2.new.steps c.apply.ensures.work c.apply-2.ensures.work
+    two_tries c.args.engine.now c.shed.new.self c.args.command.now a.handed a.stands c.args.steps.now c.apply.new.steps c.apply-2.new.steps c.apply.ensures.work c.apply-2.ensures.work

@@ -1,5 +1,5 @@
 use Rattle.std.proofs.Common.{◌≡◌, take}
-use Rattle.ncq_xmlql.specs.StatementReading.{lowered}
+use Rattle.ncq_xmlql.specs.Reading.{lowered}
 use Rattle.ncq_xmlql.proofs.action.lowered.Given as goal
 
 abbrev pub invariant-loop-byte : goal.invariant-loop-byte

@@ -1,7 +1,7 @@
 use Rattle.std.proofs.Common.{◌≡◌}
-use Rattle.ncq_callback.specs.Labels.{labels}
+use Rattle.ncq_callback.specs.Labels.{handed_in}
 use Rattle.ncq.proofs.tests.held.turns.Given as goal
 
 -- the engine has the names and kinds of the handlers
 abbrev pub invariant-loop : goal.invariant-loop
-invariant-loop g l = l.engine.labels ≡ labels l.handlers.items.items (λ h. h.name) (λ h. h.kind)
+invariant-loop g l = l.engine.handed ≡ handed_in l.handlers.items.items (λ h. h.name) (λ h. h.kind) l.handlers.predicates.items (λ p. p.name) (λ p. p.relation)

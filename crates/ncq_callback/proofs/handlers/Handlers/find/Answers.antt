@@ -1,6 +1,6 @@
 use Rattle.std.proofs.Common.{◌∙◌, sym, ap, arith, rules}
 use Rattle.std.specs.Str.{bytes_eq}
-use Rattle.ncq_callback.proofs.LabelLaws.{position-map, position_here, position_none}
+use Rattle.ncq_plan.proofs.PlaceLaws.{position-map, position_here, position_none}
 use Rattle.ncq_callback.proofs.handlers.Handlers.find.Goals as goal
 
 pub returns : goal.returns

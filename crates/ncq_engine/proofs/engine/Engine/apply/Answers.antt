@@ -1,4 +1,4 @@
-use Rattle.std.proofs.Common.{◌≡◌, ◌∷◌, ap, length, rules, subst, sym}
+use Rattle.std.proofs.Common.{◌≡◌, ◌∷◌, ◌∙◌, ap, length, rules, subst, sym}
 use Rattle.std.specs.Prelude.{Err}
 use Rattle.ncq_engine.specs.Applies.{AreNotices, IfAnswered, KeepsCache}
 use Rattle.ncq_engine.specs.Compactions.{AreCompacted, IsChange}
@@ -19,7 +19,7 @@ still : (g : Over) (c : After-stands g) {earlier later : History} → Goes earli
 still g c {later = later} goes s follows =
     let after = c.answer-result.new.self in
     let here = subst (λ (e : EngineState). Follows (record e { spans = c.new.result }) later) (sym c.self.view_is) (follows_still after after.count c.new.result later follows) in
-    stands_behind c.args.self.now (record (view_of c.self.inside) { spans = c.new.result }) goes s here (c.stands.ensures.bounded later here) c.stands.ensures.shares c.stands.ensures.serve c.stands.ensures.counts
+    stands_behind c.args.self.now (record (view_of c.self.inside) { spans = c.new.result }) (ap (λ (e : EngineState). e.handed) c.self.view_is ∙ c.answer-result.ensures.handed) goes s here (c.stands.ensures.bounded later here) c.stands.ensures.shares c.stands.ensures.serve c.stands.ensures.counts
     (subst (λ (e : EngineState). KeepsCache c.args.self.now e) (sym c.self.view_is) c.answer-result.ensures.cached)
 
 pub returns-in-Ok-clause-joined : goal.returns-in-Ok-clause-joined

@@ -1,4 +1,4 @@
-use Rattle.std.proofs.Common.{◌≡◌, List, subst}
+use Rattle.std.proofs.Common.{◌≡◌, List, ap, subst}
 use Rattle.ncq_cache.specs.Cached.{Cached}
 use Rattle.ncq_group.specs.Tables.{TableState}
 use Rattle.ncq_script.specs.declared.command.Command.TheVariants.{Delta}
@@ -14,10 +14,10 @@ returns-clause-compacted g c =
     answered_more c.make_change.result (compacted_still c.args.self.now c.compact_worn.new.self c.make_change.new.self c.in_ok-compact_worn.ensures.compacted) c.make_change.ensures.bases
 
 pub returns-clause-cached : goal.returns-clause-cached
-returns-clause-cached g c = keeps_behind c.args.self.now c.compact_worn.new.self c.make_change.new.self c.compact_worn.ensures.cached c.make_change.ensures.cached
+returns-clause-cached g c = keeps_behind c.args.self.now c.compact_worn.new.self c.make_change.new.self (ap (λ (e : EngineState). e.handed) c.compact_worn.ensures.same) c.compact_worn.ensures.cached c.make_change.ensures.cached
 
 pub returns-in_err-compact_worn-clause-cached : goal.returns-in_err-compact_worn-clause-cached
-returns-in_err-compact_worn-clause-cached g c = keeps_behind c.args.self.now c.compact_worn.new.self c.compact_worn.new.self c.compact_worn.ensures.cached (keeps_itself c.compact_worn.new.self)
+returns-in_err-compact_worn-clause-cached g c = keeps_behind c.args.self.now c.compact_worn.new.self c.compact_worn.new.self (ap (λ (e : EngineState). e.handed) c.compact_worn.ensures.same) c.compact_worn.ensures.cached (keeps_itself c.compact_worn.new.self)
 
 pub returns-clause-work : goal.returns-clause-work
 returns-clause-work g c =

@@ -5,9 +5,11 @@ use Rattle.std.specs.Str.{bytes_eq}
 use Rattle.ncq_bind.specs.Bindings.{Binds, roots_in}
 use Rattle.ncq_book.specs.Books.{BookState}
 use Rattle.ncq_book.specs.declared.subscription.Subscription.{Subscription as Kept}
-use Rattle.ncq_callback.specs.Labels.{Label, labels}
+use Rattle.ncq_callback.specs.Labels.{Handed, handed_in}
 use Rattle.ncq_event.specs.declared.timing.Timing.{Timing}
 use Rattle.ncq_event.specs.Instants.{is_expired}
+use Rattle.ncq_plan.specs.Relations.{Relations, relations}
+use Rattle.ncq_source.specs.StoreStates.{StoreState}
 use Rattle.ncq_engine.specs.Applies.{query_refusal}
 use Rattle.ncq_engine.specs.Joins.{IsSubscriptionOf, timed}
 use Rattle.ncq_engine.specs.Notices.{kind_in}
@@ -30,16 +32,18 @@ has_is g c =
     ∙ ap (λ (b : BookState). has_name c.args.statement.now.name b.subscriptions) (sym c.book.ensures) ∙ sym c.has.ensures
 
 -- the query binds
-binds : (g : Over) (c : In-Ok g) → Binds c.args.statement.now.query (roots_in c.args.self.now.store) (Ok c.in-Ok.query)
-binds g c = subst (λ (e : EngineState). Binds c.args.statement.now.query (roots_in e.store) (Ok c.in-Ok.query)) c.self.view_is c.in-Ok.ensures.answer
+binds : (g : Over) (c : In-Ok g) → Binds c.args.self.now.handed.relations c.args.statement.now.query (roots_in c.args.self.now.store) (Ok c.in-Ok.query)
+binds g c = let asked = (λ i. relations (c.predicates.ensures i).items (λ p. p.name) (λ p. p.relation)) ∙ sym (ap (λ (k : Handed). k.relations) c.requires.handlers) in
+    let declared = ap (λ (e : EngineState). e.store) c.self.view_is in
+    subst (λ (p : Relations × StoreState). Binds p.0 c.args.statement.now.query (roots_in p.1) (Ok c.in-Ok.query)) (λ i. (asked i, declared i)) c.in-Ok.ensures.answer
 
 -- the subscription is that of the statement
-its : (g : Over) (c : In_ok-subscription g) → has_name c.args.statement.now.name c.args.self.now.subscriptions ≡ false → Binds c.args.statement.now.query (roots_in c.args.self.now.store) (Ok c.in-Ok.query)
+its : (g : Over) (c : In_ok-subscription g) → has_name c.args.statement.now.name c.args.self.now.subscriptions ≡ false → Binds c.args.self.now.handed.relations c.args.statement.now.query (roots_in c.args.self.now.store) (Ok c.in-Ok.query)
     → IsSubscriptionOf c.args.self.now c.args.statement.now c.in_ok-subscription.subscription
 its g c free binds =
     let statement = c.args.statement.now in
     let now = c.timing_of-timing.ensures ∙ ap (timed statement) (c.instant.ensures ∙ ap (λ (b : BookState). b.instant) c.book-2.ensures ∙ ap (λ (e : EngineState). e.clock) c.self.view_is) in
-    subscription_of_it c.args.self.now (labels c.args.handlers.now.items.items (λ h. h.name) (λ h. h.kind)) c.requires.handlers statement c.in-Ok.query c.in-Some.action c.timing_of-timing.result c.in_ok-subscription.subscription now c.in_ok-subscription.ensures
+    subscription_of_it c.args.self.now (handed_in c.args.handlers.now.items.items (λ h. h.name) (λ h. h.kind) c.args.handlers.now.predicates.items (λ p. p.name) (λ p. p.relation)) c.requires.handlers statement c.in-Ok.query c.in-Some.action c.timing_of-timing.result c.in_ok-subscription.subscription now c.in_ok-subscription.ensures
     c.requires.whole binds c.in-Ok.ensures.formed c.in-Some.ensures.within c.in-Some.ensures.some.0 c.in-Some.ensures.named c.in-Some.ensures.some.1 free (sym c.is_expired.ensures ∙ c.if-is_expired.false)
 
 pub returns-then-has-clause-applies : goal.returns-then-has-clause-applies
@@ -50,13 +54,15 @@ returns-then-has-clause-applies g c =
 pub returns-in-Err-clause-applies : goal.returns-in-Err-clause-applies
 returns-in-Err-clause-applies g c =
     let at = goal.at.returns-in-Err-clause-applies g c in
+    let asked = (λ i. relations (c.predicates.ensures i).items (λ p. p.name) (λ p. p.relation)) ∙ sym (ap (λ (k : Handed). k.relations) c.requires.handlers) in
+    let declared = ap (λ (e : EngineState). e.store) c.self.view_is in
     create_unbound c.args.self.now c.args.statement.now c.args.out.now.items c.refuse_query.result c.refuse_query.new.self c.in-Err.error c.refuse_query.ensures.counted c.refuse_query.ensures.same c.refuse_query.ensures.refused (has_is g at.After-has ∙ c.if-has.false)
-    (subst (λ (e : EngineState). Binds c.args.statement.now.query (roots_in e.store) (Err c.in-Err.error)) c.self.view_is c.in-Err.ensures.answer)
+    (subst (λ (p : Relations × StoreState). Binds p.0 c.args.statement.now.query (roots_in p.1) (Err c.in-Err.error)) (λ i. (asked i, declared i)) c.in-Err.ensures.answer)
 
 pub returns-in_default-clause-applies : goal.returns-in_default-clause-applies
 returns-in_default-clause-applies g c =
     let at = goal.at.returns-in_default-clause-applies g c in
-    let odd = subst (λ (ls : List Label). is_at_odds (kind_in c.args.statement.now.action ls) c.args.statement.now.argument ≡ true) (sym c.requires.handlers) c.in_default.ensures.none in
+    let odd = subst (λ (ls : Handed). is_at_odds (kind_in c.args.statement.now.action ls.labels) c.args.statement.now.argument ≡ true) (sym c.requires.handlers) c.in_default.ensures.none in
     create_odd c.args.self.now c.args.statement.now c.args.out.now.items c.refuse-in_default.result c.refuse-in_default.new.self c.refuse-in_default.ensures.counted c.refuse-in_default.ensures.refused (has_is g at.After-has ∙ c.if-has.false)
     c.in-Ok.query (binds g at.In-Ok) odd
 
@@ -64,7 +70,7 @@ pub returns-then-is_expired-clause-applies : goal.returns-then-is_expired-clause
 returns-then-is_expired-clause-applies g c =
     let at = goal.at.returns-then-is_expired-clause-applies g c in
     let statement = c.args.statement.now in
-    let fits = subst (λ (ls : List Label). is_at_odds (kind_in statement.action ls) statement.argument ≡ false) (sym c.requires.handlers)
+    let fits = subst (λ (ls : Handed). is_at_odds (kind_in statement.action ls.labels) statement.argument ≡ false) (sym c.requires.handlers)
     (ap (λ k. is_at_odds k statement.argument) (sym c.in-Some.ensures.some.0) ∙ c.in-Some.ensures.some.1) in
     let now = c.timing_of-timing.ensures ∙ ap (timed statement) (c.instant.ensures ∙ ap (λ (b : BookState). b.instant) c.book-2.ensures ∙ ap (λ (e : EngineState). e.clock) c.self.view_is) in
     create_late c.args.self.now statement c.args.out.now.items c.refuse-then-is_expired.result c.refuse-then-is_expired.new.self c.refuse-then-is_expired.ensures.counted c.refuse-then-is_expired.ensures.refused (has_is g at.After-has ∙ c.if-has.false)

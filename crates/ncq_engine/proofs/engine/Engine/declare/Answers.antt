@@ -45,12 +45,12 @@ invariant_of-self c =
 pub invariant_of-self-in-Err-Exists : goal.invariant_of-self-in-Err-Exists
 invariant_of-self-in-Err-Exists c =
     let i = c.self.inside in
-    subst (λ (s : StoreState). IsEngine s i.count i.creates i.labels.items i.live_table.subscriptions i.live_table.table i.cache i.distinct) (sym c.in-Err-Exists.ensures.err) c.self.invariant
+    subst (λ (s : StoreState). IsEngine s i.count i.creates (record { labels = i.labels.items; relations = i.relations.items }) i.live_table.subscriptions i.live_table.table i.cache i.distinct) (sym c.in-Err-Exists.ensures.err) c.self.invariant
 
 pub invariant_of-self-in-Err-OutOfMemory : goal.invariant_of-self-in-Err-OutOfMemory
 invariant_of-self-in-Err-OutOfMemory c =
     let i = c.self.inside in
-    subst (λ (s : StoreState). IsEngine s i.count i.creates i.labels.items i.live_table.subscriptions i.live_table.table i.cache i.distinct) (sym c.in-Err-OutOfMemory.ensures.err) c.self.invariant
+    subst (λ (s : StoreState). IsEngine s i.count i.creates (record { labels = i.labels.items; relations = i.relations.items }) i.live_table.subscriptions i.live_table.table i.cache i.distinct) (sym c.in-Err-OutOfMemory.ensures.err) c.self.invariant
 
 -- what is kept of what was told is kept still
 pub returns-in_err-answered-clause-cached : goal.returns-in_err-answered-clause-cached

@@ -48,5 +48,5 @@ returns-clause-cached c =
     let was = view_of c.self.inside in
     let after = c.take_all.new.live_table in
     let left = c.take_all.ensures.left in
-    subst (λ (e : EngineState). KeepsPairs e.table e.cache after.table was.cache) c.self.view_is
-    (keeps_left was.table after.table left.files left.number left.next_file was.cache was.cache (grows_none was.table was.cache))
+    subst (λ (e : EngineState). KeepsPairs e.handed.relations e.table e.cache after.table was.cache) c.self.view_is
+    (keeps_left was.handed.relations was.table after.table left.files left.number left.next_file was.cache was.cache (grows_none was.handed.relations was.table was.cache))

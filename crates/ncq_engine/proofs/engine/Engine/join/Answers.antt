@@ -1,9 +1,10 @@
 use Rattle.std.proofs.Common.{◌≡◌, ◌∙◌, List, ap, refl, rules, subst, sym, arith}
 use Rattle.std.specs.Prelude.{Err, Ok}
 use Rattle.std.proofs.Math.Seq.{take-length}
-use Rattle.ncq_callback.specs.Labels.{labels}
+use Rattle.ncq_callback.specs.Labels.{handed_in}
 use Rattle.ncq_event.specs.declared.firing.Firing.{Firing}
 use Rattle.ncq_live.specs.LiveTables.{LiveState}
+use Rattle.ncq_plan.specs.Relations.{relations}
 use Rattle.ncq_script.specs.declared.command.Command.TheVariants.{Create}
 use Rattle.ncq_xmlql.specs.declared.model.Statement.{Statement}
 use Rattle.ncq_engine.specs.declared.engine.ApplyError.TheVariants.{OutOfMemory}
@@ -12,7 +13,7 @@ use Rattle.ncq_engine.specs.Cached.{KeepsPairs}
 use Rattle.ncq_engine.specs.Joins.{IsSubscriptionOf}
 use Rattle.ncq_engine.specs.Stands.{EngineState}
 use Rattle.ncq_engine.specs.Tellings.{Awaits, noted_by}
-use Rattle.ncq_engine.proofs.CachedAnswers.{keeps_itself, keeps_none, keeps_same}
+use Rattle.ncq_engine.proofs.CachedAnswers.{awaits_as, grows_as, serve_as, keeps_itself, keeps_none, keeps_same}
 use Rattle.ncq_engine.proofs.CountedLaws.{HasSettled}
 use Rattle.ncq_engine.proofs.CreateAnswers.{HasCome, above_is, come_answers, come_can, come_holds, come_keeps, come_serve, created_engine, free_is, gone_mark, gone_subscriptions, gone_table, room_left, subscriptions_few}
 use Rattle.ncq_engine.proofs.EngineLaws.{applies_cached, applies_counts, gives_up}
@@ -46,11 +47,12 @@ noted : (g : Over) (c : After-note_all g) → c.note_all.new.live_table ≡ reco
 noted g c = c.note_all.ensures ∙ (λ j. record c.add.new.self { subscriptions = noted_by (c.changes-changes.ensures j) (c.as_slice.ensures j) c.add.new.self.subscriptions })
 
 -- what waited for it was settled
-settles : (g : Over) (c : After-settle g) → HasSettled c.self.inside.store c.add.new.self c.in-Ok.firings c.self.inside.distinct c.settle.new.self
+settles : (g : Over) (c : After-settle g) → HasSettled (view_of c.self.inside).handed.relations c.self.inside.store c.add.new.self c.in-Ok.firings c.self.inside.distinct c.settle.new.self
 settles g c = record {
   waited = c.answer_create.new.distinct;
   same = c.answer_create.ensures.counts;
-  waits = subst (λ (firings : List Firing). Awaits c.self.inside.store c.add.new.self firings c.answer_create.new.distinct) (sym c.in-Ok.ensures.firings) c.in-Ok.ensures.waiting;
+  waits = awaits_as (view_of c.self.inside).handed _ (ap (λ (e : EngineState). e.handed) c.self.view_is ∙ c.requires.handlers) c.self.inside.store c.add.new.self c.in-Ok.firings c.answer_create.new.distinct
+      (subst (λ (firings : List Firing). Awaits (relations c.args.handlers.now.predicates.items (λ p. p.name) (λ p. p.relation)) c.self.inside.store c.add.new.self firings c.answer_create.new.distinct) (sym c.in-Ok.ensures.firings) c.in-Ok.ensures.waiting);
   settled = c.settle.ensures.counts;
 }
 
@@ -107,8 +109,8 @@ pub answer_create-requires : goal.answer_create-requires
 answer_create-requires g c =
     let come_in = come g (goal.at.answer_create-requires g c).After-facts-2 c.requires.some.0 c.requires.some.1 in
     record {
-      can = come_can come_in (labels c.args.handlers.now.items.items (λ h. h.name) (λ h. h.kind)) (ap (λ (e : EngineState). e.labels) c.self.view_is ∙ c.requires.handlers);
-      serve = come_serve come_in;
+      can = come_can come_in (handed_in c.args.handlers.now.items.items (λ h. h.name) (λ h. h.kind) c.args.handlers.now.predicates.items (λ p. p.name) (λ p. p.relation)) (ap (λ (e : EngineState). e.handed) c.self.view_is ∙ c.requires.handlers);
+      serve = serve_as (view_of c.self.inside).handed _ (ap (λ (e : EngineState). e.handed) c.self.view_is ∙ c.requires.handlers) c.add.new.self.table c.self.inside.cache (come_serve come_in);
     }
 
 pub invariant_of-self : goal.invariant_of-self
@@ -119,7 +121,7 @@ invariant_of-self g c =
 pub invariant_of-self-in-Ok : goal.invariant_of-self-in-Ok
 invariant_of-self-in-Ok g c =
     let at = goal.at.invariant_of-self-in-Ok g c in
-    come_holds (come g at.After-facts-2 c.requires.some.0 c.requires.some.1) c.in-Ok.firings c.in-Ok.ensures.firings c.note_all.new.live_table (noted g at.After-note_all) c.answer_create.new.cache c.settle.new.self c.answer_create.ensures.cached (settles g at.After-settle)
+    come_holds (come g at.After-facts-2 c.requires.some.0 c.requires.some.1) c.in-Ok.firings c.in-Ok.ensures.firings c.note_all.new.live_table (noted g at.After-note_all) c.answer_create.new.cache c.settle.new.self (grows_as (view_of c.self.inside).handed _ (ap (λ (e : EngineState). e.handed) c.self.view_is ∙ c.requires.handlers) c.add.new.self.table c.self.inside.cache c.answer_create.new.cache c.answer_create.ensures.cached) (settles g at.After-settle)
 
 pub roll_back-requires-clause-base : goal.roll_back-requires-clause-base
 roll_back-requires-clause-base g c = λ number file there.
@@ -137,7 +139,7 @@ invariant_of-self-in-Err g c =
     let after = c.roll_back.new.self in
     let still = gone g at.After-roll_back c.requires.some.0 (come g at.After-facts-2 c.requires.some.0 c.requires.some.1) in
     invariant_waits (record (view_of c.self.inside) { subscriptions = after.subscriptions; table = after.table; cache = c.clear.new.self }) c.answer_create.new.distinct c.answer_create.ensures.counts
-    (invariant_cached (record (view_of c.self.inside) { subscriptions = after.subscriptions; table = after.table }) c.clear.new.self (none_serve after.table c.clear.new.self c.clear.ensures)
+    (invariant_cached (record (view_of c.self.inside) { subscriptions = after.subscriptions; table = after.table }) c.clear.new.self (none_serve (view_of c.self.inside).handed.relations after.table c.clear.new.self c.clear.ensures)
     (invariant_same (view_of c.self.inside) after still.subscriptions still.table c.self.invariant))
 
 pub returns-in-Ok-clause-applies : goal.returns-in-Ok-clause-applies
@@ -146,7 +148,7 @@ returns-in-Ok-clause-applies g c = λ statement its.
     let was = view_of c.self.inside in
     subst (λ (e : EngineState). Applies e (Create statement) c.args.out.now.items (Ok c.in-Ok.answered) (created_engine was c.note_all.new.live_table c.answer_create.new.cache c.settle.new.self) c.answer_create.new.out.items) c.self.view_is
     (come_answers (come g at.After-facts-2 statement its) c.in-Ok.firings c.in-Ok.ensures.firings c.note_all.new.live_table (noted g at.After-note_all)
-    (labels c.args.handlers.now.items.items (λ h. h.name) (λ h. h.kind)) (ap (λ (e : EngineState). e.labels) c.self.view_is ∙ c.requires.handlers) c.args.out.now.items c.answer_create.new.out.items c.in-Ok.answered c.answer_create.new.cache c.settle.new.self (settles g at.After-settle) c.in-Ok.ensures.told)
+    (handed_in c.args.handlers.now.items.items (λ h. h.name) (λ h. h.kind) c.args.handlers.now.predicates.items (λ p. p.name) (λ p. p.relation)) (ap (λ (e : EngineState). e.handed) c.self.view_is ∙ c.requires.handlers) c.args.out.now.items c.answer_create.new.out.items c.in-Ok.answered c.answer_create.new.cache c.settle.new.self (settles g at.After-settle) c.in-Ok.ensures.told)
 
 pub returns-in_err-plan-clause-applies : goal.returns-in_err-plan-clause-applies
 returns-in_err-plan-clause-applies g c = λ statement its.
@@ -191,8 +193,8 @@ returns-in_err-add-clause-cached g c =
 pub returns-in-Ok-clause-cached : goal.returns-in-Ok-clause-cached
 returns-in-Ok-clause-cached g c =
     let at = goal.at.returns-in-Ok-clause-cached g c in
-    subst (λ (e : EngineState). KeepsPairs e.table e.cache c.note_all.new.live_table.table c.answer_create.new.cache) c.self.view_is
-    (come_keeps (come g at.After-facts-2 c.requires.some.0 c.requires.some.1) c.in-Ok.firings c.in-Ok.ensures.firings c.note_all.new.live_table (noted g at.After-note_all) c.answer_create.new.cache c.answer_create.ensures.cached)
+    subst (λ (e : EngineState). KeepsPairs e.handed.relations e.table e.cache c.note_all.new.live_table.table c.answer_create.new.cache) c.self.view_is
+    (come_keeps (come g at.After-facts-2 c.requires.some.0 c.requires.some.1) c.in-Ok.firings c.in-Ok.ensures.firings c.note_all.new.live_table (noted g at.After-note_all) c.answer_create.new.cache (grows_as (view_of c.self.inside).handed _ (ap (λ (e : EngineState). e.handed) c.self.view_is ∙ c.requires.handlers) c.add.new.self.table c.self.inside.cache c.answer_create.new.cache c.answer_create.ensures.cached))
 
 pub returns-clause-cached : goal.returns-clause-cached
 returns-clause-cached g c = keeps_none c.args.self.now c.roll_back.new.self.table c.clear.new.self c.clear.ensures

@@ -4,8 +4,9 @@ use Rattle.std.proofs.Math.Seq.{take-length}
 use Rattle.std.specs.FinMap.{get}
 use Rattle.std.specs.Option.{option_map}
 use Rattle.ncq_book.specs.Books.{watchers_of}
-use Rattle.ncq_callback.specs.Labels.{labels}
+use Rattle.ncq_callback.specs.Labels.{handed_in}
 use Rattle.ncq_group.specs.Tables.{mark_of}
+use Rattle.ncq_plan.specs.Relations.{relations}
 use Rattle.ncq_group.specs.declared.mark.GroupMark.{GroupMark}
 use Rattle.ncq_script.specs.declared.command.Command.TheVariants.{Delta}
 use Rattle.ncq_shelf.specs.Contents.{cut_to}
@@ -15,7 +16,7 @@ use Rattle.ncq_engine.specs.Stands.{EngineState}
 use Rattle.ncq_engine.specs.Tellings.{Awaits, IsAnswered, started_of}
 use Rattle.ncq_engine.specs.Compactions.{KeepBases}
 use Rattle.ncq_engine.proofs.BaseLaws.{answered_so, bases_fed, bases_same, refused_table}
-use Rattle.ncq_engine.proofs.CachedAnswers.{keeps_as_was, keeps_none, keeps_refused, keeps_same}
+use Rattle.ncq_engine.proofs.CachedAnswers.{awaits_as, grows_as, serve_as, keeps_as_was, keeps_none, keeps_refused, keeps_same}
 use Rattle.ncq_engine.proofs.ChangeAnswers.{IsFed, IsReserved, can_tell, change_answers, changed_engine, changed_keeps, fed_firings, holds_changed, holds_ready, is_prepared, served}
 use Rattle.ncq_engine.proofs.CountedLaws.{HasSettled}
 use Rattle.ncq_engine.proofs.ChangeLaws.{change_refused, told_known}
@@ -57,11 +58,12 @@ fed g c = record {
 
 -- what waited for those who fire was settled
 settles : (g : Over) (c : After-settle g) → (fed : List ℕ) → c.as_slice.result.now ≡ fed
-    → HasSettled c.reserve.new.self c.feed.new.self (fed_firings c.feed.new.self fed) c.self.inside.distinct c.settle.new.self
+    → HasSettled (view_of c.self.inside).handed.relations c.reserve.new.self c.feed.new.self (fed_firings c.feed.new.self fed) c.self.inside.distinct c.settle.new.self
 settles g c fed is = record {
   waited = c.answer_change.new.distinct;
   same = c.answer_change.ensures.counts;
-  waits = subst (λ (list : List ℕ). Awaits c.reserve.new.self c.feed.new.self (fed_firings c.feed.new.self list) c.answer_change.new.distinct) is c.in-Ok-answer_change.ensures.waiting;
+  waits = awaits_as (view_of c.self.inside).handed _ (ap (λ (e : EngineState). e.handed) c.self.view_is ∙ c.requires.handlers) c.reserve.new.self c.feed.new.self (fed_firings c.feed.new.self fed) c.answer_change.new.distinct
+      (subst (λ (list : List ℕ). Awaits (relations c.args.handlers.now.predicates.items (λ p. p.name) (λ p. p.relation)) c.reserve.new.self c.feed.new.self (fed_firings c.feed.new.self list) c.answer_change.new.distinct) is c.in-Ok-answer_change.ensures.waiting);
   settled = c.settle.ensures.counts;
 }
 
@@ -122,12 +124,12 @@ answer_change-requires g c =
     let at = goal.at.answer_change-requires g c in
     let ready = reserved g at.In_ok-reserve in
     let done = fed g at.After-facts-2 in
-    record { can = can_tell ready done (labels c.args.handlers.now.items.items (λ h. h.name) (λ h. h.kind)) (ap (λ (e : EngineState). e.labels) c.self.view_is ∙ c.requires.handlers); serve = served ready done }
+    record { can = can_tell ready done (handed_in c.args.handlers.now.items.items (λ h. h.name) (λ h. h.kind) c.args.handlers.now.predicates.items (λ p. p.name) (λ p. p.relation)) (ap (λ (e : EngineState). e.handed) c.self.view_is ∙ c.requires.handlers); serve = serve_as (view_of c.self.inside).handed _ (ap (λ (e : EngineState). e.handed) c.self.view_is ∙ c.requires.handlers) c.feed.new.self.table c.self.inside.cache (served ready done) }
 
 pub invariant_of-self-in-Ok-answer_change : goal.invariant_of-self-in-Ok-answer_change
 invariant_of-self-in-Ok-answer_change g c =
     let at = goal.at.invariant_of-self-in-Ok-answer_change g c in
-    holds_changed (reserved g at.In_ok-reserve) (fed g at.After-facts-2) c.commit.new.self c.commit.ensures.done c.answer_change.new.cache c.settle.new.self c.answer_change.ensures.cached (settles g at.After-settle c.in_ok-fed.fed c.as_slice.ensures)
+    holds_changed (reserved g at.In_ok-reserve) (fed g at.After-facts-2) c.commit.new.self c.commit.ensures.done c.answer_change.new.cache c.settle.new.self (grows_as (view_of c.self.inside).handed _ (ap (λ (e : EngineState). e.handed) c.self.view_is ∙ c.requires.handlers) c.feed.new.self.table c.self.inside.cache c.answer_change.new.cache c.answer_change.ensures.cached) (settles g at.After-settle c.in_ok-fed.fed c.as_slice.ensures)
 
 pub invariant_of-self-in-Err-answer_change : goal.invariant_of-self-in-Err-answer_change
 invariant_of-self-in-Err-answer_change g c =
@@ -136,17 +138,17 @@ invariant_of-self-in-Err-answer_change g c =
     let after = c.roll_back.new.self in
     let still = rolled_back g at.After-roll_back ready in
     invariant_waits (record (view_of c.self.inside) { store = c.reserve.new.self; subscriptions = after.subscriptions; table = after.table; cache = c.clear.new.self }) c.answer_change.new.distinct c.answer_change.ensures.counts
-    (invariant_cached (record (view_of c.self.inside) { store = c.reserve.new.self; subscriptions = after.subscriptions; table = after.table }) c.clear.new.self (none_serve after.table c.clear.new.self c.clear.ensures)
+    (invariant_cached (record (view_of c.self.inside) { store = c.reserve.new.self; subscriptions = after.subscriptions; table = after.table }) c.clear.new.self (none_serve (view_of c.self.inside).handed.relations after.table c.clear.new.self c.clear.ensures)
     (invariant_same (record (view_of c.self.inside) { store = c.reserve.new.self }) after still.subscriptions still.table (holds_ready ready)))
 
 pub returns-in-Ok-answer_change-clause-applies : goal.returns-in-Ok-answer_change-clause-applies
 returns-in-Ok-answer_change-clause-applies g c =
     let at = goal.at.returns-in-Ok-answer_change-clause-applies g c in
-    let known = labels c.args.handlers.now.items.items (λ h. h.name) (λ h. h.kind) in
+    let known = handed_in c.args.handlers.now.items.items (λ h. h.name) (λ h. h.kind) c.args.handlers.now.predicates.items (λ p. p.name) (λ p. p.relation) in
     let after = c.feed.new.self in
     let told = subst (λ list. IsAnswered (c.self.inside.count + 1) known c.reserve.new.self c.self.inside.distinct after (started_of after (watchers_of list after.subscriptions)) c.args.out.now.items c.answer_change.new.out.items c.in-Ok-answer_change.answered) c.as_slice.ensures c.in-Ok-answer_change.ensures.told in
     subst (λ (e : EngineState). Applies e (Delta c.args.sections.now) c.args.out.now.items (Ok c.in-Ok-answer_change.answered) (changed_engine (view_of c.self.inside) c.commit.new.self after c.answer_change.new.cache c.settle.new.self) c.answer_change.new.out.items) c.self.view_is
-    (change_answers (reserved g at.In_ok-reserve) (fed g at.After-facts-2) c.commit.new.self c.commit.ensures.done known (ap (λ (e : EngineState). e.labels) c.self.view_is ∙ c.requires.handlers)
+    (change_answers (reserved g at.In_ok-reserve) (fed g at.After-facts-2) c.commit.new.self c.commit.ensures.done known (ap (λ (e : EngineState). e.handed) c.self.view_is ∙ c.requires.handlers)
     c.args.out.now.items c.answer_change.new.out.items c.in-Ok-answer_change.answered c.answer_change.new.cache c.settle.new.self (settles g at.After-settle c.in_ok-fed.fed c.as_slice.ensures) told)
 
 pub returns-in_err-reserve-clause-applies : goal.returns-in_err-reserve-clause-applies
@@ -205,8 +207,8 @@ returns-in_err-fed-clause-cached g c =
 pub returns-in-Ok-answer_change-clause-cached : goal.returns-in-Ok-answer_change-clause-cached
 returns-in-Ok-answer_change-clause-cached g c =
     let at = goal.at.returns-in-Ok-answer_change-clause-cached g c in
-    subst (λ (e : EngineState). KeepsPairs e.table e.cache c.feed.new.self.table c.answer_change.new.cache) c.self.view_is
-    (changed_keeps (reserved g at.In_ok-reserve) (fed g at.After-facts-2) c.answer_change.new.cache c.answer_change.ensures.cached)
+    subst (λ (e : EngineState). KeepsPairs e.handed.relations e.table e.cache c.feed.new.self.table c.answer_change.new.cache) c.self.view_is
+    (changed_keeps (reserved g at.In_ok-reserve) (fed g at.After-facts-2) c.answer_change.new.cache (grows_as (view_of c.self.inside).handed _ (ap (λ (e : EngineState). e.handed) c.self.view_is ∙ c.requires.handlers) c.feed.new.self.table c.self.inside.cache c.answer_change.new.cache c.answer_change.ensures.cached))
 
 pub returns-in-Err-answer_change-clause-cached : goal.returns-in-Err-answer_change-clause-cached
 returns-in-Err-answer_change-clause-cached g c = keeps_none c.args.self.now c.roll_back.new.self.table c.clear.new.self c.clear.ensures

@@ -5,20 +5,21 @@ use Rattle.std.specs.Prelude.{Err, Ok, Result, nat_lt, IsSome}
 use Rattle.std.specs.List.{filter, flat_map, AllByRecursion}
 use Rattle.std.proofs.lemmas.Bool.Decides.{nat_tests}
 use Rattle.ncq_book.specs.Books.{BookState, subscription_of, timing_of}
-use Rattle.ncq_callback.specs.Labels.{labels}
+use Rattle.ncq_callback.specs.Labels.{handed_in}
 use Rattle.ncq_event.specs.Calendars.{due_firings, expired_at}
 use Rattle.ncq_event.specs.declared.firing.Firing.{Firing}
 use Rattle.ncq_group.specs.Tables.{TableState}
 use Rattle.ncq_live.specs.LiveTables.{LiveState}
 use Rattle.ncq_script.specs.declared.command.Command.TheVariants.{Clock}
+use Rattle.ncq_plan.specs.Relations.{relations}
 use Rattle.ncq_engine.specs.declared.engine.ApplyError.{ApplyError}
 use Rattle.ncq_engine.specs.declared.engine.ApplyError.TheVariants.{OutOfMemory}
 use Rattle.ncq_engine.specs.declared.telling.Answered.{Answered}
 use Rattle.ncq_engine.specs.Applies.{Applies}
-use Rattle.ncq_engine.specs.Cached.{KeepsPairs}
+use Rattle.ncq_engine.specs.Cached.{Grows, KeepsPairs}
 use Rattle.ncq_engine.specs.Stands.{EngineState}
 use Rattle.ncq_engine.specs.Tellings.{Awaits, IsLeftBy, expired_of, firing_text, is_news_at, noted_by}
-use Rattle.ncq_engine.proofs.CachedAnswers.{keeps_counted, keeps_itself}
+use Rattle.ncq_engine.proofs.CachedAnswers.{awaits_as, grows_as, serve_as, keeps_counted, keeps_itself}
 use Rattle.ncq_engine.proofs.ClockAnswers.{AreAsked, AreSettled, IsMoved, IsWritten, clock_can, moved_applies, moved_engine, moved_holds, moved_keeps, there, told_holds, told_keeps}
 use Rattle.ncq_engine.proofs.EngineLaws.{applies_cached, applies_counts, gives_up}
 use Rattle.ncq_engine.proofs.FiringLaws.{firing_spans}
@@ -42,11 +43,11 @@ asked g c = record {
 }
 
 -- what was written
-written : (g : Over) (c : In_ok-write_expired g) → IsWritten (view_of c.self.inside) (labels c.args.handlers.now.items.items (λ h. h.name) (λ h. h.kind)) c.in_ok-firings.firings
+written : (g : Over) (c : In_ok-write_expired g) → IsWritten (view_of c.self.inside) (handed_in c.args.handlers.now.items.items (λ h. h.name) (λ h. h.kind) c.args.handlers.now.predicates.items (λ p. p.name) (λ p. p.relation)) c.in_ok-firings.firings
     (expired_at c.args.instant (map timing_of c.self.inside.live_table.subscriptions)) c.write_accepted.new.out.items c.tell.new.out.items c.write_expired.new.out.items c.in_ok-spans.spans
 written g c =
     let i = c.self.inside in
-    let known = labels c.args.handlers.now.items.items (λ h. h.name) (λ h. h.kind) in
+    let known = handed_in c.args.handlers.now.items.items (λ h. h.name) (λ h. h.kind) c.args.handlers.now.predicates.items (λ p. p.name) (λ p. p.relation) in
     let expired_is = c.as_slice-3.ensures ∙ c.in_ok-expired.ensures ∙ ap (λ (b : BookState). expired_at c.args.instant (map timing_of b.subscriptions)) c.book-4.ensures in
     record {
       text = subst (λ (fs : List Firing). c.tell.new.out.items ≡ c.write_accepted.new.out.items ++ flat_map (firing_text known i.store i.live_table.table.files i.distinct i.live_table.subscriptions) fs) c.as_slice-2.ensures c.in_ok-spans.ensures.text;
@@ -76,7 +77,8 @@ settled g c =
       settles = record {
         waited = c.tell.new.distinct;
         same = c.tell.ensures.counts;
-        waits = subst (λ (fs : List Firing). Awaits i.store i.live_table fs c.tell.new.distinct) c.as_slice-2.ensures c.in_ok-spans.ensures.waiting;
+        waits = awaits_as (view_of c.self.inside).handed _ (ap (λ (e : EngineState). e.handed) c.self.view_is ∙ c.requires.handlers) i.store i.live_table c.in_ok-firings.firings c.tell.new.distinct
+            (subst (λ (fs : List Firing). Awaits (relations c.args.handlers.now.predicates.items (λ p. p.name) (λ p. p.relation)) i.store i.live_table fs c.tell.new.distinct) c.as_slice-2.ensures c.in_ok-spans.ensures.waiting);
         settled = c.settle.ensures.counts;
       };
       removed = subst (λ (ns : List ℕ). AreRemoved ns c.settle.new.self c.take_all.new.distinct) expired_is c.take_all.ensures.counts;
@@ -84,18 +86,22 @@ settled g c =
 
 pub tell-requires-clause-can : goal.tell-requires-clause-can
 tell-requires-clause-can g c =
-    clock_can (asked g (goal.at.tell-requires-clause-can g c).After-facts) (labels c.args.handlers.now.items.items (λ h. h.name) (λ h. h.kind)) (ap (λ (e : EngineState). e.labels) c.self.view_is ∙ c.requires.handlers)
+    clock_can (asked g (goal.at.tell-requires-clause-can g c).After-facts) (handed_in c.args.handlers.now.items.items (λ h. h.name) (λ h. h.kind) c.args.handlers.now.predicates.items (λ p. p.name) (λ p. p.relation)) (ap (λ (e : EngineState). e.handed) c.self.view_is ∙ c.requires.handlers)
 
 pub tell-requires-clause-there : goal.tell-requires-clause-there
 tell-requires-clause-there g c =
     subst (λ (fs : List Firing). AllByRecursion (λ f. IsSome (subscription_of f.install c.self.inside.live_table.subscriptions)) fs) (sym c.as_slice-2.ensures) (there (asked g (goal.at.tell-requires-clause-there g c).After-facts))
 
 pub tell-requires-clause-serve : goal.tell-requires-clause-serve
-tell-requires-clause-serve g c = c.self.invariant.serve
+tell-requires-clause-serve g c = serve_as (view_of c.self.inside).handed _ (ap (λ (e : EngineState). e.handed) c.self.view_is ∙ c.requires.handlers) c.self.inside.live_table.table c.self.inside.cache c.self.invariant.serve
+
+-- what is kept of what was told grew
+grows : (g : Over) (c : After-tell g) → Grows (view_of c.self.inside).handed.relations c.self.inside.live_table.table c.self.inside.cache c.tell.new.cache
+grows g c = grows_as (view_of c.self.inside).handed _ (ap (λ (e : EngineState). e.handed) c.self.view_is ∙ c.requires.handlers) c.self.inside.live_table.table c.self.inside.cache c.tell.new.cache c.tell.ensures.cached
 
 -- behind the telling, what is kept of what was told, and what waits
 holds_told : (g : Over) (c : After-tell g) {firings : List Firing} {expired : List ℕ} → AreAsked (view_of c.self.inside) c.args.instant firings expired → Invariant (record (view_of c.self.inside) { cache = c.tell.new.cache; distinct = c.tell.new.distinct })
-holds_told g c asked = invariant_waits (record (view_of c.self.inside) { cache = c.tell.new.cache }) c.tell.new.distinct c.tell.ensures.counts (told_holds asked c.tell.new.cache c.tell.ensures.cached)
+holds_told g c asked = invariant_waits (record (view_of c.self.inside) { cache = c.tell.new.cache }) c.tell.new.distinct c.tell.ensures.counts (told_holds asked c.tell.new.cache (grows g c))
 
 pub invariant_of-self : goal.invariant_of-self
 invariant_of-self g c = let at = goal.at.invariant_of-self g c in holds_told g at.After-tell (asked g at.After-facts)
@@ -114,7 +120,7 @@ invariant_of-self-in_err-move_to g c =
 pub invariant_of-self-2 : goal.invariant_of-self-2
 invariant_of-self-2 g c =
     let at = goal.at.invariant_of-self-2 g c in
-    moved_holds (asked g at.After-facts) c.take_all.new.live_table (moved g at.After-facts-2) c.tell.new.cache c.take_all.new.distinct c.tell.ensures.cached (settled g at.After-facts-2)
+    moved_holds (asked g at.After-facts) c.take_all.new.live_table (moved g at.After-facts-2) c.tell.new.cache c.take_all.new.distinct (grows g at.After-tell) (settled g at.After-facts-2)
 
 pub returns-clause-applies : goal.returns-clause-applies
 returns-clause-applies g c =
@@ -125,7 +131,7 @@ returns-clause-applies g c =
     let here : c.instant.result ≡ was.clock = c.instant.ensures ∙ ap (λ (b : BookState). b.instant) c.book.ensures in
     let later : nat_lt c.args.instant was.clock ≡ false = grind (arith, nat_tests, late, here) in
     subst (λ (e : EngineState). Applies e (Clock c.args.instant) c.args.out.now.items (Ok c.with-answered.result) (moved_engine was after c.tell.new.cache c.take_all.new.distinct) c.write_expired.new.out.items) c.self.view_is
-    (moved_applies (asked g at.After-facts) after (moved g at.After-facts-2) later (labels c.args.handlers.now.items.items (λ h. h.name) (λ h. h.kind)) (ap (λ (e : EngineState). e.labels) c.self.view_is ∙ c.requires.handlers)
+    (moved_applies (asked g at.After-facts) after (moved g at.After-facts-2) later (handed_in c.args.handlers.now.items.items (λ h. h.name) (λ h. h.kind) c.args.handlers.now.predicates.items (λ p. p.name) (λ p. p.relation)) (ap (λ (e : EngineState). e.handed) c.self.view_is ∙ c.requires.handlers)
     c.args.out.now.items c.write_accepted.new.out.items c.tell.new.out.items c.write_expired.new.out.items c.in_ok-spans.spans c.with-answered.result c.tell.new.cache c.take_all.new.distinct (settled g at.After-facts-2) c.in_ok-answered.ensures.text (written g at.In_ok-write_expired)
     (ap (λ (a : Answered). a.from) c.with-answered.ensures ∙ ap (λ (a : Answered). a.from) c.in_ok-answered.ensures.places)
     (ap (λ (a : Answered). a.to) c.with-answered.ensures)
@@ -145,8 +151,8 @@ pub returns-in_err-firings-clause-cached : goal.returns-in_err-firings-clause-ca
 returns-in_err-firings-clause-cached g c = keeps_itself c.args.self.now
 
 told : (g : Over) (c : After-tell g) {firings : List Firing} {expired : List ℕ} → AreAsked (view_of c.self.inside) c.args.instant firings expired → (table : TableState) → table ≡ c.self.inside.live_table.table
-    → KeepsPairs c.args.self.now.table c.args.self.now.cache table c.tell.new.cache
-told g c asked table same = subst (λ (e : EngineState). KeepsPairs e.table e.cache table c.tell.new.cache) c.self.view_is (told_keeps asked table c.tell.new.cache same c.tell.ensures.cached)
+    → KeepsPairs c.args.self.now.handed.relations c.args.self.now.table c.args.self.now.cache table c.tell.new.cache
+told g c asked table same = subst (λ (e : EngineState). KeepsPairs e.handed.relations e.table e.cache table c.tell.new.cache) c.self.view_is (told_keeps asked table c.tell.new.cache same (grows g c))
 
 pub returns-in_err-spans-clause-cached : goal.returns-in_err-spans-clause-cached
 returns-in_err-spans-clause-cached g c =
@@ -171,8 +177,8 @@ returns-in_err-move_to-clause-cached g c =
 pub returns-clause-cached : goal.returns-clause-cached
 returns-clause-cached g c =
     let at = goal.at.returns-clause-cached g c in
-    subst (λ (e : EngineState). KeepsPairs e.table e.cache c.take_all.new.live_table.table c.tell.new.cache) c.self.view_is
-    (moved_keeps (asked g at.After-facts) c.take_all.new.live_table (moved g at.After-facts-2) c.tell.new.cache c.tell.ensures.cached)
+    subst (λ (e : EngineState). KeepsPairs e.handed.relations e.table e.cache c.take_all.new.live_table.table c.tell.new.cache) c.self.view_is
+    (moved_keeps (asked g at.After-facts) c.take_all.new.live_table (moved g at.After-facts-2) c.tell.new.cache (grows g at.After-tell))
 
 -- given up behind the telling, it keeps what it keeps then
 front : (g : Over) (c : After-tell g) → StartsWith c.tell.new.out.items c.args.out.now.items

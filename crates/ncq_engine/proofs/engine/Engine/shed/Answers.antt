@@ -11,7 +11,7 @@ empty : (c : After-clear) → record (view_of c.self.inside) { cache = c.clear.n
 empty c = (λ i. record (view_of c.self.inside) { cache = c.clear.ensures i }) ∙ ap (λ (e : EngineState). record e { cache = [] }) c.self.view_is
 
 pub invariant_of-self : goal.invariant_of-self
-invariant_of-self c = invariant_cached (view_of c.self.inside) c.clear.new.self (none_serve c.self.inside.live_table.table c.clear.new.self c.clear.ensures) c.self.invariant
+invariant_of-self c = invariant_cached (view_of c.self.inside) c.clear.new.self (none_serve (view_of c.self.inside).handed.relations c.self.inside.live_table.table c.clear.new.self c.clear.ensures) c.self.invariant
 
 pub returns-clause-shed : goal.returns-clause-shed
 returns-clause-shed c = empty (goal.at.returns-clause-shed c).After-clear

@@ -1,6 +1,6 @@
 use Rattle.std.proofs.Common.{List, ap}
-use Rattle.ncq_plan.specs.declared.residual.Test.{Test}
-use Rattle.ncq_plan.specs.Residuals.{tests_are_within}
+use Rattle.ncq_plan.specs.declared.residual.Check.{Check}
+use Rattle.ncq_plan.specs.Residuals.{checks_are_within}
 use Rattle.ncq_plan.specs.WellFormed.{arms_width}
 use Rattle.ncq_plan.proofs.CallerLemmas.{text_within}
 use Rattle.ncq_tests_rows.proofs.tests.plans.query.Goals as goal
@@ -14,6 +14,6 @@ returns c = record {
   ranges = c.requires.ranges;
   arms = c.requires.arms;
   paths = c.requires.paths;
-  residual = ap (λ (tests : List Test). tests_are_within (arms_width c.args.arms) tests) c.new.ensures;
+  residual = ap (λ (checks : List Check). checks_are_within (arms_width c.args.arms) checks) c.new.ensures;
   template = text_within (arms_width c.args.arms) c.in_ok-bytes_of.field-0;
 }

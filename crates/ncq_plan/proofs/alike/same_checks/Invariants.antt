@@ -1,5 +1,5 @@
 use Rattle.std.proofs.Common.{◌≡◌, take, length}
-use Rattle.ncq_plan.proofs.alike.same_tests.Given as goal
+use Rattle.ncq_plan.proofs.alike.same_checks.Given as goal
 
 abbrev pub invariant-loop-i : goal.invariant-loop-i
 invariant-loop-i l =

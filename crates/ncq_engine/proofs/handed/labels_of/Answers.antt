@@ -1,7 +1,7 @@
 use Rattle.std.proofs.Common.{◌<◌, length, arith}
 use Rattle.ncq_callback.specs.Labels.{labels}
 use Rattle.ncq_engine.proofs.Actions.{label_more}
-use Rattle.ncq_engine.proofs.engine.labels_of.Goals as goal
+use Rattle.ncq_engine.proofs.handed.labels_of.Goals as goal
 
 pub loop-at-preserved : goal.loop-at-preserved
 loop-at-preserved g c =
