@@ -95,8 +95,8 @@ operand_atom first (Literal text) = atom_of text
 abbrev pub argument_atom : Option (List ℕ) → Atom
 argument_atom argument = atom_of (unwrap_or argument [])
 
--- of a condition, that it holds; one that asks a predicate holds where the predicate has a relation,
--- in which the variable's atom stands to the argument's
+-- of a condition, that it holds; one that asks a predicate holds where the predicate has a
+-- relation, in which the variable's atom stands to the argument's
 abbrev pub item_holds : Relations → (List ℕ → Value) → QueryItem → Bool
 item_holds relations first (Match root arms source) = true
 item_holds relations first (Condition left op right) =

@@ -1,6 +1,7 @@
 -- What a table keeps: counts, and changes of them that wait, by install number. Only the crate's
 -- private clauses cite it.
-use Rattle.std.specs.Prelude.{◌≡◌, ℕ, ◌≤◌, List, [], Option, Some, None, length, map, nat_eq, IfSome}
+use Rattle.std.specs.Prelude.{◌≡◌, ℕ, ◌≤◌, List, [], Option, Some, None, length, map, nat_eq}
+use Rattle.std.specs.Prelude.{IfSome}
 use Rattle.std.specs.FinMap.{empty, from_entries}
 use Rattle.std.specs.Map.{lookup}
 use Rattle.std.specs.Option.{unwrap_or}

@@ -42,8 +42,8 @@ PutsSpot old number place there new =
 -- the number stands no more at one place, and at another; all else is as before
 abbrev pub MovesSpot : Spots → ℕ → ℕ → ℕ → Spots → Type 0
 MovesSpot old number from to new =
-    (n q : ℕ) → is_spot new n q ≡ cond (nat_eq number n && nat_eq from q) false (cond (nat_eq number n
-    && nat_eq to q) true (is_spot old n q))
+    (n q : ℕ) → is_spot new n q ≡ cond (nat_eq number n && nat_eq from q) false
+    (cond (nat_eq number n && nat_eq to q) true (is_spot old n q))
 
 -- the same numbers stand at the same places
 abbrev pub HaveSameSpots : Spots → Spots → Type 0

@@ -101,7 +101,8 @@ pub record IsGrouped (files : List (ℕ × File)) (groups : Groups) : Type 0 whe
   pub taken : (group : Group) (held : RangeState) → lookup (is_group group) groups ≡ Some held
       → AllByRecursion (λ r. IsTaken files group r.row) held.rows
 
--- the rows up to the change are those left there, each there from the base on, and all above it stay
+-- the rows up to the change are those left there, each there from the base on, and all above it
+-- stay
 pub record HasBase (change : ℕ) (old new : FileState) : Type 0 where
   pub base : new.base ≡ change
   pub left : AreLeftAt change old.rows new.rows

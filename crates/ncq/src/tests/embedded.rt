@@ -39,8 +39,8 @@ fn atoms_of(alloc: Global, texts: &[&str]) -> Result<Atoms, AllocError> {
     Ok(atoms)
 }
 
-/// The query `z` of the quotes that meet a condition, up to the condition, from there to the action,
-/// and behind the action; and a query `y` with a condition.
+/// The query `z` of the quotes that meet a condition, up to the condition, from there to the
+/// action, and behind the action; and a query `y` with a condition.
 const WHERE: &str = "create z WHERE <Quotes><Quote><Symbol>$s</><Price>$p</></></> IN \"quotes\", ";
 
 const DO: &str = " CONSTRUCT <r>$s</> DO ";
@@ -101,7 +101,8 @@ const SESSIONS: &[Parts<'_>] = &[
 ];
 
 /// Scripts over an engine that has the program's three actions and its two predicates, the handlers
-/// `tell` of the kind of `print` and `sum` of the kind of `count`, and `major`; and what is written.
+/// `tell` of the kind of `print` and `sum` of the kind of `count`, and `major`; and what is
+/// written.
 const LARGER_SESSIONS: &[Parts<'_>] = &[
     // Each handler does what its kind does.
     (
