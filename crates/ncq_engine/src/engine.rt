@@ -396,7 +396,9 @@ impl Engine {
             Command::Declare { name, root, key } => self.declare(alloc, name, root, key, out),
             Command::Delta { sections } => self.change(alloc, sections, handlers, out, steps),
             Command::Batch { sections } => self.change(alloc, sections, handlers, out, steps),
-            Command::Create { statement } => self.create(alloc, statement, handlers, out, steps),
+            Command::Create { statement } => {
+                self.create(alloc, statement.get(), handlers, out, steps)
+            }
             Command::Delete { name } => self.delete(alloc, name, out),
             Command::Clock { instant } => self.move_clock(alloc, *instant, handlers, out),
             Command::Report => self.report(alloc, out),

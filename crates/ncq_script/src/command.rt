@@ -18,7 +18,7 @@ use crate::command_lines::CommandLines;
 use crate::form::{one_argument, source_form, statement_text};
 use crate::refusal::Refusal;
 use crate::word::{Keyword, next_word};
-use ncq_base::{Bytes, Limit, Lines, bytes_of, is_pyx_name, read_u64};
+use ncq_base::{Bytes, Limit, Lines, Own, bytes_of, is_pyx_name, read_u64};
 use ncq_pyx::{PyxError, read_block};
 use ncq_source::{Key, Section, Sections};
 use ncq_xmlql::{Statement, StatementError, parse_statement};
@@ -48,7 +48,8 @@ pub enum Command {
     /// Leaves a query.
     Create {
         /// What is asked, what is made of each answer, and what is done with it. It is well formed.
-        statement: Statement,
+        /// It lies in a block of its own, so that commands are small where they are handed on.
+        statement: Own<Statement>,
     },
     /// Takes a subscription away.
     Delete {
@@ -248,7 +249,9 @@ fn create_of(alloc: Global, text: &[u8]) -> Result<Command, AllocError>
     ensures proper { IfOk result (λ command. IsProperCommand command) }
 {
     match parse_statement(alloc, text) {
-        Ok(statement) => Ok(Command::Create { statement }),
+        Ok(statement) => Ok(Command::Create {
+            statement: Own::new(alloc, statement)?,
+        }),
         Err(StatementError::NotAStatement) => Ok(refused(Refusal::Query)),
         Err(StatementError::Limit { which }) => Ok(refused(Refusal::Limit { which })),
         Err(StatementError::OutOfMemory) => Err(AllocError),
