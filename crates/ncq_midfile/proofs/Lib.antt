@@ -8,6 +8,7 @@ pub mod Contents
 pub mod Cuts
 pub mod Early
 pub mod FedLaws
+pub mod FewLaws
 pub mod FileLaws
 pub mod FinderLaws
 pub mod FoldLaws

@@ -13,7 +13,7 @@ use Rattle.std.proofs.lemmas.Bool.Decides.{nat_tests}
 use Rattle.ncq_midfile.specs.Content.{AreRising}
 use Rattle.ncq_midfile.specs.Spots.{has_place}
 use Rattle.ncq_midfile.specs.declared.place_set.PlaceSet.{PlaceSet}
-use Rattle.ncq_midfile.specs.declared.place_set.PlaceSet.TheVariants.{One, Two, Many}
+use Rattle.ncq_midfile.specs.declared.place_set.PlaceSet.TheVariants.{One, Two, Few, Many}
 
 -- whether a place is not below one
 abbrev pub is_later : ℕ → ℕ → Bool
@@ -93,6 +93,13 @@ from_one set only from places is all = record {
 pub from_two : (set : PlaceSet) (one other from : ℕ) (made places : List ℕ) → set ≡ Two one other → places ≡ made → AreRising from made
     → ((q : ℕ) → from ≤ q → list_any (nat_eq q) made ≡ (nat_eq one q || nat_eq other q)) → AreFrom set from places
 from_two set one other from made places is all rising same = record {
+  rising = subst (AreRising from) (sym all) rising;
+  same = λ q low. ap (list_any (nat_eq q)) all ∙ same q low ∙ ap (λ s. has_place s q) (sym is);
+}
+
+pub from_few : (set : PlaceSet) (few : List ℕ) (from : ℕ) (made places : List ℕ) → set ≡ Few few → places ≡ made → AreRising from made
+    → ((q : ℕ) → from ≤ q → list_any (nat_eq q) made ≡ list_any (nat_eq q) few) → AreFrom set from places
+from_few set few from made places is all rising same = record {
   rising = subst (AreRising from) (sym all) rising;
   same = λ q low. ap (list_any (nat_eq q)) all ∙ same q low ∙ ap (λ s. has_place s q) (sym is);
 }

@@ -1,17 +1,19 @@
 -- At which places numbers stand. Only the crate's private clauses cite it.
 use Rattle.std.specs.Prelude.{◌≡◌, ℕ, Bool, true, false, cond, ◌&&◌, ◌||◌, nat_eq}
 use Rattle.std.specs.BTreeSet.{contains}
+use Rattle.std.specs.List.{list_any}
 use Rattle.std.specs.Option.{option_map_or}
 use Rattle.std.specs.Ordering.{nat_cmp}
 use Rattle.indexmap.specs.IndexMap.{get}
 use Rattle.ncq_midfile.specs.declared.place_set.PlaceSet.{PlaceSet}
-use Rattle.ncq_midfile.specs.declared.place_set.PlaceSet.TheVariants.{One, Two, Many}
+use Rattle.ncq_midfile.specs.declared.place_set.PlaceSet.TheVariants.{One, Two, Few, Many}
 use Rattle.ncq_midfile.specs.declared.spots.Spots.{Spots}
 
 -- whether the place is among the places
 abbrev pub has_place : PlaceSet → ℕ → Bool
 has_place (One only) place = nat_eq only place
 has_place (Two one other) place = nat_eq one place || nat_eq other place
+has_place (Few places) place = list_any (nat_eq place) places
 has_place (Many places) place = contains nat_cmp places place
 
 -- the place is among the new places, or is not, as told; all others stay

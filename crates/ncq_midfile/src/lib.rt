@@ -11,6 +11,7 @@ mod chain;
 mod compact;
 mod content;
 mod counts;
+mod few;
 mod file;
 mod finder;
 mod fold;

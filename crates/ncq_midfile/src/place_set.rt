@@ -6,15 +6,20 @@ ghost use Rattle.std.specs.List.{list_any};
 ghost use Rattle.ncq_midfile.specs.Content.{AreRising};
 ghost use Rattle.ncq_midfile.specs.Spots.{has_place, HaveSamePlaces, PutsPlace, MovesPlace};
 
+use crate::few::Few;
 use crate::signed::Places;
 use std::alloc::{AllocError, Global};
 use std::collections::BTreeSet;
 
-/// Some places: one alone or two, which take no block of memory, or a set.
+/// How many places stand in a list before a set is made of them.
+const MOST_FEW: usize = 8;
+
+/// Some places: one alone or two, which take no block of memory, a few in a list, or a set.
 #[derive(Drop)]
 pub(crate) enum PlaceSet {
     One(usize),
     Two(usize, usize),
+    Few(Few),
     Many(BTreeSet<usize>),
 }
 
@@ -27,6 +32,13 @@ impl PlaceSet {
         match self {
             PlaceSet::One(only) => *self = both(*only, place),
             PlaceSet::Two(one, other) => *self = three(alloc, *one, *other, place)?,
+            PlaceSet::Few(few) => {
+                if few.len() < MOST_FEW {
+                    few.insert(place)?;
+                } else {
+                    *self = many(alloc, few.later(0), place)?;
+                }
+            }
             PlaceSet::Many(places) => {
                 places.insert(place)?;
             }
@@ -55,6 +67,7 @@ impl PlaceSet {
                 }
                 true
             }
+            PlaceSet::Few(few) => few.remove(place),
             PlaceSet::Many(places) => {
                 places.remove(&place);
                 !places.is_empty()
@@ -72,6 +85,10 @@ impl PlaceSet {
         match self {
             PlaceSet::One(only) => *only = to,
             PlaceSet::Two(one, other) => *self = moved(*one, *other, from, to),
+            PlaceSet::Few(few) => {
+                few.insert(to)?;
+                few.remove(from);
+            }
             PlaceSet::Many(places) => {
                 places.insert(to)?;
                 places.remove(&from);
@@ -90,6 +107,7 @@ impl PlaceSet {
         match self {
             PlaceSet::One(only) => push_from(&mut places, from, *only)?,
             PlaceSet::Two(one, other) => push_two(&mut places, from, *one, *other)?,
+            PlaceSet::Few(few) => places.extend_from_slice(few.later(from))?,
             PlaceSet::Many(all) => places.extend(all.range(from..).copied())?,
         }
         Ok(Places::from_vec(places))
@@ -109,6 +127,7 @@ impl PlaceSet {
                 let (low, high) = (*one.min(other), *one.max(other));
                 from_on(from, low).or(from_on(from, high))
             }
+            PlaceSet::Few(few) => few.first_from(from),
             PlaceSet::Many(all) => all.range(from..).next().copied(),
         }
     }
@@ -145,11 +164,24 @@ fn three(alloc: Global, one: usize, other: usize, third: usize) -> Result<PlaceS
     ensures { IfOk result (λ set. (q : ℕ)
         → has_place set q ≡ (nat_eq one q || nat_eq other q || nat_eq third q)) }
 {
-    let mut places = BTreeSet::new(alloc);
-    places.insert(one)?;
-    places.insert(other)?;
-    places.insert(third)?;
-    Ok(PlaceSet::Many(places))
+    let mut few = Few::new(alloc);
+    few.insert(one)?;
+    few.insert(other)?;
+    few.insert(third)?;
+    Ok(PlaceSet::Few(few))
+}
+
+/// These places, and one more.
+fn many(alloc: Global, places: &[usize], place: usize) -> Result<PlaceSet, AllocError>
+    ensures { IfOk result (λ set. (q : ℕ) → has_place set q
+        ≡ cond (nat_eq place q) true (list_any (nat_eq q) places.now)) }
+{
+    let mut all = BTreeSet::new(alloc);
+    for at in places {
+        all.insert(*at)?;
+    }
+    all.insert(place)?;
+    Ok(PlaceSet::Many(all))
 }
 
 /// The place, if it is not below the first.

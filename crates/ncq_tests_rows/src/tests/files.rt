@@ -22,7 +22,7 @@ const _: () = prove!(size_of::<MidFile>() == 56);
 /// A history, how many rows are left at the changes 0 to 5, and how many of them are `a`.
 type Worked = (&'static [(u8, u64, u64)], [usize; 6], [usize; 6]);
 
-const HISTORIES: [Worked; 13] = [
+const HISTORIES: [Worked; 14] = [
     (&[], [0; 6], [0; 6]),
     (&[(b'a', 1, 0)], [0, 1, 1, 1, 1, 1], [0, 1, 1, 1, 1, 1]),
     // It comes with 1 and goes with 2.
@@ -70,6 +70,25 @@ const HISTORIES: [Worked; 13] = [
         &[(b'a', 1, 2), (b'b', 2, 3), (b'a', 3, 4), (b'b', 5, 0)],
         [0, 1, 1, 1, 0, 1],
         [0, 1, 0, 1, 0, 0],
+    ),
+    // With `a` stand many rows, those that went too.
+    (
+        &[
+            (b'a', 1, 0),
+            (b'a', 1, 0),
+            (b'a', 1, 0),
+            (b'a', 1, 0),
+            (b'a', 1, 0),
+            (b'a', 2, 2),
+            (b'a', 2, 3),
+            (b'b', 3, 0),
+            (b'a', 3, 0),
+            (b'a', 3, 0),
+            (b'a', 4, 5),
+            (b'a', 5, 0),
+        ],
+        [0, 5, 6, 8, 9, 9],
+        [0, 5, 6, 7, 8, 8],
     ),
     // No row has the letter.
     (&[(b'b', 1, 0), (b'c', 2, 4)], [0, 1, 2, 2, 1, 1], [0; 6]),
