@@ -2,5 +2,4 @@ pub mod FewLaws
 pub mod LabelLaws
 pub mod LastLaws
 pub mod SharingLaws
-pub mod ShapeForms
 pub mod TellLaws

@@ -20,8 +20,6 @@ mod notice;
 mod print;
 mod row_bag;
 mod sharing;
-#[cfg(test)]
-mod tests;
 mod texts;
 
 pub use count::count_notice;

@@ -3,11 +3,11 @@
 ghost use Rattle.std.specs.Prelude.{IfOk};
 ghost use Rattle.ncq_distinct.specs.DistinctTables.{AreRising};
 
+use super::gathered::take_times;
 use super::making::{some_row, text_template};
 use ncq_bag::Difference;
 use ncq_callback::{Entries, Gather};
 use ncq_distinct::DistinctTable;
-use ncq_plan::{Checks, Predicates};
 use ncq_row::Row;
 use std::alloc::{AllocError, Global};
 use std::hash::RandomState;
@@ -115,20 +115,7 @@ const SEVERAL: &[Step] = &[
 fn take(alloc: Global, gather: &mut Gather, row: &Row, entry: &Entry) -> Result<(), AllocError> {
     let (text, times, gain) = entry;
     let template = text_template(alloc, text)?;
-    for _ in 0..*times {
-        if gather.takes() >= Gather::MOST_TAKES {
-            return Err(AllocError);
-        }
-        gather.take(
-            alloc,
-            &Checks::new(alloc),
-            &Predicates::new(alloc),
-            &template,
-            row,
-            *gain,
-        )?;
-    }
-    Ok(())
+    take_times(alloc, gather, &template, row, *times, *gain)
 }
 
 /// The entries of a notice.

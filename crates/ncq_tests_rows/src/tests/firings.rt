@@ -10,6 +10,7 @@ ghost use Rattle.ncq_plan.specs.WellFormed.{arm_is_formed, IsWellFormed};
 ghost use Rattle.ncq_midfile.specs.Content.{IsSound};
 ghost use Rattle.ncq_midfile.specs.Shown.{shown, rows_below};
 
+use super::gathered::are_entries;
 use super::histories::file_of;
 use super::making::value_shape;
 use super::views::{range_of, view_of};
@@ -188,21 +189,6 @@ fn told(alloc: Global, view: &View<'_>, mark: Option<u64>, now: u64) -> Result<E
         return Err(AllocError);
     }
     news(alloc, &query, &Predicates::new(alloc), view, mark, now)
-}
-
-/// Whether the entries are these, with their sign and count.
-fn are_entries(entries: &Entries, want: &[(bool, u64, &str)]) -> bool {
-    let got = entries.as_slice();
-    if got.len() != want.len() {
-        return false;
-    }
-    for (entry, (gain, count, text)) in got.iter().zip(want) {
-        let same = entry.gain == *gain && entry.count == *count;
-        if !same || entry.bytes.as_slice() != text.as_bytes() {
-            return false;
-        }
-    }
-    true
 }
 
 /// Whether this is told of the view.

@@ -2,7 +2,8 @@
 //! the templates that are filled from it.
 //!
 //! A template is a list of words: `<r` begins an element and `>` ends it, `-text` is a text, `$1`
-//! the value at slot 1, and `@name1` an attribute with the string value of slot 1.
+//! the value at slot 1, and `@name1` an attribute with the string value of slot 1. As in lines, `(r`
+//! begins an element as well, and `)r` ends it.
 
 use super::making::{element_with, rows_of, shape_with, text_node, value_shapes};
 use ncq_base::{Op, atom_of, bytes_of};
@@ -100,7 +101,7 @@ fn with_attribute(
 
 fn begun(alloc: Global, mark: u8, rest: &[u8]) -> Result<SlotTemplate, AllocError> {
     match mark {
-        b'<' => Ok(SlotTemplate::Element {
+        b'<' | b'(' => Ok(SlotTemplate::Element {
             tag: bytes_of(alloc, rest)?,
             attributes: SlotAttributes::new(alloc),
             content: SlotTemplates::new(alloc),
@@ -128,14 +129,14 @@ fn add_word(alloc: Global, open: &mut Vec<SlotTemplate>, word: &str) -> Result<(
         return Ok(());
     };
     match *mark {
-        b'>' => return close(open),
+        b'>' | b')' => return close(open),
         b'@' => {
             if let Some(outer) = open.pop() {
                 open.push(with_attribute(alloc, outer, rest)?)?;
             }
             return Ok(());
         }
-        b'<' => open.push(begun(alloc, *mark, rest)?)?,
+        b'<' | b'(' => open.push(begun(alloc, *mark, rest)?)?,
         _ => {
             open.push(begun(alloc, *mark, rest)?)?;
             return close(open);
@@ -153,6 +154,15 @@ fn template(alloc: Global, words: &[&str]) -> Result<SlotTemplate, AllocError> {
         Some(whole) => Ok(whole),
         None => begun(alloc, b'-', b"no template"),
     }
+}
+
+/// The template that answers these lines.
+pub fn template_of_lines(alloc: Global, lines: &str) -> Result<SlotTemplate, AllocError> {
+    let mut words = Vec::new(alloc);
+    for line in lines.split('\n') {
+        words.push(line)?;
+    }
+    template(alloc, words.as_slice())
 }
 
 /// Whether these are the lines of the forest.
