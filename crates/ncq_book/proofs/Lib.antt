@@ -1,7 +1,9 @@
 pub mod AlikeLaws
+pub mod BookLaws
 pub mod FinderLaws
 pub mod KeptLaws
 pub mod Lists
 pub mod SubscriptionLaws
 pub mod NoteLaws
+pub mod QuestionLaws
 pub mod WatchLaws

@@ -3,13 +3,14 @@ use Rattle.std.specs.Prelude.{ℕ, ◌<◌, ◌==◌, ◌&&◌, Bool, false, not
 use Rattle.std.specs.Prelude.{refl}
 use Rattle.std.specs.Prelude.{◌≡◌}
 use Rattle.std.specs.Prelude.{Option, Some, if◌then◌else◌}
-use Rattle.std.specs.List.{find, list_any, AllByRecursion}
+use Rattle.std.specs.List.{filter_map, find, list_any, AllByRecursion}
 use Rattle.std.specs.Str.{bytes_eq}
 use Rattle.std.specs.Coded.{Coded, code_by, coded×, coded_ℕ, coded_list}
 use Rattle.ncq_base.specs.Keys.{times}
 use Rattle.ncq_event.specs.Calendars.{Entry}
 use Rattle.ncq_plan.specs.declared.expr.Expr.{Expr}
 use Rattle.ncq_plan.specs.ExprLists.{is_expr}
+use Rattle.ncq_book.specs.declared.listed.Listed.{Listed}
 use Rattle.ncq_book.specs.declared.subscription.Subscription.{Subscription}
 use Rattle.ncq_book.specs.contracts.subscription.Subscription.{the_row as subscription_row}
 
@@ -35,6 +36,26 @@ is_of install m = m.install == install
 -- the subscription of this install number, where there is one
 abbrev pub subscription_of : ℕ → List Subscription → Option Subscription
 subscription_of install subscriptions = find (is_of install) subscriptions
+
+-- the subscriptions of these install numbers, in that order; none of a number that nobody has
+abbrev pub subscriptions_of : List ℕ → List Subscription → List Subscription
+subscriptions_of installs subscriptions =
+    filter_map (λ install. subscription_of install subscriptions) installs
+
+-- one file, the same checks of its rows and the same template
+pub record AskAlike (a b : Subscription) : Type 0 where
+  pub file : a.file.0 ≡ b.file.0
+  pub template : a.query.template ≡ b.query.template
+  pub residual : a.query.residual ≡ b.query.residual
+
+-- each of the list with this question asks like the subscription
+abbrev pub AskLike : List Listed → ℕ → Subscription → Type 0
+AskLike list question m =
+    AllByRecursion (λ l. l.question ≡ question → AskAlike l.subscription.now m) list
+
+-- those of the list with one question ask alike
+abbrev pub AskByQuestion : List Listed → Type 0
+AskByQuestion list = AllByRecursion (λ l. AskLike list l.question l.subscription.now) list
 
 -- the timing of a subscription, with its install number
 abbrev pub timing_of : Subscription → Entry

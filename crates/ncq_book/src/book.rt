@@ -7,10 +7,12 @@ ghost use Rattle.ncq_event.specs.Calendars.{due_firings, expired_at};
 ghost use Rattle.ncq_strategy.specs.Choices.{choice_of};
 ghost use Rattle.ncq_book.specs.Books.{alike, is_named, is_of, subscription_of, timers_of};
 ghost use Rattle.ncq_book.specs.Books.{timing_of, watchers_of, with_note, InstallsRise};
-ghost use Rattle.ncq_book.specs.Books.{NamesDiffer};
+ghost use Rattle.ncq_book.specs.Books.{subscriptions_of, AskByQuestion, NamesDiffer};
 
 use crate::finders::Finders;
 use crate::held::Held;
+use crate::listed::{Listed, list_of};
+use crate::questions::question_of;
 use crate::subscription::Subscription;
 use ncq_base::{Bytes, Shared};
 use ncq_event::{Firings, Installs};
@@ -41,19 +43,19 @@ impl Drop for Book {
 
 impl Model for Book {
     ghost use Rattle.ncq_book.specs.Books.{BookState, book_code};
-    ghost use Rattle.ncq_book.specs.Kept.{IsKept, subscriptions_in};
+    ghost use Rattle.ncq_book.specs.Kept.{subscriptions_in};
+    ghost use Rattle.ncq_book.specs.Questions.{placed_in, IsBook};
 
     ghost Value = { BookState };
 
     ghost coded = { book_code };
 
     ghost view = { λ b. record {
-      subscriptions = subscriptions_in b.subscriptions.entries;
+      subscriptions = subscriptions_in (placed_in b.subscriptions.entries);
       instant = b.finders.calendar.instant;
     } };
 
-    ghost invariant = { λ b.
-        IsKept (subscriptions_in b.subscriptions.entries) b.subscriptions.entries b.finders };
+    ghost invariant = { λ b. IsBook b.subscriptions.entries b.finders };
 }
 
 impl Book {
@@ -111,6 +113,17 @@ impl Book {
     {
         let held = self.subscriptions.get(&install)?;
         Some(held.get())
+    }
+
+    /// The subscriptions of these install numbers, in that order, each with the number of its
+    /// question: those of the list that have one question ask alike. Where the next in the book is
+    /// the next of the numbers, it is not looked up.
+    pub fn listed(&self, alloc: Global, installs: &[u64]) -> Result<Vec<Listed<'_>>, AllocError>
+        ensures listed { IfOk result (λ list. map (λ l. l.subscription.now) list.items
+            ≡ subscriptions_of installs.now self.now.subscriptions) }
+        ensures alike { IfOk result (λ list. AskByQuestion list.items) }
+    {
+        list_of(alloc, &self.subscriptions, installs)
     }
 
     /// The install numbers of those that fire at changes and have one of these files, rising, each
@@ -181,7 +194,8 @@ impl Book {
         ensures err { OnErr result (self.new ≡ self.old) }
     {
         let install = subscription.install;
-        let held = Held::new(alloc, subscription)?;
+        let question = question_of(&self.subscriptions, &self.finders.watchers, &subscription);
+        let held = Held::new(alloc, subscription, question)?;
         self.finders.enroll(alloc, held.get())?;
         match self.subscriptions.insert(install, held) {
             Ok(_) => Ok(()),

@@ -85,6 +85,17 @@ impl Watchers {
         Ok(installs)
     }
 
+    /// The install number of the last watch up to this file's: of the last of those that have the
+    /// file, where anybody has it.
+    pub(crate) fn last_to(&self, file: u64) -> Option<u64> {
+        let last = Watch {
+            file,
+            install: u64::MAX,
+        };
+        let watch = self.watches.range(..=last).next_back()?;
+        Some(watch.install)
+    }
+
     /// The subscription has the file from now on. Where memory runs out, all is as before.
     pub(crate) fn add(&mut self, file: u64, install: u64) -> Result<(), AllocError>
         ensures ok { OnOk result ((w : a_watch) → list_any (is_watch w) self.new

@@ -7,5 +7,5 @@ use Rattle.ncq_book.proofs.book.Book.watchers.Goals as goal
 pub returns : goal.returns
 returns c =
     if_ok_both c.of.result (λ installs are rising.
-    watchers_are c.self.inside.subscriptions.entries _ c.self.inside.finders c.self.invariant c.args.files.now installs rising are
+    watchers_are _ _ c.self.inside.finders c.self.invariant.kept c.args.files.now installs rising are
     ∙ ap (λ b. watchers_of c.args.files.now b.subscriptions) c.self.view_is) c.of.ensures.watchers c.of.ensures.rising
