@@ -1,4 +1,4 @@
-//! A book of three subscriptions, by values worked out by hand.
+//! A book of a few subscriptions, by values worked out by hand.
 ghost use Rattle.std.specs.Prelude.{◌≡◌, ◌<◌, ◌+◌, [], IfOk, OnOk};
 ghost use Rattle.std.specs.List.{AllByRecursion};
 
@@ -16,27 +16,64 @@ use std::test::Fail;
 /// More subscriptions than that are in no book.
 const ROOM: usize = 9;
 
-/// What subscriptions differ in: name; start, every, expiry; the number of the file.
-type Row = (&'static str, (u64, u64, Option<u64>), u64);
+/// What subscriptions differ in: name; start, every, expiry; the number of the file; the slot that
+/// their template gives.
+type Row = (&'static str, (u64, u64, Option<u64>), u64, usize);
 
 /// It fires from 10 on, each 10, and changes of its file do not matter.
-const TIMER: Row = ("timer", (10, 10, None), 7);
+const TIMER: Row = ("timer", (10, 10, None), 7, 0);
 
 /// It fires at changes, up to 50.
-const CHANGES: Row = ("changes", (0, 0, Some(50)), 9);
+const CHANGES: Row = ("changes", (0, 0, Some(50)), 9, 0);
 
 /// It fires at changes from 30 on, up to 40.
-const PENDING: Row = ("pending", (30, 0, Some(40)), 7);
+const PENDING: Row = ("pending", (30, 0, Some(40)), 7, 0);
 
 /// It fires at changes of the same file.
-const SHARER: Row = ("sharer", (0, 0, None), 7);
+const SHARER: Row = ("sharer", (0, 0, None), 7, 0);
 
 /// The last instant, and the last file.
 const LAST: Row = (
     "last",
     (18446744073709551615, 0, Some(18446744073709551615)),
     18446744073709551615,
+    0,
 );
+
+/// It asks by a template.
+const ASKER: Row = ("asker", (0, 0, None), 7, 0);
+
+/// It asks alike.
+const LIKE: Row = ("like", (0, 0, None), 7, 0);
+
+/// It asks by another template.
+const OTHER: Row = ("other", (0, 0, None), 7, 1);
+
+/// It asks as the other.
+const LIKE_OTHER: Row = ("like other", (0, 0, None), 7, 1);
+
+/// It asks by the first template, of another file.
+const ELSEWHERE: Row = ("elsewhere", (0, 0, None), 9, 0);
+
+/// Install numbers, and what is listed, in that order: install numbers and questions. Those that
+/// ask alike, one behind the other, have one question. What is not there is not listed.
+const LISTED: &[(&[u64], &[(u64, u64)])] = &[
+    (&[], &[]),
+    (&[1], &[(1, 1)]),
+    (&[1, 2, 3, 4, 5], &[(1, 1), (2, 1), (3, 3), (4, 3), (5, 5)]),
+    (&[2, 4, 5], &[(2, 1), (4, 3), (5, 5)]),
+    (&[5, 4, 4, 1], &[(5, 5), (4, 3), (4, 3), (1, 1)]),
+    (&[0, 2, 6], &[(2, 1)]),
+];
+
+/// And once the fourth was taken, and one came that asks as it did.
+const LISTED_LATER: &[(&[u64], &[(u64, u64)])] = &[
+    (
+        &[1, 2, 3, 4, 5, 6],
+        &[(1, 1), (2, 1), (3, 3), (5, 5), (6, 3)],
+    ),
+    (&[4, 6], &[(6, 3)]),
+];
 
 /// Files, and whether the last subscription watches one of them.
 const LAST_WATCHERS: &[(&[u64], &[u64])] = &[
@@ -100,12 +137,12 @@ const EXPIRED: &[(u64, &[u64])] = &[
     (18446744073709551615, &[2, 3]),
 ];
 
-/// A query that is not looked at.
-fn any_query(alloc: Global) -> NormalQuery {
+/// A query whose arms are not looked at.
+fn any_query(alloc: Global, slot: usize) -> NormalQuery {
     NormalQuery {
         arms: Arms::new(alloc),
         residual: Checks::new(alloc),
-        template: SlotTemplate::Slot(0),
+        template: SlotTemplate::Slot(slot),
     }
 }
 
@@ -132,11 +169,11 @@ fn subscription(
     ensures install { IfOk result (λ m. m.install ≡ install) }
     ensures name { IfOk result (λ m. m.name ≡ name) }
 {
-    let (_, (start, every, expire), file) = *row;
+    let (_, (start, every, expire), file, slot) = *row;
     Ok(Subscription {
         name,
         sources: Sequence::new(alloc),
-        query: any_query(alloc),
+        query: any_query(alloc, slot),
         bare: paired(alloc)?,
         choice: Choice::SelectFirst,
         file: FileId(file),
@@ -436,6 +473,77 @@ fn subscriptions_of_one_bare_plan_are_counted(rt: HostRuntime) -> Result<(), Fai
     let seed = RandomState::new(&rt)?;
     let mut book = three(rt.alloc(), seed)?;
     expect_alike(&rt, rt.alloc(), &mut book)?;
+    Ok(())
+}
+
+/// Puts five in, under 1 to 5.
+fn put_askers(alloc: Global, book: &mut Book) -> Result<(), AllocError>
+    requires { book.old.subscriptions ≡ [] }
+    ensures { OnOk result (AllByRecursion (λ m. m.install < 6) book.new.subscriptions) }
+{
+    put(alloc, book, 1, &ASKER)?;
+    put(alloc, book, 2, &LIKE)?;
+    put(alloc, book, 3, &OTHER)?;
+    put(alloc, book, 4, &LIKE_OTHER)?;
+    put(alloc, book, 5, &ELSEWHERE)?;
+    Ok(())
+}
+
+/// Takes the fourth away, and puts one in that asks as it did.
+fn renew(alloc: Global, book: &mut Book) -> Result<bool, AllocError>
+    requires { AllByRecursion (λ m. m.install < 6) book.old.subscriptions }
+{
+    let _taken = book.take(4);
+    put(alloc, book, 6, &LIKE_OTHER)
+}
+
+/// Whether these are listed for the install numbers, by install number and question.
+fn are_listed(
+    alloc: Global,
+    book: &Book,
+    installs: &[u64],
+    want: &[(u64, u64)],
+) -> Result<bool, AllocError> {
+    let list = book.listed(alloc, installs)?;
+    let told = list.as_slice();
+    if told.len() != want.len() {
+        return Ok(false);
+    }
+    for i in 0..want.len() {
+        if (told[i].subscription.install, told[i].question) != want[i] {
+            return Ok(false);
+        }
+    }
+    Ok(true)
+}
+
+/// For the install numbers of each row what is listed is that of the row.
+fn expect_listed(
+    rt: &impl Abort,
+    alloc: Global,
+    book: &Book,
+    rows: &[(&[u64], &[(u64, u64)])],
+) -> Result<(), AllocError> {
+    for (installs, want) in rows {
+        assert!(rt; are_listed(alloc, book, installs, want)?, "{installs:?}");
+    }
+    Ok(())
+}
+
+fn expect_askers(rt: &impl Abort, alloc: Global, book: &mut Book) -> Result<(), AllocError>
+    requires { book.old.subscriptions ≡ [] }
+{
+    put_askers(alloc, book)?;
+    expect_listed(rt, alloc, book, LISTED)?;
+    assert!(rt; renew(alloc, book)?);
+    expect_listed(rt, alloc, book, LISTED_LATER)
+}
+
+#[test]
+fn those_that_ask_alike_are_listed_with_one_question(rt: HostRuntime) -> Result<(), Fail> {
+    let seed = RandomState::new(&rt)?;
+    let mut book = Book::new(rt.alloc(), seed);
+    expect_askers(&rt, rt.alloc(), &mut book)?;
     Ok(())
 }
 
