@@ -21,7 +21,7 @@ use Rattle.ncq_shelf.specs.KeptFiles.{Files}
 use Rattle.ncq_source.specs.StoreStates.{StoreState}
 use Rattle.ncq_engine.specs.Engines.{entries_text, news_in, news_of, notice_text, told_in}
 use Rattle.ncq_plan.specs.Relations.{Relations}
-use Rattle.ncq_engine.specs.Tellings.{AwaitMore, Awaits, AwaitsNews, awaited_of, firing_text, is_fired, text_of}
+use Rattle.ncq_engine.specs.Tellings.{Awaits, AwaitsNews, awaited_of, firing_text, is_fired, text_of}
 
 -- what the rows of a subscription tell rises
 pub news_rise : (relations : Relations) (store : StoreState) (files : Files) (m : Kept) → AreRising (news_in relations store files m)
@@ -47,7 +47,7 @@ module _ (handed : Handed) (store : StoreState) (files : Files) (old new : Disti
   firing_same subscriptions = λ i firing. text_same firing.instant (subscription_of firing.install subscriptions) i
 
 -- a subscription that is found has the install number
-found_install : (install : ℕ) (ms : List Kept) (m : Kept) → subscription_of install ms ≡ Some m → m.install ≡ install
+pub found_install : (install : ℕ) (ms : List Kept) (m : Kept) → subscription_of install ms ≡ Some m → m.install ≡ install
 found_install install [] m e = absurd cc
 found_install install (x ∷ ms) m e = by (found_install install ms m) (is_of install x) refl e
   where
@@ -64,12 +64,24 @@ fired_more : (done : List Firing) (firing : Firing) (m : Kept) → is_fired (don
 fired_more done firing m =
     list_any-append (λ f. is_of f.install m) done (firing ∷ []) ∙ ap (λ t. is_fired done m || t) (or-false (is_of firing.install m))
 
+-- where the changes of some firings wait, those of these firings wait too
+abbrev pub AwaitMore : Relations → StoreState → LiveState → List Firing → DistinctTable → DistinctTable → Type 0
+AwaitMore relations store live_table more old new = (firings : List Firing) → Awaits relations store live_table firings old → Awaits relations store live_table (firings ++ more) new
+
 module _ (relations : Relations) (store : StoreState) (live_table : LiveState) where
   abbrev awaited : List Firing → Option Kept → List Difference
   awaited = awaited_of relations store live_table.table.files
 
   abbrev found : ℕ → Option Kept
   found install = subscription_of install live_table.subscriptions
+
+  -- nobody fires, and nothing waits
+  pub awaits_none : (distinct : DistinctTable) → ((any : ℕ) → waiting_at distinct any ≡ []) → Awaits relations store live_table [] distinct
+  awaits_none distinct settled any = settled any ∙ none (found any)
+    where
+      none : (o : Option Kept) → [] ≡ awaited [] o
+      none None = refl
+      none (Some m) = elim m.distinct as (λ d. [] ≡ (if d && false then news_in relations store live_table.table.files m else [])) [ true ↦ refl | false ↦ refl ]
 
   -- the subscription of a firing is told, behind these
   module _ (firing : Firing) (m : Kept) (is_its : found firing.install ≡ Some m) (done : List Firing) where

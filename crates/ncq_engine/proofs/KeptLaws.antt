@@ -14,6 +14,7 @@ use Rattle.ncq_callback.specs.Texts.{render}
 use Rattle.ncq_callback.specs.declared.notice.Kind.TheVariants.{Print, Count, MailTo}
 use Rattle.ncq_callback.specs.declared.notice.Kind.{Kind}
 use Rattle.ncq_book.specs.declared.subscription.Subscription.{Subscription as Kept}
+use Rattle.ncq_book.specs.Books.{AskAlike}
 use Rattle.ncq_midfile.specs.Content.{IsSoundAt}
 use Rattle.ncq_midfile.specs.Files.{FileState}
 use Rattle.ncq_midfile.specs.declared.signed.SignedRow.{SignedRow}
@@ -36,7 +37,7 @@ use Rattle.ncq_engine.specs.declared.span.Span.{Span}
 use Rattle.ncq_engine.specs.Notices.{rendered}
 use Rattle.ncq_engine.specs.Scans.{scanned_by}
 use Rattle.ncq_engine.specs.Spans.{span_of}
-use Rattle.ncq_engine.specs.Tellings.{AskAlike, HasNews, IsKeyed, IsLatest, KnowsChange}
+use Rattle.ncq_engine.specs.Tellings.{HasNews, IsKeyed, IsLatest, KnowsChange}
 use Rattle.ncq_engine.specs.declared.latest.Latest.{Latest}
 use Rattle.ncq_plan.specs.Relations.{Relations}
 use Rattle.ncq_engine.proofs.CachedLaws.{found_fresh, grows_none, grows_put}

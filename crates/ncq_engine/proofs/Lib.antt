@@ -1,3 +1,4 @@
+pub mod ListedLaws
 pub mod Lists
 pub mod HistoryLaws
 pub mod AloneLaws

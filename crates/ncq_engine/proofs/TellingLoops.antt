@@ -19,8 +19,8 @@ use Rattle.ncq_engine.specs.Engines.{Pairwise, notice_text}
 use Rattle.ncq_shelf.specs.KeptFiles.{Files}
 use Rattle.ncq_engine.specs.declared.span.Span.{Span}
 use Rattle.ncq_engine.specs.Spans.{span_of, spans_of}
-use Rattle.ncq_engine.specs.Tellings.{AwaitMore, AwaitsNews, firing_name, firing_text, firings_spans, firings_text, has_started, name_of, started_at, text_of}
-use Rattle.ncq_engine.proofs.AwaitLaws.{more_one}
+use Rattle.ncq_engine.specs.Tellings.{AwaitsNews, firing_name, firing_text, firings_spans, firings_text, has_started, name_of, started_at, text_of}
+use Rattle.ncq_engine.proofs.AwaitLaws.{AwaitMore, more_one}
 use Rattle.ncq_engine.proofs.CachedLaws.{grows_more}
 use Rattle.ncq_plan.specs.Relations.{Relations}
 use Rattle.ncq_engine.proofs.Lists.{flat_map_append}

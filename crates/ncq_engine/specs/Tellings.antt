@@ -118,13 +118,6 @@ Awaits relations store live_table firings distinct =
     ≡ awaited_of relations store live_table.table.files firings
     (subscription_of any live_table.subscriptions)
 
--- where the changes of some firings wait, those of these firings wait too
-abbrev pub AwaitMore
-    : Relations → StoreState → LiveState → List Firing → DistinctTable → DistinctTable → Type 0
-AwaitMore relations store live_table more old new =
-    (firings : List Firing) → Awaits relations store live_table firings old
-    → Awaits relations store live_table (firings ++ more) new
-
 -- with DISTINCT what its rows tell waits, beside what waited for others
 abbrev pub AwaitsNews
     : Relations → StoreState → Files → Kept → DistinctTable → DistinctTable → Type 0
@@ -156,12 +149,6 @@ pub record IsLeftBy (installs : List ℕ) (old new : LiveState) : Type 0 where
   pub number : new.table.number ≡ old.table.number
   pub next_file : new.table.next_file ≡ old.table.next_file
   pub files : AreOf old.table.files new.table.files
-
--- one file, the same checks of its rows and the same template
-pub record AskAlike (a b : Kept) : Type 0 where
-  pub file : a.file.0 ≡ b.file.0
-  pub template : a.query.template ≡ b.query.template
-  pub residual : a.query.residual ≡ b.query.residual
 
 -- what others find of it is fresh
 abbrev pub IsKeyed : Relations → TableState → Latest → Type 0

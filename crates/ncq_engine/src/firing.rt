@@ -1,6 +1,7 @@
 //! A firing: what the answer of a subscription gained and lost since its latest one.
-ghost use Rattle.std.specs.Prelude.{◌≡◌, ◌++◌, ◌<◌, length, IfSome, OnOk};
+ghost use Rattle.std.specs.Prelude.{◌≡◌, ◌++◌, ◌<◌, length, IfSome, IsTrue, OnOk};
 ghost use Rattle.std.specs.Io.{StartsWith};
+ghost use Rattle.ncq_book.specs.Books.{AskAlike};
 ghost use Rattle.ncq_callback.specs.Labels.{handed_in, labels};
 ghost use Rattle.ncq_distinct.specs.DistinctTables.{HaveSameCounts};
 ghost use Rattle.ncq_plan.specs.Relations.{relations};
@@ -26,11 +27,12 @@ use std::mem::replace;
 /// Appends what the answer of the subscription gained and lost since its latest firing, and adds
 /// where that stands, if anything differs. What was told last, if anything was, serves where it is
 /// the same, and what is kept of what was told before; what this subscription is told is what was
-/// told last from then on. With DISTINCT the changes of its counts wait. What was written before
-/// stays in front.
+/// told last from then on. Where it is known to ask as what was told last, they are not compared.
+/// With DISTINCT the changes of its counts wait. What was written before stays in front.
 pub(crate) fn fire<'a>(
     alloc: Global,
     subscription: &'a Subscription,
+    known: bool,
     instant: u64,
     groups: &GroupTable,
     store: &Store,
@@ -50,6 +52,8 @@ pub(crate) fn fire<'a>(
     requires serve { AllServe
         (relations handlers.now.predicates.items (λ p. p.name) (λ p. p.relation))
         groups.now cache.old }
+    requires known { IsTrue known → IfSome latest.old
+        (λ told. AskAlike told.subscription.now subscription.now) }
     ensures text { OnOk result (out.new.items ≡ out.old.items
         ++ notice_text (handed_in handlers.now.items.items (λ h. h.name) (λ h. h.kind)
         handlers.now.predicates.items (λ p. p.name) (λ p. p.relation))
@@ -63,6 +67,8 @@ pub(crate) fn fire<'a>(
     ensures latest { IfSome latest.new (IsLatest
         (relations handlers.now.predicates.items (λ p. p.name) (λ p. p.relation))
         store.now groups.now) }
+    ensures alike { IfSome latest.new
+        (λ told. AskAlike told.subscription.now subscription.now) }
     ensures cached { Grows
         (relations handlers.now.predicates.items (λ p. p.name) (λ p. p.relation))
         groups.now cache.old cache.new }
@@ -74,6 +80,7 @@ pub(crate) fn fire<'a>(
     find_news(
         alloc,
         subscription,
+        known,
         instant,
         groups,
         store,

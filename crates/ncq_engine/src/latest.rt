@@ -2,6 +2,7 @@
 //! the same.
 ghost use Rattle.std.specs.Prelude.{◌≡◌, None, IfOk, IfSome, IsTrue, List, OnOk};
 ghost use Rattle.std.specs.FinMap.{get};
+ghost use Rattle.ncq_book.specs.Books.{AskAlike};
 ghost use Rattle.ncq_callback.specs.Labels.{Handed};
 ghost use Rattle.ncq_group.specs.Tables.{Facts, TableState};
 ghost use Rattle.ncq_news.specs.News.{entries_of, since_mark};
@@ -10,16 +11,15 @@ ghost use Rattle.ncq_shelf.specs.Stands.{IsThere};
 ghost use Rattle.ncq_source.specs.StoreStates.{StoreState};
 ghost use Rattle.ncq_engine.specs.Cached.{AllServe, Grows, key_of};
 ghost use Rattle.ncq_engine.specs.Engines.{CanTell, latest_in, mark_in, rows_in_file};
-ghost use Rattle.ncq_engine.specs.Tellings.{AskAlike, HasNews, IsKeyed, IsLatest, KnowsChange};
+ghost use Rattle.ncq_engine.specs.Tellings.{HasNews, IsKeyed, IsLatest, KnowsChange};
 
 use crate::firing::{latest_change, mark_at};
 use ncq_base::{Bytes, Copied};
-use ncq_book::Subscription;
+use ncq_book::{Subscription, ask_alike};
 use ncq_cache::{NoticeCache, NoticeKey};
 use ncq_callback::{Entries, Handlers, Notice};
 use ncq_group::GroupTable;
 use ncq_news::news;
-use ncq_plan::{same_checks, same_template};
 use ncq_source::Store;
 use std::alloc::{AllocError, Global};
 
@@ -39,10 +39,11 @@ pub(crate) struct Latest<'a> {
 /// What the answer of the subscription gained and lost since its mark becomes what was told last,
 /// to be told at the instant. It is that already, where that was told of the same file, by the same
 /// checks and template, since the same mark; else it is looked for among what was told before, or
-/// made.
+/// made. Where it is known to ask as what was told last, they are not compared.
 pub(crate) fn find_news<'a>(
     alloc: Global,
     subscription: &'a Subscription,
+    known: bool,
     instant: u64,
     groups: &GroupTable,
     store: &Store,
@@ -52,21 +53,29 @@ pub(crate) fn find_news<'a>(
 ) -> Result<(), AllocError>
     requires can { (handed : Handed) × CanTell handed store.now groups.now subscription.now }
     requires latest { IfSome latest.old (IsLatest
-        (relations handlers.now.predicates.items (λ p. p.name) (λ p. p.relation)) store.now groups.now) }
-    requires serve { AllServe (relations handlers.now.predicates.items (λ p. p.name) (λ p. p.relation))
+        (relations handlers.now.predicates.items (λ p. p.name) (λ p. p.relation))
+        store.now groups.now) }
+    requires serve { AllServe
+        (relations handlers.now.predicates.items (λ p. p.name) (λ p. p.relation))
         groups.now cache.old }
+    requires known { IsTrue known → IfSome latest.old
+        (λ told. AskAlike told.subscription.now subscription.now) }
     ensures news { OnOk result (HasNews
         (relations handlers.now.predicates.items (λ p. p.name) (λ p. p.relation))
         store.now groups.now.files subscription.now latest.new) }
     ensures latest { IfSome latest.new (IsLatest
-        (relations handlers.now.predicates.items (λ p. p.name) (λ p. p.relation)) store.now groups.now) }
-    ensures cached { Grows (relations handlers.now.predicates.items (λ p. p.name) (λ p. p.relation))
+        (relations handlers.now.predicates.items (λ p. p.name) (λ p. p.relation))
+        store.now groups.now) }
+    ensures alike { IfSome latest.new
+        (λ told. AskAlike told.subscription.now subscription.now) }
+    ensures cached { Grows
+        (relations handlers.now.predicates.items (λ p. p.name) (λ p. p.relation))
         groups.now cache.old cache.new }
 {
     let changed = change_of(subscription, store, latest);
     let mark = mark_at(subscription, changed);
     if let Some(told) = latest {
-        if serves(told, subscription, mark) {
+        if serves(told, subscription, known, mark) {
             return told.notice.entries.write_down(alloc, instant);
         }
     }
@@ -172,12 +181,15 @@ fn look_up(
         × (mark ≡ mark_in store subscription.now)) }
     requires facts { Facts groups.now }
     requires key { IfSome key.now (λ k. k ≡ key_of subscription.now mark groups.now.number) }
-    requires serve { AllServe (relations handlers.now.predicates.items (λ p. p.name) (λ p. p.relation))
+    requires serve { AllServe
+        (relations handlers.now.predicates.items (λ p. p.name) (λ p. p.relation))
         groups.now cache.old }
     ensures entries { IfOk result (λ entries. entries ≡ entries_of
-        (relations handlers.now.predicates.items (λ p. p.name) (λ p. p.relation)) subscription.now.query
+        (relations handlers.now.predicates.items (λ p. p.name) (λ p. p.relation))
+        subscription.now.query
         (since_mark mark (rows_in_file (get groups.now.files subscription.now.file.0)))) }
-    ensures cached { Grows (relations handlers.now.predicates.items (λ p. p.name) (λ p. p.relation))
+    ensures cached { Grows
+        (relations handlers.now.predicates.items (λ p. p.name) (λ p. p.relation))
         groups.now cache.old cache.new }
 {
     if let Some(key) = key {
@@ -197,21 +209,14 @@ fn look_up(
     )
 }
 
-/// Whether it is what the subscription is told since this mark.
-fn serves(latest: &Latest<'_>, subscription: &Subscription, mark: Option<u64>) -> bool
+/// Whether it is what the subscription is told since this mark. Where they are known to ask alike,
+/// only the marks are compared.
+fn serves(latest: &Latest<'_>, subscription: &Subscription, known: bool, mark: Option<u64>) -> bool
+    requires { IsTrue known → AskAlike latest.now.subscription.now subscription.now }
     ensures alike { IsTrue result → AskAlike latest.now.subscription.now subscription.now }
     ensures mark { IsTrue result → (latest.now.mark ≡ mark) }
 {
-    same_mark(latest.mark, mark) && ask_alike(latest.subscription, subscription)
-}
-
-/// Whether the two have one file, and ask the same of its rows.
-fn ask_alike(a: &Subscription, b: &Subscription) -> bool
-    ensures { IsTrue result → AskAlike a.now b.now }
-{
-    a.file.0 == b.file.0
-        && same_template(&a.query.template, &b.query.template)
-        && same_checks(a.query.residual.as_slice(), b.query.residual.as_slice())
+    same_mark(latest.mark, mark) && (known || ask_alike(latest.subscription, subscription))
 }
 
 fn same_mark(a: Option<u64>, b: Option<u64>) -> bool

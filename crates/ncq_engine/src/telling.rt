@@ -1,6 +1,6 @@
 //! What those that fire are told.
 ghost use Rattle.std.specs.Prelude.{◌≡◌, ◌++◌, ◌∷◌, [], ◌<◌, ◌-◌, ◌^◌, length};
-ghost use Rattle.std.specs.Prelude.{IsSome, IfOk, IfSome, OnOk};
+ghost use Rattle.std.specs.Prelude.{IsSome, IsTrue, IfOk, OnOk, Some};
 ghost use Rattle.std.specs.Io.{StartsWith};
 ghost use Rattle.std.specs.List.{AllByRecursion};
 ghost use Rattle.ncq_book.specs.Books.{subscription_of, watchers_of, InstallsRise};
@@ -9,14 +9,14 @@ ghost use Rattle.ncq_distinct.specs.DistinctTables.{HaveSameCounts};
 ghost use Rattle.ncq_plan.specs.Relations.{relations};
 ghost use Rattle.ncq_engine.specs.Cached.{AllServe, Grows};
 ghost use Rattle.ncq_engine.specs.Output.{ok_text};
-ghost use Rattle.ncq_engine.specs.Tellings.{firings_spans, firings_text, noted_by, started_at};
-ghost use Rattle.ncq_engine.specs.Tellings.{started_of, AwaitMore, Awaits, CanTellEach};
-ghost use Rattle.ncq_engine.specs.Tellings.{IsAnswered, IsLatest};
+ghost use Rattle.ncq_engine.specs.Tellings.{firings_spans, firings_text, noted_by};
+ghost use Rattle.ncq_engine.specs.Tellings.{started_of, Awaits, CanTellEach};
+ghost use Rattle.ncq_engine.specs.Tellings.{IsAnswered};
 
 use crate::firing::fire;
-use crate::latest::{Latest, put_back};
+use crate::latest::put_back;
 use crate::span::Spans;
-use crate::who::{started, starter};
+use crate::who::started;
 use ncq_base::write_decimal;
 use ncq_cache::NoticeCache;
 use ncq_callback::Handlers;
@@ -125,6 +125,7 @@ pub(crate) fn tell(
         fire(
             alloc,
             subscription,
+            false,
             firing.instant,
             live_table.groups(),
             store,
@@ -177,14 +178,24 @@ fn tell_started(
         store.now live_table.now
         (started_of live_table.now installs.now) distinct.new) }
 {
+    let list = live_table.book().listed(alloc, installs)?;
+    let now = live_table.book().instant();
     distinct.forget();
     let mut spans = Spans::new(alloc);
     let mut latest = None;
-    for install in installs {
-        tell_one(
+    let mut asked = None;
+    for listed in list.as_slice() {
+        if listed.subscription.timing.start > now {
+            continue;
+        }
+        let known = is_asked(asked, listed.question);
+        asked = Some(listed.question);
+        fire(
             alloc,
-            live_table,
-            *install,
+            listed.subscription,
+            known,
+            now,
+            live_table.groups(),
             store,
             handlers,
             out,
@@ -198,69 +209,11 @@ fn tell_started(
     Ok(spans)
 }
 
-/// Appends the notice of the subscription of this install number now, if it has started, and adds
-/// where it stands. What it is told is what was told last from then on.
-fn tell_one<'a>(
-    alloc: Global,
-    live_table: &'a LiveTable,
-    install: u64,
-    store: &Store,
-    handlers: &Handlers,
-    out: &mut Vec<u8>,
-    spans: &mut Spans,
-    latest: &mut Option<Latest<'a>>,
-    cache: &mut NoticeCache,
-    distinct: &mut DistinctTable,
-) -> Result<(), AllocError>
-    requires can { CanTellEach (handed_in handlers.now.items.items (λ h. h.name) (λ h. h.kind)
-        handlers.now.predicates.items (λ p. p.name) (λ p. p.relation))
-        store.now live_table.now }
-    requires latest { IfSome latest.old (IsLatest
-        (relations handlers.now.predicates.items (λ p. p.name) (λ p. p.relation))
-        store.now live_table.now.table) }
-    requires serve { AllServe
-        (relations handlers.now.predicates.items (λ p. p.name) (λ p. p.relation))
-        live_table.now.table cache.old }
-    ensures text { OnOk result (out.new.items ≡ out.old.items
-        ++ firings_text (handed_in handlers.now.items.items (λ h. h.name) (λ h. h.kind)
-        handlers.now.predicates.items (λ p. p.name) (λ p. p.relation)) store.now
-        distinct.old live_table.now
-        (started_at live_table.now.instant live_table.now.subscriptions install)) }
-    ensures front { StartsWith out.new.items out.old.items }
-    ensures spans { OnOk result (spans.new ≡ spans.old
-        ++ firings_spans (handed_in handlers.now.items.items (λ h. h.name) (λ h. h.kind)
-        handlers.now.predicates.items (λ p. p.name) (λ p. p.relation)) store.now
-        distinct.old live_table.now (length out.old.items)
-        (started_at live_table.now.instant live_table.now.subscriptions install)) }
-    ensures latest { IfSome latest.new (IsLatest
-        (relations handlers.now.predicates.items (λ p. p.name) (λ p. p.relation))
-        store.now live_table.now.table) }
-    ensures cached { Grows
-        (relations handlers.now.predicates.items (λ p. p.name) (λ p. p.relation))
-        live_table.now.table cache.old cache.new }
-    ensures counts { HaveSameCounts distinct.old distinct.new }
-    ensures waiting { OnOk result (AwaitMore
-        (relations handlers.now.predicates.items (λ p. p.name) (λ p. p.relation))
-        store.now live_table.now
-        (started_at live_table.now.instant live_table.now.subscriptions install)
-        distinct.old distinct.new) }
+/// Whether this is the question that was asked last.
+fn is_asked(asked: Option<u64>, question: u64) -> bool
+    ensures { IsTrue result → (asked ≡ Some question) }
 {
-    let Some(subscription) = starter(live_table.book(), install) else {
-        return Ok(());
-    };
-    fire(
-        alloc,
-        subscription,
-        live_table.book().instant(),
-        live_table.groups(),
-        store,
-        handlers,
-        out,
-        spans,
-        latest,
-        cache,
-        distinct,
-    )
+    asked == Some(question)
 }
 
 /// Appends the answer to an accepted change: its first line, and the notices of those that fire at

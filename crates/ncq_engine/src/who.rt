@@ -1,5 +1,5 @@
 //! Who fires at a command.
-ghost use Rattle.std.specs.Prelude.{◌≡◌, ◌==◌, nat_lt, IfOk, IfSome, Some, is_some};
+ghost use Rattle.std.specs.Prelude.{◌≡◌, ◌==◌, nat_lt, IfOk};
 ghost use Rattle.std.specs.List.{filter, flat_map, list_any};
 ghost use Rattle.ncq_book.specs.Books.{subscription_of};
 ghost use Rattle.ncq_engine.specs.Engines.{last_in, has_news_in, mark_in};
@@ -35,21 +35,9 @@ fn has_started(book: &Book, install: u64) -> bool
     ensures { result
         ≡ has_started book.now.instant (subscription_of install book.now.subscriptions) }
 {
-    starter(book, install).is_some()
-}
-
-/// The subscription of this install number, if it is there and has started.
-pub(crate) fn starter(book: &Book, install: u64) -> Option<&Subscription>
-    ensures some { IfSome result
-        (λ m. subscription_of install book.now.subscriptions ≡ Some m.now) }
-    ensures started { is_some result
-        ≡ has_started book.now.instant (subscription_of install book.now.subscriptions) }
-{
-    let subscription = book.get(install)?;
-    if subscription.timing.start <= book.instant() {
-        Some(subscription)
-    } else {
-        None
+    match book.get(install) {
+        Some(subscription) => subscription.timing.start <= book.instant(),
+        None => false,
     }
 }
 

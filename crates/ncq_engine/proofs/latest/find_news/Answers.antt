@@ -1,6 +1,7 @@
 use Rattle.std.proofs.Common.{◌≡◌, ◌∙◌, List, refl, subst, sym}
 use Rattle.std.specs.Prelude.{Option, Some, IfSome}
 use Rattle.ncq_bag.specs.declared.bag.Difference.{Difference}
+use Rattle.ncq_book.specs.Books.{AskAlike}
 use Rattle.ncq_plan.specs.Relations.{relations}
 use Rattle.ncq_engine.specs.Cached.{Grows, IsFresh}
 use Rattle.ncq_engine.specs.Tellings.{HasNews, IsKeyed, IsLatest}
@@ -37,6 +38,9 @@ look_up-requires g c = record {
   serve = grown_serve (relations c.args.handlers.now.predicates.items (λ p. p.name) (λ p. p.relation)) c.args.groups.now c.args.cache.now c.put_back.new.cache c.requires.serve (put g (goal.at.look_up-requires g c).After-put_back);
 }
 
+pub serves-requires : goal.serves-requires
+serves-requires g c known = subst (λ (o : Option Latest). IfSome o (λ told. AskAlike told.subscription.now c.args.subscription.now)) c.in-Some.is (c.requires.known known)
+
 pub returns-then-serves : goal.returns-then-serves
 returns-then-serves g c =
     let store = c.args.store.now in
@@ -58,6 +62,7 @@ returns-then-serves g c =
         entries = same ∙ is.entries;
         key = subst (λ (entries : List Difference). IfSome told.key (λ key. IsFresh (relations c.args.handlers.now.predicates.items (λ p. p.name) (λ p. p.relation)) table key entries)) (sym same) is.key;
       };
+      alike = c.serves.ensures.alike c.if-serves.true;
       cached = grows_none (relations c.args.handlers.now.predicates.items (λ p. p.name) (λ p. p.relation)) table c.args.cache.now;
     }
 
@@ -83,5 +88,6 @@ returns g c =
         entries = are;
         key = fresh_keyed c.requires.can.0 (relations c.args.handlers.now.predicates.items (λ p. p.name) (λ p. p.relation)) store table m c.requires.can.1 c.facts.ensures.facts c.mark_at-mark.result own entries are c.in_ok-key.key c.in_ok-key.ensures;
       };
+      alike = record { file = refl; template = refl; residual = refl };
       cached = grows_more (relations c.args.handlers.now.predicates.items (λ p. p.name) (λ p. p.relation)) table c.args.cache.now c.put_back.new.cache c.look_up.new.cache (put g (goal.at.returns g c).After-put_back) c.look_up.ensures.cached;
     }

@@ -1,4 +1,4 @@
-use Rattle.std.proofs.Common.{◌≡◌, ◌++◌, ◌∷◌, [], List, ℕ, length, take, get_or, ◌+◌, ◌<◌, ◌≤◌, arith, sym, subst, ◌∙◌, ap, length-append}
+use Rattle.std.proofs.Common.{◌≡◌, ◌++◌, ◌∷◌, [], List, ℕ, length, take, get_or, ◌+◌, ◌<◌, ◌≤◌, arith, sym, subst, ◌∙◌, ap, length-append, true≢false}
 use Rattle.std.specs.Prelude.{Some, IfSome, IsSome}
 use Rattle.std.specs.List.{flat_map}
 use Rattle.std.proofs.lemmas.List.{take_more, take_all}
@@ -38,6 +38,7 @@ fire-requires g c =
       latest = subst (λ (t : TableState). IfSome c.loop-firing.latest (IsLatest (relations c.args.handlers.now.predicates.items (λ p. p.name) (λ p. p.relation)) c.args.store.now t)) (sym c.groups.ensures) c.loop-firing.invariant.latest;
       serve = subst (λ (t : TableState). AllServe (relations c.args.handlers.now.predicates.items (λ p. p.name) (λ p. p.relation)) t c.loop-firing.cache) (sym c.groups.ensures)
           (grown_serve (relations c.args.handlers.now.predicates.items (λ p. p.name) (λ p. p.relation)) c.args.live_table.now.table c.args.cache.now c.loop-firing.cache c.requires.serve c.loop-firing.invariant.cached);
+      known = λ h. absurd (true≢false (sym h));
     }
 
 pub loop-firing-preserved : goal.loop-firing-preserved
