@@ -1,11 +1,11 @@
 -- What a list of the book gives, against its subscriptions: when those of it fire, and who asks as the one that was told last.
-use Rattle.std.proofs.Common.{◌≡◌, ℕ, ◌+◌, ◌<◌, ◌≤◌, true, false, cond, List, [], ◌∷◌, ◌++◌, map, length, take, get_or, refl, sym, ◌∙◌, ap, subst, true≢false}
+use Rattle.std.proofs.Common.{◌≡◌, ℕ, ◌+◌, ◌<◌, ◌≤◌, true, false, List, [], ◌∷◌, ◌++◌, map, length, take, get_or, refl, sym, ◌∙◌, ap, subst}
 use Rattle.std.specs.Prelude.{Option, Some, None, IfSome, nat_le, if◌then◌else◌}
 use Rattle.std.specs.List.{cons_option, flat_map, AllByRecursion}
 use Rattle.std.proofs.lemmas.List.{take_all}
 use Rattle.ncq_book.specs.declared.listed.Listed.{Listed}
 use Rattle.ncq_book.specs.declared.subscription.Subscription.{Subscription as Kept}
-use Rattle.ncq_book.specs.Books.{AskAlike, AskByQuestion, AskLike, subscription_of, subscriptions_of}
+use Rattle.ncq_book.specs.Books.{AskAlike, AskByQuestion, AskLike, BookState, subscription_of, subscriptions_of}
 use Rattle.ncq_book.proofs.QuestionLaws.{alike_back, alike_on}
 use Rattle.ncq_event.specs.declared.firing.Firing.{Firing}
 use Rattle.ncq_engine.specs.Tellings.{has_started, started_at}
@@ -60,6 +60,10 @@ module _ (ms : List Kept) where
 
     pub listed_starts : (now : ℕ) → flat_map (λ (l : Listed). started_at now ms (of_listed l).install) list ≡ flat_map (started_at now ms) installs
     listed_starts now = flat_map_mapped of_listed (starts now) list ∙ ap (flat_map (starts now)) are ∙ starts_each now installs
+
+-- what is walked is what the book lists
+pub are_listed : (installs : List ℕ) (list items : List Listed) (book now : BookState) → list ≡ items → map of_listed items ≡ subscriptions_of installs book.subscriptions → book ≡ now → map of_listed list ≡ subscriptions_of installs now.subscriptions
+are_listed installs list items book now walked are is = ap (map of_listed) walked ∙ are ∙ ap (λ (b : BookState). subscriptions_of installs b.subscriptions) is
 
 -- the firings of those before a place past the end
 pub all_listed : (ms : List Kept) (now : ℕ) (installs : List ℕ) (list : List Listed) → map of_listed list ≡ subscriptions_of installs ms → (at : ℕ) → length list ≤ at

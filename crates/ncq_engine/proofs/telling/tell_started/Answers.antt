@@ -1,4 +1,4 @@
-use Rattle.std.proofs.Common.{◌≡◌, ◌++◌, List, ℕ, true, false, length, map, take, ◌+◌, ◌<◌, ◌≤◌, arith, sym, subst, ◌∙◌, ap, length-append}
+use Rattle.std.proofs.Common.{◌≡◌, ◌++◌, List, ℕ, true, false, length, take, ◌+◌, ◌<◌, ◌≤◌, arith, sym, subst, ◌∙◌, ap, length-append}
 use Rattle.std.specs.Prelude.{IfSome, nat_le}
 use Rattle.std.specs.List.{flat_map}
 use Rattle.std.proofs.lemmas.Bool.Decides.{nat_tests}
@@ -6,7 +6,7 @@ use Rattle.std.proofs.lemmas.List.{append-nil}
 use Rattle.ncq_base.proofs.Written.{front_still}
 use Rattle.ncq_book.specs.declared.listed.Listed.{Listed}
 use Rattle.ncq_book.specs.declared.subscription.Subscription.{Subscription as Kept}
-use Rattle.ncq_book.specs.Books.{AskByQuestion, BookState, subscriptions_of}
+use Rattle.ncq_book.specs.Books.{AskByQuestion, BookState}
 use Rattle.ncq_callback.specs.Labels.{Handed, handed_in}
 use Rattle.ncq_event.specs.declared.firing.Firing.{Firing}
 use Rattle.ncq_group.specs.Tables.{TableState}
@@ -20,7 +20,7 @@ use Rattle.ncq_engine.specs.Tellings.{Awaits, AwaitsNews, IsLatest, firing_name,
 use Rattle.ncq_engine.proofs.AwaitLaws.{awaits_none, firing_same}
 use Rattle.ncq_engine.proofs.CachedLaws.{grown_serve, grows_more, grows_none}
 use Rattle.ncq_engine.proofs.KeptLaws.{latest_keyed}
-use Rattle.ncq_engine.proofs.ListedLaws.{IsFound, all_listed, asks_last, begun, holds_here, known_alike, later, listed_found, made_with, of_listed}
+use Rattle.ncq_engine.proofs.ListedLaws.{IsFound, all_listed, are_listed, asks_last, begun, holds_here, known_alike, later, listed_found, made_with, of_listed}
 use Rattle.ncq_engine.proofs.TellingLoops.{found_has, grows_on, spans_onto, spans_started, text_started, texts_onto, waits_started}
 use Rattle.ncq_engine.proofs.telling.tell_started.Goals as goal
 
@@ -44,7 +44,7 @@ fire-requires g c =
     let at = c.loop-listed.listed-index in
     let here : at < length list = c.loop-listed-test.true in
     let item : Listed = c.listed-item.result in
-    let are = ap (map of_listed) c.as_slice-listed-items.ensures.value ∙ c.in_ok-list.ensures.listed ∙ ap (λ (b : BookState). subscriptions_of c.args.installs.now b.subscriptions) c.book.ensures in
+    let are = are_listed c.args.installs.now list c.in_ok-list.list.items c.book.result.now _ c.as_slice-listed-items.ensures.value c.in_ok-list.ensures.listed c.book.ensures in
     let found = holds_here list at item here c.listed-item.is (λ l. IsFound live_table.subscriptions (of_listed l)) (listed_found live_table.subscriptions c.args.installs.now list are) in
     record {
       can = subst (λ (t : TableState). CanTell all c.args.store.now t (of_listed item)) (sym c.groups.ensures)
@@ -66,7 +66,7 @@ loop-listed-preserved g c =
     let here : at < length list = c.loop-listed-test.true in
     let item : Listed = c.listed-item.result in
     let m : Kept = of_listed item in
-    let are = ap (map of_listed) c.as_slice-listed-items.ensures.value ∙ c.in_ok-list.ensures.listed ∙ ap (λ (b : BookState). subscriptions_of c.args.installs.now b.subscriptions) c.book.ensures in
+    let are = are_listed c.args.installs.now list c.in_ok-list.list.items c.book.result.now _ c.as_slice-listed-items.ensures.value c.in_ok-list.ensures.listed c.book.ensures in
     let found = holds_here list at c.listed-item.result here c.listed-item.is (λ l. IsFound subscriptions (of_listed l)) (listed_found subscriptions c.args.installs.now list are) in
     let now : c.instant-now.result ≡ live_table.instant = c.instant-now.ensures ∙ ap (λ (b : BookState). b.instant) c.book-2.ensures in
     let in_time : nat_le m.timing.start live_table.instant ≡ true = grind (arith, nat_tests, now, c.if-listed-now.false) in
@@ -110,7 +110,7 @@ loop-listed-preserved-then-listed-now g c =
     let at = c.loop-listed.listed-index in
     let here : at < length list = c.loop-listed-test.true in
     let m : Kept = of_listed c.listed-item.result in
-    let are = ap (map of_listed) c.as_slice-listed-items.ensures.value ∙ c.in_ok-list.ensures.listed ∙ ap (λ (b : BookState). subscriptions_of c.args.installs.now b.subscriptions) c.book.ensures in
+    let are = are_listed c.args.installs.now list c.in_ok-list.list.items c.book.result.now _ c.as_slice-listed-items.ensures.value c.in_ok-list.ensures.listed c.book.ensures in
     let found = holds_here list at c.listed-item.result here c.listed-item.is (λ l. IsFound subscriptions (of_listed l)) (listed_found subscriptions c.args.installs.now list are) in
     let now : c.instant-now.result ≡ live_table.instant = c.instant-now.ensures ∙ ap (λ (b : BookState). b.instant) c.book-2.ensures in
     let pending : nat_le m.timing.start live_table.instant ≡ false = grind (arith, nat_tests, now, c.if-listed-now.true) in
@@ -134,7 +134,7 @@ returns-clause-text g c =
     let live_table = c.args.live_table.now in
     let list = c.as_slice-listed-items.result.now in
     let past : length list ≤ c.loop-listed.listed-index = omega (arith, c.loop-listed-test.false) in
-    let are = ap (map of_listed) c.as_slice-listed-items.ensures.value ∙ c.in_ok-list.ensures.listed ∙ ap (λ (b : BookState). subscriptions_of c.args.installs.now b.subscriptions) c.book.ensures in
+    let are = are_listed c.args.installs.now list c.in_ok-list.list.items c.book.result.now _ c.as_slice-listed-items.ensures.value c.in_ok-list.ensures.listed c.book.ensures in
     c.loop-listed.invariant.text
     ∙ ap (λ (fs : List Firing). c.args.out.now.items ++ flat_map (firing_text (handed_in c.args.handlers.now.items.items (λ h. h.name) (λ h. h.kind) c.args.handlers.now.predicates.items (λ p. p.name) (λ p. p.relation)) c.args.store.now live_table.table.files c.args.distinct.now live_table.subscriptions) fs)
     (all_listed live_table.subscriptions live_table.instant c.args.installs.now list are c.loop-listed.listed-index past)
@@ -144,7 +144,7 @@ returns-clause-spans g c =
     let live_table = c.args.live_table.now in
     let list = c.as_slice-listed-items.result.now in
     let past : length list ≤ c.loop-listed.listed-index = omega (arith, c.loop-listed-test.false) in
-    let are = ap (map of_listed) c.as_slice-listed-items.ensures.value ∙ c.in_ok-list.ensures.listed ∙ ap (λ (b : BookState). subscriptions_of c.args.installs.now b.subscriptions) c.book.ensures in
+    let are = are_listed c.args.installs.now list c.in_ok-list.list.items c.book.result.now _ c.as_slice-listed-items.ensures.value c.in_ok-list.ensures.listed c.book.ensures in
     c.loop-listed.invariant.spans
     ∙ ap (spans_of (firing_name live_table.subscriptions) (firing_text (handed_in c.args.handlers.now.items.items (λ h. h.name) (λ h. h.kind) c.args.handlers.now.predicates.items (λ p. p.name) (λ p. p.relation)) c.args.store.now live_table.table.files c.args.distinct.now live_table.subscriptions) (length c.args.out.now.items))
     (all_listed live_table.subscriptions live_table.instant c.args.installs.now list are c.loop-listed.listed-index past)
@@ -154,7 +154,7 @@ returns-clause-waiting g c =
     let live_table = c.args.live_table.now in
     let list = c.as_slice-listed-items.result.now in
     let past : length list ≤ c.loop-listed.listed-index = omega (arith, c.loop-listed-test.false) in
-    let are = ap (map of_listed) c.as_slice-listed-items.ensures.value ∙ c.in_ok-list.ensures.listed ∙ ap (λ (b : BookState). subscriptions_of c.args.installs.now b.subscriptions) c.book.ensures in
+    let are = are_listed c.args.installs.now list c.in_ok-list.list.items c.book.result.now _ c.as_slice-listed-items.ensures.value c.in_ok-list.ensures.listed c.book.ensures in
     subst (λ (fs : List Firing). Awaits (relations c.args.handlers.now.predicates.items (λ p. p.name) (λ p. p.relation)) c.args.store.now live_table fs c.loop-listed.distinct)
     (all_listed live_table.subscriptions live_table.instant c.args.installs.now list are c.loop-listed.listed-index past) c.loop-listed.invariant.waiting
 
