@@ -1,4 +1,5 @@
-use Rattle.std.proofs.Common.{◌+◌, subst, sym}
+use Rattle.std.proofs.Common.{◌+◌, ◌∙◌, ap, subst, sym}
+use Rattle.ncq_script.specs.declared.command.Command.TheVariants.{Create}
 use Rattle.ncq_engine.specs.Applies.{Applies}
 use Rattle.ncq_engine.specs.Compactions.{IsChange}
 use Rattle.ncq_engine.specs.Works.{IsWithinWork}
@@ -11,7 +12,7 @@ pub returns-in-Delta-clause-work : goal.returns-in-Delta-clause-work
 returns-in-Delta-clause-work g c = subst (λ command. IsWithinWork c.args.self.now command c.args.steps.now c.change.new.steps) (sym c.in-Delta.is) c.change.ensures.work
 
 pub returns-in-Create-clause-work : goal.returns-in-Create-clause-work
-returns-in-Create-clause-work g c = subst (λ command. IsWithinWork c.args.self.now command c.args.steps.now c.create.new.steps) (sym c.in-Create.is) c.create.ensures.work
+returns-in-Create-clause-work g c = subst (λ command. IsWithinWork c.args.self.now command c.args.steps.now c.create.new.steps) (ap Create c.get.ensures ∙ sym c.in-Create.is) c.create.ensures.work
 
 pub returns-in-Batch-clause-applies : goal.returns-in-Batch-clause-applies
 returns-in-Batch-clause-applies g c =
