@@ -2,8 +2,8 @@
 //! the templates that are filled from it.
 //!
 //! A template is a list of words: `<r` begins an element and `>` ends it, `-text` is a text, `$1`
-//! the value at slot 1, and `@name1` an attribute with the string value of slot 1. As in lines, `(r`
-//! begins an element as well, and `)r` ends it.
+//! the value at slot 1, and `@name1` an attribute with the string value of slot 1. As in lines,
+//! `(r` begins an element as well, and `)r` ends it.
 
 use super::making::{element_with, rows_of, shape_with, text_node, value_shapes};
 use ncq_base::{Op, atom_of, bytes_of};
