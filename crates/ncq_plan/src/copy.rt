@@ -1,6 +1,6 @@
 //! Copies of expressions.
 use crate::expr::Expr;
-use ncq_base::{Copied, Own};
+use ncq_base::{Copied, Shared};
 use std::alloc::{AllocError, Global};
 
 impl Copied for Expr {
@@ -15,7 +15,7 @@ impl Copied for Expr {
                 slot,
                 constant,
             } => Ok(Expr::EqSel {
-                input: Own::new(alloc, input.get().copy(alloc)?)?,
+                input: input.share()?,
                 slot: *slot,
                 constant: constant.copy(alloc)?,
             }),
@@ -24,13 +24,13 @@ impl Copied for Expr {
                 slot,
                 interval,
             } => Ok(Expr::RangeSel {
-                input: Own::new(alloc, input.get().copy(alloc)?)?,
+                input: input.share()?,
                 slot: *slot,
                 interval: *interval,
             }),
             Expr::Join { left, right, pairs } => Ok(Expr::Join {
-                left: Own::new(alloc, left.get().copy(alloc)?)?,
-                right: Own::new(alloc, right.get().copy(alloc)?)?,
+                left: left.share()?,
+                right: right.share()?,
                 pairs: pairs.copy(alloc)?,
             }),
         }

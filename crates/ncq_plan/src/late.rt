@@ -8,7 +8,7 @@ ghost use Rattle.ncq_plan.specs.WellFormed.{ArmFits, ArmsFit, arms_width, IsWell
 
 use crate::expr::Expr;
 use crate::query::{Arm, NormalQuery};
-use ncq_base::{Copied, Own};
+use ncq_base::{Copied, Shared};
 use std::alloc::{AllocError, Global};
 
 /// The plan of the query without its equalities and ranges: the scan of the first arm, joined in
@@ -21,8 +21,8 @@ pub fn bare(alloc: Global, query: &NormalQuery) -> Result<Expr, AllocError>
     let mut plan = arm_scan(alloc, &arms[0])?;
     for arm in &arms[1..] {
         plan = Expr::Join {
-            left: Own::new(alloc, plan)?,
-            right: Own::new(alloc, arm_scan(alloc, arm)?)?,
+            left: Shared::new(alloc, plan)?,
+            right: Shared::new(alloc, arm_scan(alloc, arm)?)?,
             pairs: arm.pairs.copy(alloc)?,
         };
     }
@@ -94,7 +94,7 @@ fn with_equals_behind(
     let mut plan = input;
     for equal in arm.equals.as_slice() {
         plan = Expr::EqSel {
-            input: Own::new(alloc, plan)?,
+            input: Shared::new(alloc, plan)?,
             slot: offset + equal.slot,
             constant: equal.constant.copy(alloc)?,
         };
@@ -116,7 +116,7 @@ fn with_ranges_behind(
     let mut plan = input;
     for range in arm.ranges.as_slice() {
         plan = Expr::RangeSel {
-            input: Own::new(alloc, plan)?,
+            input: Shared::new(alloc, plan)?,
             slot: offset + range.slot,
             interval: range.interval,
         };

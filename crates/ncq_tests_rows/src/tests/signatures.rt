@@ -4,7 +4,7 @@
 //! equality over the scan `p`, `pq.` the product of the scans `p` and `q`.
 
 use super::making::{shape_with, value_shapes};
-use ncq_base::{Atom, Own, bytes_of};
+use ncq_base::{Atom, Shared, bytes_of};
 use ncq_plan::{End, Expr, Interval, Pair, Pairs};
 use ncq_row::{Names, Shape, ShapeSuffix, Shapes};
 use ncq_signature::{Signature, signature_of, write_signature};
@@ -105,19 +105,19 @@ fn source_of(letter: u8) -> &'static str {
 }
 
 /// The scan of this letter.
-fn scan(alloc: Global, letter: u8) -> Result<Own<Expr>, AllocError> {
+fn scan(alloc: Global, letter: u8) -> Result<Shared<Expr>, AllocError> {
     let source = bytes_of(alloc, source_of(letter).as_bytes())?;
     let shape = shape_of(alloc, letter)?;
-    Own::new(alloc, Expr::Scan { source, shape })
+    Shared::new(alloc, Expr::Scan { source, shape })
 }
 
 fn equal(
     alloc: Global,
-    input: Own<Expr>,
+    input: Shared<Expr>,
     slot: usize,
     constant: Atom,
-) -> Result<Own<Expr>, AllocError> {
-    Own::new(
+) -> Result<Shared<Expr>, AllocError> {
+    Shared::new(
         alloc,
         Expr::EqSel {
             input,
@@ -127,13 +127,13 @@ fn equal(
     )
 }
 
-fn equal_text(alloc: Global, input: Own<Expr>, text: &[u8]) -> Result<Own<Expr>, AllocError> {
+fn equal_text(alloc: Global, input: Shared<Expr>, text: &[u8]) -> Result<Shared<Expr>, AllocError> {
     let text = bytes_of(alloc, text)?;
     equal(alloc, input, 0, Atom::Text(text))
 }
 
-fn range(alloc: Global, input: Own<Expr>, low: End, high: End) -> Result<Own<Expr>, AllocError> {
-    Own::new(
+fn range(alloc: Global, input: Shared<Expr>, low: End, high: End) -> Result<Shared<Expr>, AllocError> {
+    Shared::new(
         alloc,
         Expr::RangeSel {
             input,
@@ -144,7 +144,7 @@ fn range(alloc: Global, input: Own<Expr>, low: End, high: End) -> Result<Own<Exp
 }
 
 /// The selection of this letter over the input.
-fn selected(alloc: Global, letter: u8, input: Own<Expr>) -> Result<Own<Expr>, AllocError> {
+fn selected(alloc: Global, letter: u8, input: Shared<Expr>) -> Result<Shared<Expr>, AllocError> {
     match letter {
         b'=' => equal_text(alloc, input, b"INTC"),
         b'"' => equal_text(alloc, input, b"a\"\\\n\t\r"),
@@ -183,15 +183,15 @@ fn pairs(alloc: Global, slots: &[(usize, usize)]) -> Result<Pairs, AllocError> {
 fn joined(
     alloc: Global,
     letter: u8,
-    left: Own<Expr>,
-    right: Own<Expr>,
-) -> Result<Own<Expr>, AllocError> {
+    left: Shared<Expr>,
+    right: Shared<Expr>,
+) -> Result<Shared<Expr>, AllocError> {
     let pairs = pairs(alloc, slots_of(letter))?;
-    Own::new(alloc, Expr::Join { left, right, pairs })
+    Shared::new(alloc, Expr::Join { left, right, pairs })
 }
 
 /// One expression more that waits.
-fn wait(waiting: &mut Vec<Own<Expr>>, expr: Own<Expr>) -> Result<(), AllocError> {
+fn wait(waiting: &mut Vec<Shared<Expr>>, expr: Shared<Expr>) -> Result<(), AllocError> {
     waiting.push(expr)?;
     Ok(())
 }
@@ -199,7 +199,7 @@ fn wait(waiting: &mut Vec<Own<Expr>>, expr: Own<Expr>) -> Result<(), AllocError>
 /// A selection in place of the newest expression that waits.
 fn add_selection(
     alloc: Global,
-    waiting: &mut Vec<Own<Expr>>,
+    waiting: &mut Vec<Shared<Expr>>,
     letter: u8,
 ) -> Result<(), AllocError> {
     match waiting.pop() {
@@ -209,7 +209,7 @@ fn add_selection(
 }
 
 /// A join in place of the newest two expressions that wait.
-fn add_join(alloc: Global, waiting: &mut Vec<Own<Expr>>, letter: u8) -> Result<(), AllocError> {
+fn add_join(alloc: Global, waiting: &mut Vec<Shared<Expr>>, letter: u8) -> Result<(), AllocError> {
     match (waiting.pop(), waiting.pop()) {
         (Some(right), Some(left)) => wait(waiting, joined(alloc, letter, left, right)?),
         _ => Ok(()),
@@ -217,7 +217,7 @@ fn add_join(alloc: Global, waiting: &mut Vec<Own<Expr>>, letter: u8) -> Result<(
 }
 
 /// One letter more of the expressions that wait, the newest last.
-fn add_letter(alloc: Global, waiting: &mut Vec<Own<Expr>>, letter: u8) -> Result<(), AllocError> {
+fn add_letter(alloc: Global, waiting: &mut Vec<Shared<Expr>>, letter: u8) -> Result<(), AllocError> {
     match letter {
         b'a'..=b'z' => wait(waiting, scan(alloc, letter)?),
         b'.' | b'*' | b'+' | b'/' => add_join(alloc, waiting, letter),
@@ -225,7 +225,7 @@ fn add_letter(alloc: Global, waiting: &mut Vec<Own<Expr>>, letter: u8) -> Result
     }
 }
 
-fn expr(alloc: Global, letters: &str) -> Result<Own<Expr>, AllocError> {
+fn expr(alloc: Global, letters: &str) -> Result<Shared<Expr>, AllocError> {
     let mut waiting = Vec::new(alloc);
     for letter in letters.as_bytes() {
         add_letter(alloc, &mut waiting, *letter)?;
