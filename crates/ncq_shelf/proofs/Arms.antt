@@ -140,6 +140,14 @@ module _ (gs : Groups) where
         pub file_of_right : HasFile files right
         file_of_right = let f = its_file files second right stand.1 in record { file = f.0; at = f.1 }
 
+        pub sides_of_join : (f g : File) → lookup (nat_eq left) files ≡ Some f → lookup (nat_eq right) files ≡ Some g → whole ≡ Join f.expr g.expr pairs
+        sides_of_join f g k l =
+            let x = its_file files first left stand.0 in
+            let y = its_file files second right stand.1 in
+            let on_left : f.expr ≡ first = ap (λ z. z.expr) (one_value k x.1) ∙ x.2 in
+            let on_right : g.expr ≡ second = ap (λ z. z.expr) (one_value l y.1) ∙ y.2 in
+            is ∙ (λ i. Join (sym on_left i) (sym on_right i) pairs)
+
         reads_left : (q : ℕ) (f : File) → lookup (nat_eq q) files ≡ Some f → q ≡ left → Reads f.expr joined whole
         reads_left q f k e =
             let g = its_file files first left stand.0 in

@@ -15,27 +15,28 @@ use crate::inputs::Inputs;
 use crate::keyed::key_join;
 use crate::keys::Keys;
 use crate::scans::enroll_scan;
+use crate::shared::share_inputs;
 use indexmap::IndexMap;
-use ncq_base::{Bytes, Copied};
+use ncq_base::{Bytes, Shared};
 use ncq_midfile::RangeFile;
 use ncq_plan::Expr;
 use ncq_readers::Readers;
 use std::alloc::{AllocError, Global};
 
 /// All that may fail before a new file that has rows of its own is put in: there is room for it,
-/// and what it reads knows it. The answer is two copies of its expression. After an error all know
+/// and what it reads knows it. The answer is its expression, twice. After an error all know
 /// what they knew; rows may be noted at more slots.
 pub(crate) fn admit(
     alloc: Global,
     files: &mut IndexMap<u64, File>,
     groups: &IndexMap<Group, RangeFile>,
-    numbers: &mut IndexMap<Expr, u64>,
+    numbers: &mut IndexMap<Shared<Expr>, u64>,
     scans: &mut IndexMap<Bytes, Readers>,
     keys: &mut Keys,
     expr: &Expr,
     inputs: Inputs,
     number: u64,
-) -> Result<(Expr, Expr), AllocError>
+) -> Result<(Shared<Expr>, Shared<Expr>), AllocError>
     requires inputs { AreInputs (shown groups.now.entries files.old.entries) expr.now inputs }
     requires one { OneEach files.old.entries }
     requires unread { IsUnread files.old.entries expr.now number }
@@ -54,7 +55,7 @@ pub(crate) fn admit(
         keys.old keys.new }
 {
     key_join(keys, files, groups, expr, inputs, number)?;
-    let copies = make_room(alloc, files, numbers, expr)?;
+    let copies = make_room(alloc, files, numbers, expr, inputs)?;
     announce(alloc, files, scans, expr, inputs, number).and(Ok(copies))
 }
 
@@ -82,21 +83,26 @@ fn announce(
     enroll_scan(alloc, scans, expr, number)
 }
 
-/// Room for one more file, and two copies of its expression: one finds it, the other is its own.
-/// The files and their numbers stay as they are.
+/// Room for one more file, and its expression for two owners: one finds it, the other is the file.
+/// It shares the expressions of the files that it reads. The files and their numbers stay as they
+/// are.
 pub(crate) fn make_room(
     alloc: Global,
     files: &mut IndexMap<u64, File>,
-    numbers: &mut IndexMap<Expr, u64>,
+    numbers: &mut IndexMap<Shared<Expr>, u64>,
     expr: &Expr,
-) -> Result<(Expr, Expr), AllocError>
+    inputs: Inputs,
+) -> Result<(Shared<Expr>, Shared<Expr>), AllocError>
+    requires inputs { AreInputs (shown [] files.old.entries) expr.now inputs }
+    requires one { OneEach files.old.entries }
     ensures copies { IfOk result (λ copies. (copies.0 ≡ expr.now) × (copies.1 ≡ expr.now)) }
     ensures files { files.new.entries ≡ files.old.entries }
     ensures numbers { numbers.new.entries ≡ numbers.old.entries }
     ensures room { OnOk result (0 < spare files.new) }
     ensures spare { OnOk result (0 < spare numbers.new) }
 {
+    let own = share_inputs(alloc, files, expr, inputs)?;
     files.reserve(1)?;
     numbers.reserve(1)?;
-    Ok((expr.copy(alloc)?, expr.copy(alloc)?))
+    Ok((own.share()?, own))
 }

@@ -76,7 +76,7 @@ pub(crate) fn strike(files: &mut IndexMap<u64, File>, expr: &Expr, inputs: Input
 }
 
 /// The number of the one input.
-fn one_of(inputs: Inputs) -> u64
+pub(crate) fn one_of(inputs: Inputs) -> u64
     requires { (number : ℕ) × (inputs ≡ One number) }
     ensures { inputs ≡ One result }
 {

@@ -2,13 +2,15 @@
 
 use crate::inputs::Inputs;
 use crate::rows::Rows;
+use ncq_base::Shared;
 use ncq_plan::Expr;
 use ncq_readers::Readers;
 
-/// The rows of an expression, with the count of its uses, what it reads and what reads it.
+/// The rows of an expression, with the count of its uses, what it reads and what reads it. The
+/// expression shares those of the files that it reads.
 /// `rows_lost` is how many rows compactions took out since an index of it was last asked for.
 pub(crate) struct File {
-    pub(crate) expr: Expr,
+    pub(crate) expr: Shared<Expr>,
     pub(crate) uses: u64,
     pub(crate) content: Rows,
     pub(crate) inputs: Inputs,

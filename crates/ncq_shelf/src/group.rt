@@ -38,7 +38,7 @@ pub(crate) fn view_of<'a>(groups: &'a IndexMap<Group, RangeFile>, file: &'a File
             };
             View::Ranged {
                 file: held,
-                interval: interval_of(&file.expr),
+                interval: interval_of(file.expr.get()),
                 base: *base,
             }
         }

@@ -26,7 +26,7 @@ use crate::group::Group;
 use crate::inputs::Inputs;
 use crate::ranged::{add_rows, open_group, release};
 use indexmap::IndexMap;
-use ncq_base::{Interval, Steps};
+use ncq_base::{Interval, Shared, Steps};
 use ncq_consttab::RangeTable;
 use ncq_midfile::{RangeFile, SignedRows, View};
 use ncq_plan::Expr;
@@ -110,9 +110,9 @@ pub(crate) fn install(
 /// Puts a file in, under its number and its expression. It takes no memory.
 pub(crate) fn put_file(
     files: &mut IndexMap<u64, File>,
-    numbers: &mut IndexMap<Expr, u64>,
+    numbers: &mut IndexMap<Shared<Expr>, u64>,
     number: u64,
-    key: Expr,
+    key: Shared<Expr>,
     file: File,
 )
     requires room { 0 < spare files.old }

@@ -21,6 +21,7 @@ mod met;
 mod ranged;
 mod rows;
 mod scans;
+mod shared;
 mod shelf;
 
 pub use inputs::Inputs;

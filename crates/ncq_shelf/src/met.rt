@@ -141,7 +141,7 @@ fn add_join(
 fn is_join_over(file: &File, input: u64) -> bool
     ensures { IsTrue result ↔ IsJoinFileOver file.now input }
 {
-    match &file.expr {
+    match file.expr.get() {
         Expr::Join { .. } => is_side(file.inputs, input),
         _ => false,
     }

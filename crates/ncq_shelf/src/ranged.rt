@@ -103,7 +103,7 @@ pub(crate) fn release_of(
         files.now.entries groups.old.entries group gone.now.expr groups.new.entries }
 {
     if let Rows::Ranged { group, .. } = &gone.content {
-        release(groups, files, *group, &gone.expr);
+        release(groups, files, *group, gone.expr.get());
     }
 }
 

@@ -45,7 +45,7 @@ use crate::rows::{
 };
 use crate::scans::strike_scan;
 use indexmap::IndexMap;
-use ncq_base::{Atom, Bytes, FileId, Sequence, Steps};
+use ncq_base::{Atom, Bytes, FileId, Sequence, Shared, Steps};
 use ncq_consttab::RangeTable;
 use ncq_midfile::{MidFile, RangeFile, SignedRow, View};
 use ncq_plan::Expr;
@@ -62,7 +62,7 @@ const FEW_JOINS: usize = 3;
 pub struct Shelf {
     files: IndexMap<u64, File>,
     groups: IndexMap<Group, RangeFile>,
-    numbers: IndexMap<Expr, u64>,
+    numbers: IndexMap<Shared<Expr>, u64>,
     scans: IndexMap<Bytes, Readers>,
     keys: Keys,
 }
@@ -141,7 +141,7 @@ impl Shelf {
         ensures { AtFile self.now number (λ file. result.now ≡ file.expr) }
     {
         match self.files.get(&number) {
-            Some(file) => &file.expr,
+            Some(file) => file.expr.get(),
             None => unreachable!(),
         }
     }
@@ -265,7 +265,7 @@ impl Shelf {
         let Some(file) = self.files.get(&number) else {
             return Inputs::Nothing;
         };
-        match &file.expr {
+        match file.expr.get() {
             Expr::Join { .. } => file.inputs,
             _ => Inputs::Nothing,
         }
@@ -340,8 +340,8 @@ impl Shelf {
             return Inputs::Nothing;
         };
         let _number = self.numbers.swap_remove(&file.expr);
-        strike(&mut self.files, &file.expr, file.inputs, number);
-        strike_scan(&mut self.scans, &file.expr, number);
+        strike(&mut self.files, file.expr.get(), file.inputs, number);
+        strike_scan(&mut self.scans, file.expr.get(), number);
         release_of(&mut self.groups, &self.files, &file);
         self.keys.forget(number);
         file.inputs
@@ -484,7 +484,7 @@ impl Shelf {
         let group = Group { input, slot: *slot };
         let view = view_of(&self.groups, inner);
         let missing = missing_at(alloc, &inner.readers, interval, *slot, &view, change, steps)?;
-        let (key, copy) = make_room(alloc, &mut self.files, &mut self.numbers, expr)?;
+        let (key, copy) = make_room(alloc, &mut self.files, &mut self.numbers, expr, inputs)?;
         install(
             alloc,
             &mut self.groups,

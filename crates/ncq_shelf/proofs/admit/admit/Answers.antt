@@ -19,3 +19,7 @@ announce-requires-clause-inputs c =
 
 pub returns-clause-scan : goal.returns-clause-scan
 returns-clause-scan c = ok_and _ c.announce.result _ c.and.result c.and.ensures c.announce.ensures.scan
+
+pub make_room-requires-clause-inputs : goal.make_room-requires-clause-inputs
+make_room-requires-clause-inputs c =
+    inputs_any c.args.files.now.entries c.args.groups.now.entries [] c.args.expr.now c.args.inputs c.requires.inputs

@@ -13,4 +13,4 @@ unreachable-requires c =
 
 pub returns : goal.returns
 returns c = λ file at.
-    ap (λ s. s.expr) (one_value (shown_at c.self.inside.groups.entries c.self.inside.files.entries c.args.number c.in-Some.file.now (sym c.in-Some.ensures.value)) (subst (λ f. get f c.args.number ≡ Some file) (sym c.self.view_is) at))
+    c.get-in-Some.ensures ∙ ap (λ s. s.expr) (one_value (shown_at c.self.inside.groups.entries c.self.inside.files.entries c.args.number c.in-Some.file.now (sym c.in-Some.ensures.value)) (subst (λ f. get f c.args.number ≡ Some file) (sym c.self.view_is) at))

@@ -178,3 +178,12 @@ returns-clause-fits g c =
 
 pub returns-in_err-key-clause-err : goal.returns-in_err-key-clause-err
 returns-in_err-key-clause-err g c = any_err _ (ap (shown c.self.inside.groups.entries) c.make_room.ensures.files ∙ c.self.view_is)
+
+pub make_room-requires-clause-inputs : goal.make_room-requires-clause-inputs
+make_room-requires-clause-inputs g c =
+    inputs_any c.self.inside.files.entries c.self.inside.groups.entries [] c.args.expr.now (One c.in-One.input)
+    (subst (λ x. AreInputs x c.args.expr.now (One c.in-One.input)) (sym c.self.view_is) (subst (AreInputs c.args.self.now c.args.expr.now) c.in-One.is c.requires.inputs))
+
+pub make_room-requires-clause-one : goal.make_room-requires-clause-one
+make_room-requires-clause-one g c =
+    one_each c.self.inside.groups.entries c.self.inside.files.entries c.self.inside.numbers.entries c.self.invariant.shelved.indexed
