@@ -132,7 +132,12 @@ fn equal_text(alloc: Global, input: Shared<Expr>, text: &[u8]) -> Result<Shared<
     equal(alloc, input, 0, Atom::Text(text))
 }
 
-fn range(alloc: Global, input: Shared<Expr>, low: End, high: End) -> Result<Shared<Expr>, AllocError> {
+fn range(
+    alloc: Global,
+    input: Shared<Expr>,
+    low: End,
+    high: End,
+) -> Result<Shared<Expr>, AllocError> {
     Shared::new(
         alloc,
         Expr::RangeSel {
@@ -217,7 +222,11 @@ fn add_join(alloc: Global, waiting: &mut Vec<Shared<Expr>>, letter: u8) -> Resul
 }
 
 /// One letter more of the expressions that wait, the newest last.
-fn add_letter(alloc: Global, waiting: &mut Vec<Shared<Expr>>, letter: u8) -> Result<(), AllocError> {
+fn add_letter(
+    alloc: Global,
+    waiting: &mut Vec<Shared<Expr>>,
+    letter: u8,
+) -> Result<(), AllocError> {
     match letter {
         b'a'..=b'z' => wait(waiting, scan(alloc, letter)?),
         b'.' | b'*' | b'+' | b'/' => add_join(alloc, waiting, letter),
