@@ -4,7 +4,8 @@
 //! adds, which stays at most 2^63.
 //!
 //! Differences come into `Counts`, which stay from one to the next; the byte strings whose count
-//! leaves 0 or reaches it go out, once each. Each count is above 0 and below 2^64.
+//! leaves 0 or reaches it go out, once each. Each count is above 0 and below 2^64. To prepare a
+//! change once more before it is made is right: that makes room and changes no count.
 #![tactic(auto)]
 
 mod bag;

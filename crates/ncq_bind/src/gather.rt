@@ -8,7 +8,7 @@ ghost use Rattle.ncq_bind.specs.NormalArms.{open_arms};
 use crate::open_arm::{OpenArm, OpenArms};
 use crate::places::{Operands, add_places};
 use crate::shape::shape_of;
-use ncq_base::{Bytes, Copied};
+use ncq_base::{Bytes, Copied, Shared};
 use ncq_xmlql::{Pattern, QueryItem};
 use std::alloc::{AllocError, Global};
 
@@ -84,7 +84,7 @@ fn gather_arm(
     add_places(alloc, pattern, &mut to.places)?;
     let width = to.places.len() - offset;
     let source = source.copy(alloc)?;
-    let shape = shape_of(alloc, pattern)?;
+    let shape = Shared::new(alloc, shape_of(alloc, pattern)?)?;
     to.arms.push(OpenArm {
         source,
         shape,

@@ -1,5 +1,5 @@
 //! Arms of which nothing is asked yet.
-use ncq_base::{Bytes, Sequence};
+use ncq_base::{Bytes, Sequence, Shared};
 use ncq_row::Shape;
 
 /// An arm by its source, its shape and its slots: those of the whole query from the offset on, as
@@ -7,7 +7,7 @@ use ncq_row::Shape;
 #[derive(Drop)]
 pub struct OpenArm {
     pub source: Bytes,
-    pub shape: Shape,
+    pub shape: Shared<Shape>,
     pub offset: usize,
     pub width: usize,
 }

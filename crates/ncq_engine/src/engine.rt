@@ -53,7 +53,7 @@ use ncq_callback::{Handlers, Kind};
 use ncq_distinct::DistinctTable;
 use ncq_event::{Timing, is_expired};
 use ncq_live::LiveTable;
-use ncq_plan::{NormalQuery, Relation, bare};
+use ncq_plan::{NormalQuery, Relation, bare, share_shapes};
 use ncq_report::{Summary, write_report};
 use ncq_script::{Command, Refusal};
 use ncq_source::{ChangeError, DeclareError, Key, Sections, Store};
@@ -734,7 +734,7 @@ impl Engine {
         &self,
         alloc: Global,
         statement: &Statement,
-        query: NormalQuery,
+        mut query: NormalQuery,
         action: usize,
         timing: Timing,
     ) -> Result<Subscription, AllocError>
@@ -746,6 +746,7 @@ impl Engine {
         let book = self.live_table.book();
         let bare = Shared::new(alloc, bare(alloc, &query)?)?;
         let (choice, bare) = book.choose(&query, bare)?;
+        share_shapes(alloc, &mut query, bare.get())?;
         let sources = asked_by(alloc, statement.query.items.as_slice())?;
         let argument = argument_of(alloc, statement)?;
         Ok(Subscription {

@@ -123,7 +123,7 @@ fn shape_of(shelf: &Shelf, at: u64) -> &Shape
     ensures formed { shape_is_formed result.now ≡ true }
 {
     match shelf.expr(at) {
-        Expr::Scan { shape, .. } => shape,
+        Expr::Scan { shape, .. } => shape.get(),
         _ => unreachable!(),
     }
 }

@@ -47,7 +47,7 @@ pub fn first_rows<L: Ledger>(
 {
     let now = store.changes();
     match expr {
-        Expr::Scan { source, shape } => scan(alloc, source, shape, store, steps),
+        Expr::Scan { source, shape } => scan(alloc, source, shape.get(), store, steps),
         Expr::EqSel { slot, constant, .. } => {
             let number = only(inputs);
             shelf.ensure_index(alloc, number, &[*slot])?;

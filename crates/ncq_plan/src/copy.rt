@@ -8,7 +8,7 @@ impl Copied for Expr {
         match self {
             Expr::Scan { source, shape } => Ok(Expr::Scan {
                 source: source.copy(alloc)?,
-                shape: shape.copy(alloc)?,
+                shape: shape.share()?,
             }),
             Expr::EqSel {
                 input,

@@ -11,7 +11,7 @@ pub enum Expr {
     /// The rows of the shape in each element of the source.
     Scan {
         source: Bytes,
-        shape: Shape,
+        shape: Shared<Shape>,
     },
     /// The rows whose slot has the constant's atom.
     EqSel {

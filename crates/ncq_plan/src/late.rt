@@ -35,7 +35,7 @@ fn arm_scan(alloc: Global, arm: &Arm) -> Result<Expr, AllocError>
 {
     Ok(Expr::Scan {
         source: arm.source.copy(alloc)?,
-        shape: arm.shape.copy(alloc)?,
+        shape: arm.shape.share()?,
     })
 }
 
@@ -60,7 +60,7 @@ fn with_all_equals(alloc: Global, input: Expr, arms: &[Arm]) -> Result<Expr, All
     let mut offset = 0;
     for arm in arms {
         plan = with_equals_behind(alloc, plan, offset, arm)?;
-        offset += ncq_row::width(&arm.shape);
+        offset += ncq_row::width(arm.shape.get());
     }
     Ok(plan)
 }
@@ -75,7 +75,7 @@ fn with_all_ranges(alloc: Global, input: Expr, arms: &[Arm]) -> Result<Expr, All
     let mut offset = 0;
     for arm in arms {
         plan = with_ranges_behind(alloc, plan, offset, arm)?;
-        offset += ncq_row::width(&arm.shape);
+        offset += ncq_row::width(arm.shape.get());
     }
     Ok(plan)
 }

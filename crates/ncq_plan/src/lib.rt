@@ -20,6 +20,7 @@ mod query;
 mod relation;
 mod residual;
 mod same;
+mod sharing;
 mod slots;
 mod template;
 
@@ -38,5 +39,6 @@ pub use query::{Arm, Arms, EqualTo, EqualTos, NormalQuery, Within, Withins};
 pub use relation::{Atoms, Relation, multiple, starts};
 pub use residual::{Check, Checks, Side, Test};
 pub use same::{same_expr, same_pairs};
+pub use sharing::share_shapes;
 pub use slots::width;
 pub use template::{SlotAttribute, SlotAttributes, SlotTemplate, SlotTemplates, SlotText};

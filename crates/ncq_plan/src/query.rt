@@ -1,7 +1,7 @@
 //! Queries in normal form: names are slots, and each condition stands where it can be met first.
 use crate::residual::Checks;
 use crate::template::SlotTemplate;
-use ncq_base::{Atom, Bytes, Copied, Interval, Sequence};
+use ncq_base::{Atom, Bytes, Copied, Interval, Sequence, Shared};
 use ncq_row::{Pairs, Shape};
 use std::alloc::{AllocError, Global};
 
@@ -30,7 +30,7 @@ pub type Withins = Sequence<Within>;
 /// one of the query, the right slot one of the arm. The first arm has none.
 pub struct Arm {
     pub source: Bytes,
-    pub shape: Shape,
+    pub shape: Shared<Shape>,
     pub equals: EqualTos,
     pub ranges: Withins,
     pub pairs: Pairs,
@@ -99,7 +99,7 @@ impl Copied for Arm {
     fn copy(&self, alloc: Global) -> Result<Arm, AllocError> {
         Ok(Arm {
             source: self.source.copy(alloc)?,
-            shape: self.shape.copy(alloc)?,
+            shape: self.shape.share()?,
             equals: self.equals.copy(alloc)?,
             ranges: self.ranges.copy(alloc)?,
             pairs: self.pairs.copy(alloc)?,

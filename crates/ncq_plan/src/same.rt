@@ -16,7 +16,7 @@ pub fn same_expr(a: &Expr, b: &Expr) -> bool
                 source: other_source,
                 shape: other_shape,
             },
-        ) => source == other_source && same_shape(shape, other_shape),
+        ) => source == other_source && same_shape(shape.get(), other_shape.get()),
         (
             Expr::EqSel {
                 input,

@@ -65,7 +65,7 @@ fn push_expr(expr: &Expr, out: &mut Vec<u8>) -> Result<(), AllocError>
     ensures front { StartsWith out.new.items out.old.items }
 {
     match expr {
-        Expr::Scan { source, shape } => push_scan(source, shape, out),
+        Expr::Scan { source, shape } => push_scan(source, shape.get(), out),
         Expr::EqSel {
             input,
             slot,

@@ -98,7 +98,7 @@ fn add_interval(out: &mut Vec<u8>, interval: Interval) -> Result<(), AllocError>
 
 fn add_arm(out: &mut Vec<u8>, arm: &Arm) -> Result<(), AllocError> {
     add_bytes(out, "", &arm.source, ":")?;
-    add_shape(out, &arm.shape)?;
+    add_shape(out, arm.shape.get())?;
     for equal in arm.equals.as_slice() {
         add_slot(out, " ", equal.slot)?;
         add(out, "=")?;

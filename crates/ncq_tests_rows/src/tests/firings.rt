@@ -14,7 +14,7 @@ use super::gathered::are_entries;
 use super::histories::file_of;
 use super::making::value_shape;
 use super::views::{range_of, view_of};
-use ncq_base::{End, Interval, Op, Steps, atom_of, bytes_of};
+use ncq_base::{End, Interval, Op, Shared, Steps, atom_of, bytes_of};
 use ncq_callback::Entries;
 use ncq_midfile::{MidFile, RangeFile, View};
 use ncq_news::news;
@@ -159,7 +159,7 @@ fn arms(alloc: Global) -> Result<Arms, AllocError>
     let mut arms = Arms::new(alloc);
     arms.push(Arm {
         source: bytes_of(alloc, b"s")?,
-        shape: value_shape(alloc, b"E")?,
+        shape: Shared::new(alloc, value_shape(alloc, b"E")?)?,
         equals: EqualTos::new(alloc),
         ranges: Withins::new(alloc),
         pairs: Pairs::new(alloc),

@@ -9,7 +9,7 @@ ghost use Rattle.ncq_plan.specs.WellFormed.{arm_is_formed, IsWellFormed};
 
 use super::making::{shape_with, value_shape};
 use super::signatures::text;
-use ncq_base::{Atom, bytes_of, write_atom};
+use ncq_base::{Atom, Shared, bytes_of, write_atom};
 use ncq_plan::{
     Arm, Arms, Checks, EqualTo, EqualTos, Expr, NormalQuery, Pair, Pairs, SlotTemplate, Withins,
     bare, plan, plan_late,
@@ -31,7 +31,7 @@ fn quotes(alloc: Global, parts: Shapes, suffix: ShapeSuffix) -> Result<Arm, Allo
     let source = bytes_of(alloc, b"quotes")?;
     Ok(Arm {
         source,
-        shape,
+        shape: Shared::new(alloc, shape)?,
         equals: EqualTos::new(alloc),
         ranges: Withins::new(alloc),
         pairs: Pairs::new(alloc),

@@ -107,7 +107,7 @@ fn source_of(letter: u8) -> &'static str {
 /// The scan of this letter.
 fn scan(alloc: Global, letter: u8) -> Result<Shared<Expr>, AllocError> {
     let source = bytes_of(alloc, source_of(letter).as_bytes())?;
-    let shape = shape_of(alloc, letter)?;
+    let shape = Shared::new(alloc, shape_of(alloc, letter)?)?;
     Shared::new(alloc, Expr::Scan { source, shape })
 }
 

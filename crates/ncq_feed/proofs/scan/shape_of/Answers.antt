@@ -1,4 +1,5 @@
-use Rattle.std.proofs.Common.{sym, ◌∙◌}
+use Rattle.std.proofs.Common.{sym, ap, ◌∙◌}
+use Rattle.ncq_plan.specs.declared.expr.Expr.TheVariants.{Scan}
 use Rattle.ncq_feed.proofs.ScanLaws.{scan_formed}
 use Rattle.ncq_feed.proofs.Variants.{scan_parts}
 use Rattle.ncq_feed.proofs.scan.shape_of.Goals as goal
@@ -10,9 +11,10 @@ unreachable-requires c =
 
 pub returns-clause-shape : goal.returns-clause-shape
 returns-clause-shape c source shape s =
-    (scan_parts c.in-Scan.source source c.in-Scan.shape shape (sym c.in-Scan.is ∙ c.expr.ensures s.file s.at ∙ s.of)).1
+    c.get.ensures ∙ (scan_parts c.in-Scan.source source c.in-Scan.shape shape (sym c.in-Scan.is ∙ c.expr.ensures s.file s.at ∙ s.of)).1
 
 pub returns-clause-formed : goal.returns-clause-formed
 returns-clause-formed c =
     let s = c.requires.scan.stands in
-    scan_formed c.in-Scan.source c.in-Scan.shape s.file.expr (sym (c.expr.ensures s.file s.at) ∙ c.in-Scan.is) (c.requires.formed c.args.at s.file s.at)
+    scan_formed c.in-Scan.source c.get.result.now s.file.expr
+    (sym (c.expr.ensures s.file s.at) ∙ c.in-Scan.is ∙ ap (Scan c.in-Scan.source) (sym c.get.ensures)) (c.requires.formed c.args.at s.file s.at)

@@ -1,6 +1,7 @@
-use Rattle.std.proofs.Common.{refl}
+use Rattle.std.proofs.Common.{refl, sym, ap, ◌∙◌}
 use Rattle.std.proofs.lemmas.Result.{IfOk-weaker}
 use Rattle.ncq_plan.specs.Meets.{has_atom}
+use Rattle.ncq_plan.specs.declared.expr.Expr.TheVariants.{Scan}
 use Rattle.ncq_change.specs.Stores.{world_in}
 use Rattle.ncq_delta.specs.Joins.{left_slots, right_slots}
 use Rattle.ncq_fill.proofs.InputFiles.{equal_has_one, join_has_some, equal_selection, joined, asked, told_same, there_same}
@@ -149,19 +150,19 @@ returns-in_ok-index_sides-in-Join-clause-cost g c =
 
 pub returns-in-Scan-clause-counts : goal.returns-in-Scan-clause-counts
 returns-in-Scan-clause-counts g c =
-    IfOk-weaker c.scan.result _ _ (scan_counts c.args.expr.now (world_in c.args.store.now) c.in-Scan.source c.in-Scan.shape c.in-Scan.is) c.scan.ensures.counts
+    IfOk-weaker c.scan.result _ _ (scan_counts c.args.expr.now (world_in c.args.store.now) c.in-Scan.source c.get.result.now (c.in-Scan.is ∙ ap (Scan c.in-Scan.source) (sym c.get.ensures))) c.scan.ensures.counts
 
 pub returns-in-Scan-clause-wide : goal.returns-in-Scan-clause-wide
 returns-in-Scan-clause-wide g c =
-    IfOk-weaker c.scan.result _ _ (λ rows counts. rows_wide (world_in c.args.store.now) c.args.expr.now rows (scan_counts c.args.expr.now (world_in c.args.store.now) c.in-Scan.source c.in-Scan.shape c.in-Scan.is rows counts)) c.scan.ensures.counts
+    IfOk-weaker c.scan.result _ _ (λ rows counts. rows_wide (world_in c.args.store.now) c.args.expr.now rows (scan_counts c.args.expr.now (world_in c.args.store.now) c.in-Scan.source c.get.result.now (c.in-Scan.is ∙ ap (Scan c.in-Scan.source) (sym c.get.ensures)) rows counts)) c.scan.ensures.counts
 
 pub returns-in-Scan-clause-cost : goal.returns-in-Scan-clause-cost
 returns-in-Scan-clause-cost g c =
-    scan_steps c.args.expr.now (world_in c.args.store.now) c.in-Scan.source c.in-Scan.shape c.in-Scan.is c.args.steps.now c.scan.new.steps c.scan.ensures.cost
+    scan_steps c.args.expr.now (world_in c.args.store.now) c.in-Scan.source c.get.result.now (c.in-Scan.is ∙ ap (Scan c.in-Scan.source) (sym c.get.ensures)) c.args.steps.now c.scan.new.steps c.scan.ensures.cost
 
 pub unreachable-requires : goal.unreachable-requires
 unreachable-requires g c =
     c.requires.own (record { inner = c.in-RangeSel.input; slot = c.in-RangeSel.slot; interval = c.in-RangeSel.interval; is = c.in-RangeSel.is })
 
 pub scan-requires : goal.scan-requires
-scan-requires g c = scan_formed c.args.expr.now c.requires.formed c.in-Scan.source c.in-Scan.shape c.in-Scan.is
+scan-requires g c = scan_formed c.args.expr.now c.requires.formed c.in-Scan.source c.get.result.now (c.in-Scan.is ∙ ap (Scan c.in-Scan.source) (sym c.get.ensures))

@@ -1,4 +1,5 @@
-use Rattle.std.proofs.Common.{◌∙◌}
+use Rattle.std.proofs.Common.{◌∙◌, ap}
+use Rattle.ncq_row.specs.Widths.{width}
 use Rattle.ncq_plan.proofs.LateLaws.{fit_next, within_next, ranges_next}
 use Rattle.ncq_plan.proofs.late.with_all_ranges.Goals as goal
 
@@ -11,7 +12,7 @@ loop-arm-preserved c =
     let is = c.arm-item.is in
     let offset = c.loop-arm.offset in
     let slots = c.width-offset.result in
-    let wide = c.width-offset.ensures in
+    let wide = c.width-offset.ensures ∙ ap width c.get.ensures in
     record {
       selected = ranges_next arms at arm here is offset slots wide c.loop-arm.plan c.in_ok-plan.plan c.in_ok-plan.ensures ∙ c.loop-arm.invariant.selected;
       fits = fit_next arms at arm here is offset slots wide c.loop-arm.invariant.fits;
