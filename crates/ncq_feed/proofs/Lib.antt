@@ -10,6 +10,7 @@ pub mod TurnLaws
 pub mod UnreadLaws
 pub mod NameLaws
 pub mod PendingLaws
+pub mod TreeLaws
 pub mod RangeLaws
 pub mod ShareLaws
 pub mod ParcelLaws

@@ -1,45 +1,119 @@
--- A set of numbers, as the list of its keys.
-use Rattle.std.proofs.Common.{◌≡◌, ℕ, ◌<◌, ◌≤◌, ◌+◌, ◌-◌, ◌^◌, Bool, true, false, cond, ◌||◌, nat_eq, List, [], ◌∷◌, ◌++◌, inl, inr, refl, sym, ap, ◌∙◌, subst, arith}
-use Rattle.std.specs.Prelude.{Option, Some, None, IfSome}
-use Rattle.std.specs.List.{All, list_any}
-use Rattle.std.specs.Ordering.{nat_cmp}
-use Rattle.std.specs.declared.cmp.Ordering.TheVariants.{Less}
-use Rattle.std.specs.BTreeSet.{BTreeSet, Updates}
-use Rattle.std.specs.BTreeMap.{is_at}
-use Rattle.std.specs.BTreeMap.Range.{IsLtBy}
-use Rattle.std.specs.Cmp.{unsigned_tied}
-use Rattle.std.proofs.lemmas.Bool.{cases_eq, eq-eqb, ne_eqb, eqb-true}
-use Rattle.std.proofs.lemmas.Cmp.{ranked}
-use Rattle.std.proofs.lemmas.List.Elements.{All-contains}
-use Rattle.std.proofs.lemmas.Map.Views.{Contains-from_any}
+-- Numbers that fall, seen rising.
+use Rattle.std.proofs.Common.{◌≡◌, ℕ, zero, suc, ◌<◌, ◌≤◌, ◌+◌, ◌-◌, ◌^◌, Bool, true, false, ◌||◌, nat_eq, List, [], ◌∷◌, ◌++◌, length, get_or, reverse, refl, sym, ap, ◌∙◌, subst, arith}
+use Rattle.std.specs.Prelude.{Option, Some, None, IfSome, nat_lt}
+use Rattle.std.specs.List.{insert}
+use Rattle.std.specs.List.Sorted.{IsPartitionedBy}
+use Rattle.std.specs.Option.{option_to_list}
+use Rattle.std.proofs.lemmas.Bool.{eq-eqb}
+use Rattle.std.proofs.lemmas.Bool.Decides.{nat_tests}
+use Rattle.std.proofs.lemmas.List.Sorted.{IsPermutation-reverse, list_any-IsPermutation}
+use Rattle.ncq_feed.specs.Falling.{AreFalling}
 use Rattle.ncq_feed.specs.Runs.{is_among}
 
-among_keys : (q : ℕ) (keys : List ℕ) → list_any (is_at (nat_cmp q)) keys ≡ is_among q keys
-among_keys q [] = refl
-among_keys q (k ∷ keys) = λ i. unsigned_tied q k i || among_keys q keys i
+or_true : (b : Bool) → (b || true) ≡ true
+or_true true = refl
+or_true false = refl
 
-same_either_way : (a b : ℕ) → nat_eq a b ≡ nat_eq b a
-same_either_way a b = elim (cases_eq a b) [
-  | inl e ↦ eq-eqb a b e ∙ sym (eq-eqb b a (sym e))
-  | inr n ↦ ne_eqb a b n ∙ sym (ne_eqb b a (λ e. n (sym e)))
-]
+or_swap : (a b c : Bool) → (a || (b || c)) ≡ (b || (a || c))
+or_swap true b c = sym (or_true b)
+or_swap false b c = refl
 
-cond_or : (b c : Bool) → cond b true c ≡ (b || c)
-cond_or true c = refl
-cond_or false c = refl
+same_number : (p q : ℕ) → nat_eq p q ≡ true → p ≡ q
+same_number p q h = grind (arith, nat_tests)
+
+-- the numbers are the same in the other order
+pub among_reverse : (q : ℕ) (xs : List ℕ) → is_among q (reverse xs) ≡ is_among q xs
+among_reverse q xs = sym (list_any-IsPermutation (nat_eq q) xs (reverse xs) (IsPermutation-reverse xs))
+
+-- each of falling numbers is below the bound
+below_bound : (bound : ℕ) (xs : List ℕ) → AreFalling bound xs → (k d : ℕ) → k < length xs → get_or xs k d < bound
+below_bound bound [] falling k d within = absurd (omega arith)
+below_bound bound (x ∷ xs) falling zero d within = falling.0
+below_bound bound (x ∷ xs) falling (suc k) d within = let first = falling.0 in let rest = below_bound x xs falling.1 k d (omega arith) in omega arith
+
+-- none is above one in front of it
+none_higher : (bound : ℕ) (xs : List ℕ) → AreFalling bound xs → (i j d : ℕ) → i ≤ j → j < length xs → get_or xs j d ≤ get_or xs i d
+none_higher bound [] falling i j d before within = absurd (omega arith)
+none_higher bound (x ∷ xs) falling zero zero d before within = omega arith
+none_higher bound (x ∷ xs) falling zero (suc j) d before within = let rest = below_bound x xs falling.1 j d (omega arith) in omega arith
+none_higher bound (x ∷ xs) falling (suc i) zero d before within = absurd (omega arith)
+none_higher bound (x ∷ xs) falling (suc i) (suc j) d before within = none_higher x xs falling.1 i j d (omega arith) (omega arith)
+
+above_test : (number x : ℕ) → number < x → nat_lt number x ≡ true
+above_test number x h = grind (arith, nat_tests)
+
+pub test_above : (number x : ℕ) → nat_lt number x ≡ true → number < x
+test_above number x h = grind (arith, nat_tests)
+
+pub test_within : (number x : ℕ) → nat_lt number x ≡ false → x ≤ number
+test_within number x h = grind (arith, nat_tests)
+
+-- those above a number stand in front
+pub falling_parted : (bound number : ℕ) (xs : List ℕ) → AreFalling bound xs → IsPartitionedBy (λ x. nat_lt number x) xs
+falling_parted bound number xs falling i j d before within is =
+    above_test number (get_or xs i d)
+    (let high = test_above number (get_or xs j d) is in let falls = none_higher bound xs falling i j d before within in omega arith)
+
+-- the number is between those above it and those below it
+pub falling_insert : (bound number at : ℕ) (xs : List ℕ) → AreFalling bound xs → at ≤ length xs → number < bound → ((k : ℕ) → k < at → number < get_or xs k 0)
+    → (at < length xs → get_or xs at 0 < number) → AreFalling bound (insert xs at number)
+falling_insert bound number zero [] f within h above below = (h, tt)
+falling_insert bound number zero (x ∷ xs) f within h above below = (h, (below (omega arith), f.1))
+falling_insert bound number (suc n) [] f within h above below = absurd (omega arith)
+falling_insert bound number (suc n) (x ∷ xs) f within h above below =
+    (f.0, falling_insert x number n xs f.1 (omega arith) (above 0 (omega arith)) (λ k less. above (suc k) (omega arith)) (λ less. below (omega arith)))
+
+among_insert : (q number at : ℕ) (xs : List ℕ) → is_among q (insert xs at number) ≡ (nat_eq q number || is_among q xs)
+among_insert q number zero xs = refl
+among_insert q number (suc n) [] = refl
+among_insert q number (suc n) (x ∷ xs) = ap (λ b. nat_eq q x || b) (among_insert q number n xs) ∙ or_swap (nat_eq q x) (nat_eq q number) (is_among q xs)
 
 -- one number more
-pub noted : (old new : BTreeSet ℕ) (number : ℕ) → Updates nat_cmp old new number true → (other : ℕ) → is_among other new.keys ≡ (nat_eq other number || is_among other old.keys)
-noted old new number updates other =
-    sym (among_keys other new.keys) ∙ updates.0 other
-    ∙ (λ i. cond ((unsigned_tied number other ∙ same_either_way number other) i) true (among_keys other old.keys i))
-    ∙ cond_or (nat_eq other number) (is_among other old.keys)
+pub noted : (q number at : ℕ) (xs : List ℕ) → is_among q (reverse (insert xs at number)) ≡ (nat_eq q number || is_among q (reverse xs))
+noted q number at xs = among_reverse q (insert xs at number) ∙ among_insert q number at xs ∙ ap (λ b. nat_eq q number || b) (sym (among_reverse q xs))
 
-less : (a b : ℕ) → nat_cmp a b ≡ Less → a < b
-less a b e = ranked a b Less (sym e)
+found : (q at : ℕ) (xs : List ℕ) → at < length xs → get_or xs at 0 ≡ q → is_among q xs ≡ true
+found q at [] l e = absurd (omega arith)
+found q zero (x ∷ xs) l e = ap (λ b. b || is_among q xs) (eq-eqb q x (sym e))
+found q (suc n) (x ∷ xs) l e = ap (λ b. nat_eq q x || b) (found q n xs (omega arith) e) ∙ or_true (nat_eq q x)
 
-pub above_least : (number : ℕ) (keys : List ℕ) → All (IsLtBy nat_cmp number) keys → (other : ℕ) → is_among other keys ≡ true → number < other
-above_least number keys all other is = less number other (All-contains (IsLtBy nat_cmp number) keys other all (Contains-from_any {eq = nat_eq} eqb-true other keys is))
+-- a number that is there
+pub noted_before : (q number at : ℕ) (xs : List ℕ) → at < length xs → get_or xs at 0 ≡ number → is_among q (reverse xs) ≡ (nat_eq q number || is_among q (reverse xs))
+noted_before q number at xs l e =
+    elim (nat_eq q number) as (λ b. nat_eq q number ≡ b → is_among q (reverse xs) ≡ (b || is_among q (reverse xs))) [
+      | true ↦ λ t. among_reverse q xs ∙ found q at xs l (e ∙ sym (same_number q number t))
+      | false ↦ λ t. refl
+    ] refl
+
+falling_front : (bound last : ℕ) (xs : List ℕ) → AreFalling bound (xs ++ last ∷ []) → AreFalling bound xs
+falling_front bound last [] f = tt
+falling_front bound last (x ∷ xs) f = (f.0, falling_front x last xs f.1)
+
+last_below : (bound last : ℕ) (xs : List ℕ) → AreFalling bound (xs ++ last ∷ []) → last < bound
+last_below bound last [] f = f.0
+last_below bound last (x ∷ xs) f = let h = f.0 in let r = last_below x last xs f.1 in omega arith
+
+last_least : (bound last : ℕ) (xs : List ℕ) → AreFalling bound (xs ++ last ∷ []) → (q : ℕ) → is_among q xs ≡ true → last < q
+last_least bound last [] f q e = absurd (cc)
+last_least bound last (x ∷ xs) f q e =
+    elim (nat_eq q x) as (λ b. nat_eq q x ≡ b → (b || is_among q xs) ≡ true → last < q) [
+      | true ↦ λ t. λ g. let s = same_number q x t in let r = last_below x last xs f.1 in omega arith
+      | false ↦ λ t. λ g. last_least x last xs f.1 q g
+    ] refl e
+
+no_more : (xs : List ℕ) → xs ++ [] ≡ xs
+no_more [] = refl
+no_more (x ∷ xs) = ap (λ ys. x ∷ ys) (no_more xs)
+
+-- what is left when the last is taken
+pub left_falling : (bound : ℕ) (o : Option ℕ) (old new : List ℕ) → old ≡ new ++ option_to_list o → AreFalling bound old → AreFalling bound new
+left_falling bound None old new e f = subst (AreFalling bound) (e ∙ no_more new) f
+left_falling bound (Some x) old new e f = falling_front bound x new (subst (AreFalling bound) e f)
+
+pub taken_least : (bound : ℕ) (o : Option ℕ) (old new : List ℕ) → old ≡ new ++ option_to_list o → AreFalling bound old
+    → IfSome o (λ number. (other : ℕ) → is_among other (reverse new) ≡ true → number < other)
+taken_least bound None old new e f = tt
+taken_least bound (Some x) old new e f = λ other is. last_least bound x new (subst (AreFalling bound) e f) other (sym (among_reverse other new) ∙ is)
 
 pub among_append : (q : ℕ) (xs ys : List ℕ) → is_among q (xs ++ ys) ≡ (is_among q xs || is_among q ys)
 among_append q [] ys = refl
@@ -72,10 +146,6 @@ noted_rest q number rest all old middle new m n =
     turn true false c = refl
     turn false true c = refl
     turn false false c = refl
-
-pub above_first : (o : Option ℕ) (keys : List ℕ) → IfSome o (λ number. All (IsLtBy nat_cmp number) keys) → IfSome o (λ number. (other : ℕ) → is_among other keys ≡ true → number < other)
-above_first None keys h = tt
-above_first (Some number) keys h = above_least number keys h
 
 -- how far the first number is below 2 ^ 64; where there is none, 0
 abbrev pub room_above : List ℕ → ℕ

@@ -1,6 +1,8 @@
 pub mod Feeds
 pub mod JoinFeeds
 pub mod Passing
+pub mod Falling
+pub mod Pending
 pub mod Runs
 pub mod ScanFeeds
 pub mod Shares

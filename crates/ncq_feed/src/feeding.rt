@@ -7,14 +7,13 @@ ghost use Rattle.ncq_feed.specs.Runs.{Run, IsStarted, IsUnderWay, AreRight, all_
 ghost use Rattle.ncq_feed.specs.Runs.{AreCounted, own_due, groups};
 ghost use Rattle.ncq_shelf.specs.Contents.{sum_over};
 
-use crate::pending::take_first;
+use crate::pending::Pending;
 use crate::scan::feed_scans;
 use crate::turn::take_turn;
 use ncq_base::{Sequence, Steps};
 use ncq_shelf::Shelf;
 use ncq_source::{Change, Store};
 use std::alloc::{AllocError, Global};
-use std::collections::BTreeSet;
 use std::sync::ledger::Ledger;
 
 /// Gives each file the signed rows that the change makes of its expression, under the number of the
@@ -74,9 +73,9 @@ fn pass_on<L: Ledger>(
         → steps.new ≤ steps.old + (own_due run + sum_over run.files (groups run held)) }
 {
     let mut numbers = Sequence::new(alloc);
-    let mut pending = BTreeSet::new(alloc);
+    let mut pending = Pending::new(alloc);
     feed_scans(alloc, shelf, change, store, &mut pending, steps)?;
-    while let Some(at) = take_first(&mut pending) {
+    while let Some(at) = pending.take_first() {
         let got = take_turn(alloc, shelf, at, store.changes(), &mut pending, steps)?;
         if !got {
             continue;

@@ -6,6 +6,7 @@
 #![tactic(auto)]
 
 mod append;
+mod falling;
 mod feeding;
 mod join;
 mod pending;

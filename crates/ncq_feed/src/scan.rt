@@ -12,7 +12,7 @@ ghost use Rattle.ncq_feed.specs.Runs.{own_in, due};
 ghost use Rattle.ncq_feed.specs.ScanFeeds.{AreScansFed, IsScanFed, IsScanWith, numbered};
 
 use crate::append::append_all;
-use crate::pending::note;
+use crate::pending::Pending;
 use ncq_base::{Shared, Steps};
 use ncq_midfile::{SignedRow, SignedRows};
 use ncq_plan::Expr;
@@ -21,7 +21,6 @@ use ncq_row::{Rows, Shape, match_written};
 use ncq_shelf::Shelf;
 use ncq_source::{Change, Entry, Portion, Store};
 use std::alloc::{AllocError, Global};
-use std::collections::BTreeSet;
 use std::sync::ledger::Ledger;
 
 /// Gives the scans of the changed sources their rows of the change, portion by portion. Those that
@@ -31,7 +30,7 @@ pub(crate) fn feed_scans<L: Ledger>(
     shelf: &mut Shelf,
     change: &Change,
     store: &Store,
-    pending: &mut BTreeSet<u64>,
+    pending: &mut Pending,
     steps: &mut Steps<L>,
 ) -> Result<(), AllocError>
     ghost run: { Run }
@@ -39,9 +38,9 @@ pub(crate) fn feed_scans<L: Ledger>(
     requires change { change.now ≡ run.change }
     requires under { IsUnderWay run shelf.old }
     requires still { (number : ℕ) → news_in run.store.changes shelf.old number ≡ [] }
-    requires none { pending.old.keys ≡ [] }
+    requires none { pending.old ≡ [] }
     ensures under { IsUnderWay run shelf.new }
-    ensures passed { OnOk result (ArePassed run 0 pending.new.keys shelf.new) }
+    ensures passed { OnOk result (ArePassed run 0 pending.new shelf.new) }
     ensures cost { steps.new ≤ steps.old + own_due run }
     ensures spent { OnOk result (steps.new ≤ steps.old + own_in run shelf.new) }
 {
@@ -59,7 +58,7 @@ fn feed_portion<L: Ledger>(
     portions: &[Portion],
     at: usize,
     store: &Store,
-    pending: &mut BTreeSet<u64>,
+    pending: &mut Pending,
     steps: &mut Steps<L>,
 ) -> Result<(), AllocError>
     ghost run: { Run }
@@ -67,10 +66,10 @@ fn feed_portion<L: Ledger>(
     requires portions { portions.now ≡ run.change }
     requires at { at < length run.change }
     requires under { IsUnderWay run shelf.old }
-    requires fed { AreScansFed run (take at run.change) [] pending.old.keys shelf.old }
+    requires fed { AreScansFed run (take at run.change) [] pending.old shelf.old }
     ensures under { IsUnderWay run shelf.new }
     ensures fed { OnOk result
-        (AreScansFed run (take (at + 1) run.change) [] pending.new.keys shelf.new) }
+        (AreScansFed run (take (at + 1) run.change) [] pending.new shelf.new) }
     ensures cost { steps.new + own_in run shelf.old ≤ steps.old + own_due run }
     ensures spent { OnOk result
         (steps.new + own_in run shelf.old ≤ steps.old + own_in run shelf.new) }
@@ -92,7 +91,7 @@ fn feed_scan<L: Ledger>(
     at: u64,
     entries: &[Entry],
     now: u64,
-    pending: &mut BTreeSet<u64>,
+    pending: &mut Pending,
     steps: &mut Steps<L>,
 ) -> Result<(), AllocError>
     ghost run: { Run }
@@ -101,7 +100,7 @@ fn feed_scan<L: Ledger>(
     requires scan { IsScanWith run entries.now at }
     requires still { news_in run.store.changes shelf.old at ≡ [] }
     ensures under { IsUnderWay run shelf.new }
-    ensures fed { OnOk result (IsScanFed run at pending.old.keys pending.new.keys
+    ensures fed { OnOk result (IsScanFed run at pending.old pending.new
         shelf.old shelf.new) }
     ensures cost { steps.new ≤ steps.old + due run at }
 {
@@ -110,7 +109,7 @@ fn feed_scan<L: Ledger>(
         return Ok(());
     }
     append_all(shelf, at, rows)?;
-    note(pending, at)?;
+    pending.note(at)?;
     Ok(())
 }
 

@@ -15,14 +15,13 @@ ghost use Rattle.ncq_feed.specs.Turns.{IsPassedDown, IsParcelFor, AreDelivered, 
 
 use crate::append::append;
 use crate::join::feed_join;
-use crate::pending::{note, note_all, note_files};
+use crate::pending::Pending;
 use ncq_base::{Sequence, Steps};
 use ncq_midfile::SignedRow;
 use ncq_readers::HeldRows;
 use ncq_shelf::Shelf;
 use ncq_split::Parcels;
 use std::alloc::{AllocError, Global};
-use std::collections::BTreeSet;
 use std::sync::ledger::Ledger;
 
 /// The turn of a pending file, which is no longer pending: a join gets its rows of the change now,
@@ -33,16 +32,16 @@ pub(crate) fn take_turn<L: Ledger>(
     shelf: &mut Shelf,
     at: u64,
     now: u64,
-    pending: &mut BTreeSet<u64>,
+    pending: &mut Pending,
     steps: &mut Steps<L>,
 ) -> Result<bool, AllocError>
     ghost run: { Run }
     requires now { now ≡ run.store.changes }
     requires under { IsUnderWay run shelf.old }
-    requires passed { ArePassed run at (at ∷ pending.old.keys) shelf.old }
-    requires above { (other : ℕ) → is_among other pending.old.keys ≡ true → at < other }
+    requires passed { ArePassed run at (at ∷ pending.old) shelf.old }
+    requires above { (other : ℕ) → is_among other pending.old ≡ true → at < other }
     ensures under { IsUnderWay run shelf.new }
-    ensures passed { OnOk result (ArePassed run (at + 1) pending.new.keys shelf.new) }
+    ensures passed { OnOk result (ArePassed run (at + 1) pending.new shelf.new) }
     ensures below { OnOk result ((number : ℕ) → number < at → news_in run.store.changes shelf.new
         number ≡ news_in run.store.changes shelf.old number) }
     ensures nothing { IfOk result (λ got. got ≡ false
@@ -87,7 +86,7 @@ fn pass_down<L: Ledger>(
     shelf: &mut Shelf,
     at: u64,
     now: u64,
-    pending: &mut BTreeSet<u64>,
+    pending: &mut Pending,
     steps: &mut Steps<L>,
 ) -> Result<(), AllocError>
     ghost run: { Run }
@@ -95,7 +94,7 @@ fn pass_down<L: Ledger>(
     requires under { IsUnderWay run shelf.old }
     requires there { IsThere run.files at }
     ensures under { IsUnderWay run shelf.new }
-    ensures down { OnOk result (IsPassedDown run at pending.old.keys pending.new.keys
+    ensures down { OnOk result (IsPassedDown run at pending.old pending.new
         shelf.old shelf.new) }
     ensures cost { (bound : ℕ → ℕ)
         → AreBoundBy run.files at (news_in run.store.changes shelf.old at) bound
@@ -111,21 +110,17 @@ fn pass_down<L: Ledger>(
 }
 
 /// Gives each parcel's row to its file, which is pending then.
-fn deliver(
-    shelf: &mut Shelf,
-    parcels: Parcels,
-    pending: &mut BTreeSet<u64>,
-) -> Result<(), AllocError>
+fn deliver(shelf: &mut Shelf, parcels: Parcels, pending: &mut Pending) -> Result<(), AllocError>
     ghost run: { Run }
     requires under { IsUnderWay run shelf.old }
     requires fits { AllByRecursion (IsParcelFor run) parcels }
     ensures under { IsUnderWay run shelf.new }
-    ensures delivered { OnOk result (AreDelivered run parcels pending.old.keys pending.new.keys
+    ensures delivered { OnOk result (AreDelivered run parcels pending.old pending.new
         shelf.old shelf.new) }
 {
     for parcel in parcels.into_vec() {
         append(shelf, parcel.file.0, parcel.row)?;
-        note(pending, parcel.file.0)?;
+        pending.note(parcel.file.0)?;
     }
     Ok(())
 }
@@ -137,7 +132,7 @@ fn deliver_held(
     shelf: &mut Shelf,
     at: u64,
     held: Sequence<HeldRows>,
-    pending: &mut BTreeSet<u64>,
+    pending: &mut Pending,
 ) -> Result<(), AllocError>
     ghost run: { Run }
     requires under { IsUnderWay run shelf.old }
@@ -145,7 +140,7 @@ fn deliver_held(
     requires fits { AllByRecursion (λ h. AllByRecursion (IsHeldFor run at h.slot) h.rows) held }
     ensures under { IsUnderWay run shelf.new }
     ensures shared { OnOk result (AreShared run at (λ slot. held_at slot held)
-        pending.old.keys pending.new.keys shelf.old shelf.new) }
+        pending.old pending.new shelf.old shelf.new) }
 {
     for group in held.into_vec() {
         share_rows(alloc, shelf, at, group, pending)?;
@@ -160,7 +155,7 @@ fn share_rows(
     shelf: &mut Shelf,
     at: u64,
     group: HeldRows,
-    pending: &mut BTreeSet<u64>,
+    pending: &mut Pending,
 ) -> Result<(), AllocError>
     ghost run: { Run }
     requires under { IsUnderWay run shelf.old }
@@ -168,7 +163,7 @@ fn share_rows(
     requires fits { AllByRecursion (IsHeldFor run at group.slot) group.rows }
     ensures under { IsUnderWay run shelf.new }
     ensures shared { OnOk result (AreShared run at (at_slot group.slot group.rows)
-        pending.old.keys pending.new.keys shelf.old shelf.new) }
+        pending.old pending.new shelf.old shelf.new) }
 {
     let slot = group.slot;
     for row in group.rows.into_vec() {
@@ -184,7 +179,7 @@ fn share_row(
     at: u64,
     slot: usize,
     row: SignedRow,
-    pending: &mut BTreeSet<u64>,
+    pending: &mut Pending,
 ) -> Result<(), AllocError>
     ghost run: { Run }
     requires under { IsUnderWay run shelf.old }
@@ -192,10 +187,10 @@ fn share_row(
     requires fits { IsHeldFor run at slot row }
     ensures under { IsUnderWay run shelf.new }
     ensures shared { OnOk result (AreShared run at (at_slot slot (row ∷ []))
-        pending.old.keys pending.new.keys shelf.old shelf.new) }
+        pending.old pending.new shelf.old shelf.new) }
 {
     let takers = shelf.append_held(alloc, at, slot, row)?;
-    note_files(pending, takers)?;
+    pending.note_files(takers)?;
     Ok(())
 }
 
@@ -205,15 +200,15 @@ fn tell_joins(
     shelf: &Shelf,
     at: u64,
     now: u64,
-    pending: &mut BTreeSet<u64>,
+    pending: &mut Pending,
 ) -> Result<(), AllocError>
     ghost run: { Run }
     requires now { now ≡ run.store.changes }
     requires under { IsUnderWay run shelf.now }
     requires there { IsThere run.files at }
-    ensures { OnOk result (AreTold run at shelf.now pending.old.keys pending.new.keys) }
+    ensures { OnOk result (AreTold run at shelf.now pending.old pending.new) }
 {
     let joins = shelf.joins_met(alloc, at, now)?;
-    note_all(pending, joins.as_slice())?;
+    pending.note_all(joins.as_slice())?;
     Ok(())
 }

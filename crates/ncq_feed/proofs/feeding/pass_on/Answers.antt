@@ -19,7 +19,7 @@ feed_scans-requires g c κs within =
           c.requires.1.1.0,
           (
             subst (IsUnderWay g.run) here (at_start g.run c.requires.1.1.1.1),
-            (λ number. ap (λ files. news_in g.run.store.changes files number) c.requires.1.1.1.0 ∙ still g.run c.requires.1.1.1.1 number, c.new-pending.ensures.empty),
+            (λ number. ap (λ files. news_in g.run.store.changes files number) c.requires.1.1.1.0 ∙ still g.run c.requires.1.1.1.1 number, c.new-pending.ensures),
           ),
         ),
       ),
@@ -33,7 +33,7 @@ take_turn-requires g c κs within =
         c.changes.ensures ∙ ap (λ (s : StoreState). s.changes) c.requires.1.0,
         (
           inv.under,
-          (next_turn g.run c.loop-at.shelf inv.under inv.next c.in-Some.at c.loop-at.pending.keys c.take_first.new.pending.keys inv.passed c.in-Some.ensures.some c.in-Some.ensures.above, c.in-Some.ensures.above),
+          (next_turn g.run c.loop-at.shelf inv.under inv.next c.in-Some.at c.loop-at.pending c.take_first.new.self inv.passed c.in-Some.ensures.some c.in-Some.ensures.above, c.in-Some.ensures.above),
         ),
       ),
     )
@@ -57,10 +57,10 @@ loop-at-preserved g c =
       spent = (let before = inv.spent in let step = turn.spent in omega arith);
       next = c.in-Some.at + 1;
       shared = λ held counted.
-          turn_shared g.run c.loop-at.shelf inv.under inv.next c.in-Some.at c.loop-at.pending.keys c.take_first.new.pending.keys inv.passed c.in-Some.ensures.some held c.args.steps.now c.loop-at.steps c.take_turn.new.steps
+          turn_shared g.run c.loop-at.shelf inv.under inv.next c.in-Some.at c.loop-at.pending c.take_first.new.self inv.passed c.in-Some.ensures.some held c.args.steps.now c.loop-at.steps c.take_turn.new.steps
           (inv.shared held counted) (own_in g.run c.take_turn.new.shelf) (turn.split held counted);
       passed = turn.passed;
-      named = named_more g.run c.loop-at.shelf inv.under inv.next c.in-Some.at c.loop-at.pending.keys c.take_first.new.pending.keys c.loop-at.numbers inv.passed c.in-Some.ensures.some c.in-Some.ensures.above inv.named c.take_turn.new.shelf turn.below
+      named = named_more g.run c.loop-at.shelf inv.under inv.next c.in-Some.at c.loop-at.pending c.take_first.new.self c.loop-at.numbers inv.passed c.in-Some.ensures.some c.in-Some.ensures.above inv.named c.take_turn.new.shelf turn.below
           c.push.new.self c.in_ok-push.ensures.ok;
     }
 
@@ -73,30 +73,30 @@ loop-at-preserved-then-not-got g c =
       spent = (let before = inv.spent in let step = turn.spent in omega arith);
       next = c.in-Some.at + 1;
       shared = λ held counted.
-          turn_shared g.run c.loop-at.shelf inv.under inv.next c.in-Some.at c.loop-at.pending.keys c.take_first.new.pending.keys inv.passed c.in-Some.ensures.some held c.args.steps.now c.loop-at.steps c.take_turn.new.steps
+          turn_shared g.run c.loop-at.shelf inv.under inv.next c.in-Some.at c.loop-at.pending c.take_first.new.self inv.passed c.in-Some.ensures.some held c.args.steps.now c.loop-at.steps c.take_turn.new.steps
           (inv.shared held counted) (own_in g.run c.take_turn.new.shelf) (turn.split held counted);
       passed = turn.passed;
-      named = named_idle g.run c.loop-at.shelf inv.under inv.next c.in-Some.at c.loop-at.pending.keys c.take_first.new.pending.keys c.loop-at.numbers inv.passed c.in-Some.ensures.some c.in-Some.ensures.above inv.named c.take_turn.new.shelf turn.below
+      named = named_idle g.run c.loop-at.shelf inv.under inv.next c.in-Some.at c.loop-at.pending c.take_first.new.self c.loop-at.numbers inv.passed c.in-Some.ensures.some c.in-Some.ensures.above inv.named c.take_turn.new.shelf turn.below
           (turn.nothing c.if-not-got.true);
     }
 
 pub loop-at-smaller : goal.loop-at-smaller
 loop-at-smaller g c =
-    room_falls c.in-Some.at c.loop-at.pending.keys c.take_first.new.pending.keys c.take_turn.new.pending.keys c.in-Some.ensures.some c.in-Some.ensures.small c.in_ok-got.ensures.passed.passed.ahead
+    room_falls c.in-Some.at c.loop-at.pending c.take_first.new.self c.take_turn.new.pending c.in-Some.ensures.some c.in-Some.ensures.small c.in_ok-got.ensures.passed.passed.ahead
 
 pub loop-at-smaller-then-not-got : goal.loop-at-smaller-then-not-got
 loop-at-smaller-then-not-got g c =
-    room_falls c.in-Some.at c.loop-at.pending.keys c.take_first.new.pending.keys c.take_turn.new.pending.keys c.in-Some.ensures.some c.in-Some.ensures.small c.in_ok-got.ensures.passed.passed.ahead
+    room_falls c.in-Some.at c.loop-at.pending c.take_first.new.self c.take_turn.new.pending c.in-Some.ensures.some c.in-Some.ensures.small c.in_ok-got.ensures.passed.passed.ahead
 
 pub returns-clause-right : goal.returns-clause-right
 returns-clause-right g c =
     let inv = c.loop-at.invariant in
-    all_right g.run c.loop-at.shelf inv.under inv.next c.loop-at.pending.keys inv.passed c.in_default.ensures.none
+    all_right g.run c.loop-at.shelf inv.under inv.next c.loop-at.pending inv.passed c.in_default.ensures.none
 
 pub returns-clause-named : goal.returns-clause-named
 returns-clause-named g c =
     let inv = c.loop-at.invariant in
-    all_named g.run c.loop-at.shelf inv.next c.loop-at.pending.keys c.loop-at.numbers inv.passed c.in_default.ensures.none inv.named
+    all_named g.run c.loop-at.shelf inv.next c.loop-at.pending c.loop-at.numbers inv.passed c.in_default.ensures.none inv.named
 
 pub returns-in_err-push-clause-cost : goal.returns-in_err-push-clause-cost
 returns-in_err-push-clause-cost g c =
@@ -107,7 +107,7 @@ returns-in_err-push-clause-cost g c =
 pub returns-clause-cost : goal.returns-clause-cost
 returns-clause-cost g c =
     let inv = c.loop-at.invariant in
-    let within = all_within g.run c.loop-at.shelf inv.under inv.next c.loop-at.pending.keys inv.passed in
+    let within = all_within g.run c.loop-at.shelf inv.under inv.next c.loop-at.pending inv.passed in
     omega arith
 
 pub returns-in_err-feed_scans-clause-cost : goal.returns-in_err-feed_scans-clause-cost
@@ -119,19 +119,19 @@ returns-in_err-feed_scans-clause-shared g c = λ held counted. let cost = c.feed
 pub returns-in_err-got-clause-shared : goal.returns-in_err-got-clause-shared
 returns-in_err-got-clause-shared g c = λ held counted.
     let inv = c.loop-at.invariant in
-    turn_refused g.run c.loop-at.shelf inv.under inv.next c.in-Some.at c.loop-at.pending.keys c.take_first.new.pending.keys inv.passed c.in-Some.ensures.some held c.args.steps.now c.loop-at.steps c.take_turn.new.steps
+    turn_refused g.run c.loop-at.shelf inv.under inv.next c.in-Some.at c.loop-at.pending c.take_first.new.self inv.passed c.in-Some.ensures.some held c.args.steps.now c.loop-at.steps c.take_turn.new.steps
     (inv.shared held counted) (c.take_turn.ensures.shared held counted)
 
 pub returns-in_err-push-clause-shared : goal.returns-in_err-push-clause-shared
 returns-in_err-push-clause-shared g c = λ held counted.
     let inv = c.loop-at.invariant in
-    turn_refused g.run c.loop-at.shelf inv.under inv.next c.in-Some.at c.loop-at.pending.keys c.take_first.new.pending.keys inv.passed c.in-Some.ensures.some held c.args.steps.now c.loop-at.steps c.take_turn.new.steps
+    turn_refused g.run c.loop-at.shelf inv.under inv.next c.in-Some.at c.loop-at.pending c.take_first.new.self inv.passed c.in-Some.ensures.some held c.args.steps.now c.loop-at.steps c.take_turn.new.steps
     (inv.shared held counted) (c.take_turn.ensures.shared held counted)
 
 pub returns-clause-shared : goal.returns-clause-shared
 returns-clause-shared g c = λ held counted.
     let inv = c.loop-at.invariant in
     let shared = inv.shared held counted in
-    let few = own_within g.run c.loop-at.shelf inv.under inv.next c.loop-at.pending.keys inv.passed in
+    let few = own_within g.run c.loop-at.shelf inv.under inv.next c.loop-at.pending inv.passed in
     let below = below_all g.run held inv.next in
     omega arith

@@ -16,9 +16,9 @@ invariant-loop-at g l = record {
   spent : l.steps ≤ l.fn.steps + all_in g.run l.shelf;
   next : ℕ;
   shared : (held : ℕ → ℕ → ℕ) → AreCounted g.run held → l.steps ≤ l.fn.steps + (own_in g.run l.shelf + held_below g.run held next);
-  passed : ArePassed g.run next l.pending.keys l.shelf;
+  passed : ArePassed g.run next l.pending l.shelf;
   named : AreNamed g.run next l.numbers l.shelf;
 }
 
 abbrev pub decreases-loop-at : goal.decreases-loop-at
-decreases-loop-at g l = room_above l.pending.keys
+decreases-loop-at g l = room_above l.pending

@@ -19,7 +19,7 @@ name_of-requires g c =
 
 pub returns-in_err-scans-clause-cost : goal.returns-in_err-scans-clause-cost
 returns-in_err-scans-clause-cost g c =
-    let within = scans_within g.run c.args.shelf.now c.requires.1.1.1.1.0 (take c.args.at g.run.change) [] c.args.pending.now.keys c.requires.1.1.1.1.1 (λ number is. absurd (true≢false (sym is))) in
+    let within = scans_within g.run c.args.shelf.now c.requires.1.1.1.1.0 (take c.args.at g.run.change) [] c.args.pending.now c.requires.1.1.1.1.1 (λ number is. absurd (true≢false (sym is))) in
     omega arith
 
 pub loop-scan-init : goal.loop-scan-init
@@ -41,9 +41,9 @@ loop-scan-init g c =
       asked = asked_now g.run under.start at portion here;
       same = c.as_slice-entries.ensures ∙ portion_same g.run under.start at portion here;
       left = subst (λ left. AreLeft g.run name left c.args.shelf.now) (sym items)
-          (portion_left g.run under.start at portion here c.args.shelf.now under c.args.pending.now.keys fed numbers are c.in_ok-scans.ensures.once);
-      fed = subst (λ left. AreScansFed g.run (take (at + 1) g.run.change) left c.args.pending.now.keys c.args.shelf.now) (sym items)
-          (portion_begins g.run under.start at portion here c.args.shelf.now under c.args.pending.now.keys fed numbers are);
+          (portion_left g.run under.start at portion here c.args.shelf.now under c.args.pending.now fed numbers are c.in_ok-scans.ensures.once);
+      fed = subst (λ left. AreScansFed g.run (take (at + 1) g.run.change) left c.args.pending.now c.args.shelf.now) (sym items)
+          (portion_begins g.run under.start at portion here c.args.shelf.now under c.args.pending.now fed numbers are);
     }
 
 pub feed_scan-requires : goal.feed_scan-requires
@@ -72,16 +72,16 @@ loop-scan-preserved g c =
     let rest = into_iter_items c.next.new.self in
     let split = c.in-Some.ensures.steps.0 in
     let left = subst (λ left. AreLeft g.run inv.name left c.loop-scan.shelf) split inv.left in
-    let fed = subst (λ left. AreScansFed g.run portions left c.loop-scan.pending.keys c.loop-scan.shelf) split inv.fed in
+    let fed = subst (λ left. AreScansFed g.run portions left c.loop-scan.pending c.loop-scan.shelf) split inv.fed in
     record {
       under = c.feed_scan.ensures.under;
       spent = scan_spent g.run c.loop-scan.shelf inv.under inv.name c.in-Some.scan rest left c.args.steps.now (own_in g.run c.args.shelf.now) c.loop-scan.steps c.feed_scan.new.steps inv.spent c.feed_scan.ensures.cost
-          c.loop-scan.pending.keys c.feed_scan.new.pending.keys c.feed_scan.new.shelf one;
+          c.loop-scan.pending c.feed_scan.new.pending c.feed_scan.new.shelf one;
       name = inv.name;
       asked = inv.asked;
       same = inv.same;
-      left = left_less g.run inv.name c.in-Some.scan rest c.loop-scan.shelf left c.loop-scan.pending.keys c.feed_scan.new.pending.keys c.feed_scan.new.shelf one;
-      fed = scans_more g.run inv.name c.in-Some.scan rest c.loop-scan.shelf left c.loop-scan.pending.keys c.feed_scan.new.pending.keys c.feed_scan.new.shelf one portions inv.asked fed;
+      left = left_less g.run inv.name c.in-Some.scan rest c.loop-scan.shelf left c.loop-scan.pending c.feed_scan.new.pending c.feed_scan.new.shelf one;
+      fed = scans_more g.run inv.name c.in-Some.scan rest c.loop-scan.shelf left c.loop-scan.pending c.feed_scan.new.pending c.feed_scan.new.shelf one portions inv.asked fed;
     }
 
 pub returns-in_err-feed_scan-clause-cost : goal.returns-in_err-feed_scan-clause-cost
@@ -91,17 +91,17 @@ returns-in_err-feed_scan-clause-cost g c =
     let rest = into_iter_items c.next.new.self in
     let split = c.in-Some.ensures.steps.0 in
     let left = subst (λ left. AreLeft g.run inv.name left c.loop-scan.shelf) split inv.left in
-    let fed = subst (λ left. AreScansFed g.run portions left c.loop-scan.pending.keys c.loop-scan.shelf) split inv.fed in
-    scan_cost g.run c.loop-scan.shelf inv.under inv.name c.in-Some.scan rest left c.args.steps.now (own_in g.run c.args.shelf.now) c.loop-scan.steps c.feed_scan.new.steps inv.spent c.feed_scan.ensures.cost portions c.loop-scan.pending.keys fed
+    let fed = subst (λ left. AreScansFed g.run portions left c.loop-scan.pending c.loop-scan.shelf) split inv.fed in
+    scan_cost g.run c.loop-scan.shelf inv.under inv.name c.in-Some.scan rest left c.args.steps.now (own_in g.run c.args.shelf.now) c.loop-scan.steps c.feed_scan.new.steps inv.spent c.feed_scan.ensures.cost portions c.loop-scan.pending fed
 
 pub returns-clause-fed : goal.returns-clause-fed
 returns-clause-fed g c =
     let none : length (into_iter_items c.loop-scan.scan-iterator) ≡ 0 = grind (arith, common_steps) in
-    subst (λ left. AreScansFed g.run (take (c.args.at + 1) g.run.change) left c.loop-scan.pending.keys c.loop-scan.shelf) (no_rows (into_iter_items c.loop-scan.scan-iterator) none) c.loop-scan.invariant.fed
+    subst (λ left. AreScansFed g.run (take (c.args.at + 1) g.run.change) left c.loop-scan.pending c.loop-scan.shelf) (no_rows (into_iter_items c.loop-scan.scan-iterator) none) c.loop-scan.invariant.fed
 
 pub returns-clause-cost : goal.returns-clause-cost
 returns-clause-cost g c =
     let inv = c.loop-scan.invariant in
-    let within = scans_within g.run c.loop-scan.shelf inv.under (take (c.args.at + 1) g.run.change) (into_iter_items c.loop-scan.scan-iterator) c.loop-scan.pending.keys inv.fed inv.left.still in
+    let within = scans_within g.run c.loop-scan.shelf inv.under (take (c.args.at + 1) g.run.change) (into_iter_items c.loop-scan.scan-iterator) c.loop-scan.pending inv.fed inv.left.still in
     let spent = inv.spent in
     omega arith

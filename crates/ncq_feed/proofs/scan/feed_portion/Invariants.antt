@@ -16,5 +16,5 @@ invariant-loop-scan g l = record {
   asked : is_asked g.run.store (take (l.fn.at + 1) g.run.change) name ≡ true;
   same : l.entries ≡ entries_in g.run.store g.run.change name;
   left : AreLeft g.run name (into_iter_items l.scan-iterator) l.shelf;
-  fed : AreScansFed g.run (take (l.fn.at + 1) g.run.change) (into_iter_items l.scan-iterator) l.pending.keys l.shelf;
+  fed : AreScansFed g.run (take (l.fn.at + 1) g.run.change) (into_iter_items l.scan-iterator) l.pending l.shelf;
 }

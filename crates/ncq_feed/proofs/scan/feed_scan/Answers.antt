@@ -19,7 +19,7 @@ returns-then-len-eq0-clause-fed g c =
     let scan = with.scan in
     let e : c.in_ok-rows.rows ≡ wanted g.run with.name scan.shape =
     wanted_is g.run c.args.shelf.now c.requires.1.1.0 c.args.at with.name scan c.args.now c.requires.1.0 c.args.entries.now with.same c.shape_of.result.now c.shape_of.ensures.shape c.in_ok-rows.rows c.in_ok-rows.ensures.rows in
-    scan_none g.run c.args.at with.name scan c.args.pending.now.keys c.args.shelf.now c.requires.1.1.1.1 (sym e ∙ no_rows c.in_ok-rows.rows (sym c.len.ensures ∙ c.if-len-eq0.true))
+    scan_none g.run c.args.at with.name scan c.args.pending.now c.args.shelf.now c.requires.1.1.1.1 (sym e ∙ no_rows c.in_ok-rows.rows (sym c.len.ensures ∙ c.if-len-eq0.true))
 
 pub append_all-requires : goal.append_all-requires
 append_all-requires g c =
@@ -35,7 +35,7 @@ returns-clause-fed g c =
     let scan = with.scan in
     let e : c.in_ok-rows.rows ≡ wanted g.run with.name scan.shape =
     wanted_is g.run c.args.shelf.now c.requires.1.1.0 c.args.at with.name scan c.args.now c.requires.1.0 c.args.entries.now with.same c.shape_of.result.now c.shape_of.ensures.shape c.in_ok-rows.rows c.in_ok-rows.ensures.rows in
-    scan_given g.run c.args.at with.name scan c.args.pending.now.keys c.args.shelf.now c.requires.1.1.1.1 c.append_all.new.shelf c.note.new.pending.keys
+    scan_given g.run c.args.at with.name scan c.args.pending.now c.args.shelf.now c.requires.1.1.1.1 c.append_all.new.shelf c.note.new.self
     (subst (λ (rows : List SignedRow). IsGiven g.run c.args.at rows c.args.shelf.now c.append_all.new.shelf) e c.in_ok-append_all.ensures.given) c.in_ok-note.ensures
 
 pub returns-in_err-rows-clause-cost : goal.returns-in_err-rows-clause-cost

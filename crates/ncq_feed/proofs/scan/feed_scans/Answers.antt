@@ -9,7 +9,7 @@ pub loop-at-init : goal.loop-at-init
 loop-at-init g c = record {
   under = c.requires.1.1.1.0;
   spent = omega arith;
-  fed = scans_start g.run c.args.shelf.now c.args.pending.now.keys c.requires.1.1.1.1.0 c.requires.1.1.1.1.1;
+  fed = scans_start g.run c.args.shelf.now c.args.pending.now c.requires.1.1.1.1.0 c.requires.1.1.1.1.1;
 }
 
 pub feed_portion-requires : goal.feed_portion-requires
@@ -30,8 +30,8 @@ pub returns-clause-passed : goal.returns-clause-passed
 returns-clause-passed g c =
     let count = ap length (c.portions-portions.ensures.portions ∙ c.requires.1.1.0) in
     let all : c.loop-at.at ≡ length g.run.change = omega arith in
-    scans_end g.run c.loop-at.pending.keys c.loop-at.shelf
-    (subst (λ (portions : List Portion). AreScansFed g.run portions [] c.loop-at.pending.keys c.loop-at.shelf) (ap (λ n. take n g.run.change) all ∙ take-length g.run.change) c.loop-at.invariant.fed)
+    scans_end g.run c.loop-at.pending c.loop-at.shelf
+    (subst (λ (portions : List Portion). AreScansFed g.run portions [] c.loop-at.pending c.loop-at.shelf) (ap (λ n. take n g.run.change) all ∙ take-length g.run.change) c.loop-at.invariant.fed)
 
 pub returns-in_err-feed_portion-clause-cost : goal.returns-in_err-feed_portion-clause-cost
 returns-in_err-feed_portion-clause-cost g c =
@@ -42,6 +42,6 @@ returns-in_err-feed_portion-clause-cost g c =
 pub returns-clause-cost : goal.returns-clause-cost
 returns-clause-cost g c =
     let inv = c.loop-at.invariant in
-    let within = scans_within g.run c.loop-at.shelf inv.under (take c.loop-at.at g.run.change) [] c.loop-at.pending.keys inv.fed (λ number is. absurd (true≢false (sym is))) in
+    let within = scans_within g.run c.loop-at.shelf inv.under (take c.loop-at.at g.run.change) [] c.loop-at.pending inv.fed (λ number is. absurd (true≢false (sym is))) in
     let spent = inv.spent in
     omega arith

@@ -10,5 +10,5 @@ abbrev pub invariant-loop-at : goal.invariant-loop-at
 invariant-loop-at g l = record {
   under : IsUnderWay g.run l.shelf;
   spent : l.steps ≤ l.fn.steps + own_in g.run l.shelf;
-  fed : AreScansFed g.run (take l.at g.run.change) [] l.pending.keys l.shelf;
+  fed : AreScansFed g.run (take l.at g.run.change) [] l.pending l.shelf;
 }

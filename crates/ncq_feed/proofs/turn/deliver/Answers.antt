@@ -23,6 +23,6 @@ loop-parcel-preserved g c =
       left = (subst (AllByRecursion (IsParcelFor g.run)) e c.loop-parcel.invariant.left).1;
       rows = λ number. delivered_more g.run number c.in-Some.parcel (into_iter_items c.next.new.self) c.loop-parcel.shelf c.append.new.shelf _
           (ap (λ xs. news_in g.run.store.changes c.loop-parcel.shelf number ++ rows_to number xs) (sym e) ∙ c.loop-parcel.invariant.rows number) given;
-      noted = λ number. noted_rest number c.in-Some.parcel.file.0 (files_of (into_iter_items c.next.new.self)) (files_of c.args.parcels) c.args.pending.now.keys c.loop-parcel.pending.keys c.note.new.pending.keys
-          (ap (λ xs. is_among number (files_of xs) || is_among number c.loop-parcel.pending.keys) (sym e) ∙ c.loop-parcel.invariant.noted number) (c.in_ok-note.ensures number);
+      noted = λ number. noted_rest number c.in-Some.parcel.file.0 (files_of (into_iter_items c.next.new.self)) (files_of c.args.parcels) c.args.pending.now c.loop-parcel.pending c.note.new.self
+          (ap (λ xs. is_among number (files_of xs) || is_among number c.loop-parcel.pending) (sym e) ∙ c.loop-parcel.invariant.noted number) (c.in_ok-note.ensures number);
     }

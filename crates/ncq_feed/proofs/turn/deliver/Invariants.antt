@@ -14,5 +14,5 @@ invariant-loop-parcel g l = record {
   under : IsUnderWay g.run l.shelf;
   left : AllByRecursion (IsParcelFor g.run) (into_iter_items l.parcel-iterator);
   rows : (number : ℕ) → news_in g.run.store.changes l.shelf number ++ rows_to number (into_iter_items l.parcel-iterator) ≡ news_in g.run.store.changes l.initial.shelf number ++ rows_to number l.fn.parcels;
-  noted : (number : ℕ) → (is_among number (files_of (into_iter_items l.parcel-iterator)) || is_among number l.pending.keys) ≡ (is_among number (files_of l.fn.parcels) || is_among number l.initial.pending.keys);
+  noted : (number : ℕ) → (is_among number (files_of (into_iter_items l.parcel-iterator)) || is_among number l.pending) ≡ (is_among number (files_of l.fn.parcels) || is_among number l.initial.pending);
 }

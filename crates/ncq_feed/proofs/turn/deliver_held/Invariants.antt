@@ -14,6 +14,6 @@ abbrev pub invariant-loop-group : goal.invariant-loop-group
 invariant-loop-group g l = record {
   under : IsUnderWay g.run l.shelf;
   left : AllByRecursion (λ h. AllByRecursion (IsHeldFor g.run l.at h.slot) h.rows) (into_iter_items l.group-iterator);
-  shared : (keys : List ℕ) (files : Files) → AreShared g.run l.at (λ slot. held_at slot (into_iter_items l.group-iterator)) l.pending.keys keys l.shelf files
-      → AreShared g.run l.at (λ slot. held_at slot l.fn.held) l.initial.pending.keys keys l.initial.shelf files;
+  shared : (keys : List ℕ) (files : Files) → AreShared g.run l.at (λ slot. held_at slot (into_iter_items l.group-iterator)) l.pending keys l.shelf files
+      → AreShared g.run l.at (λ slot. held_at slot l.fn.held) l.initial.pending keys l.initial.shelf files;
 }

@@ -59,7 +59,7 @@ returns-clause-down g c =
     let back : (c.args.now + 1) - 1 ≡ g.run.store.changes = let now = c.requires.1.0 in omega arith in
     let passed = subst (λ n. (file : KeptFile) → get files c.args.at ≡ Some file → ArePassedOn files c.args.at (since n file.content.rows) parcels) back c.in_ok-parcels.ensures.parcels in
     let are = subst (λ n. (file : KeptFile) → get files c.args.at ≡ Some file → AreHeldOf files c.args.at (since n file.content.rows) held) back c.in_ok-held.ensures.held in
-    passed_down g.run files c.requires.1.1.0 c.args.at c.requires.1.1.1 parcels passed held are c.args.pending.now.keys c.deliver.new.pending.keys c.deliver_held.new.pending.keys c.deliver.new.shelf c.deliver_held.new.shelf
+    passed_down g.run files c.requires.1.1.0 c.args.at c.requires.1.1.1 parcels passed held are c.args.pending.now c.deliver.new.pending c.deliver_held.new.pending c.deliver.new.shelf c.deliver_held.new.shelf
     c.in_ok-deliver.ensures.delivered c.in_ok-deliver_held.ensures.shared
 
 pub returns-in_err-held-clause-cost : goal.returns-in_err-held-clause-cost

@@ -22,7 +22,7 @@ returns-clause-under g c = shared_under g.run c.args.shelf.now c.requires.0 c.ar
 pub returns-clause-shared : goal.returns-clause-shared
 returns-clause-shared g c =
     one_shared g.run c.args.shelf.now c.requires.0 c.args.at c.args.slot c.args.row c.requires.1.1 c.append_held.new.self c.in_ok-takers.ensures.ok
-    (map (λ (file : FileId). file.0) c.in_ok-takers.takers) c.args.pending.now.keys c.note_files.new.pending.keys c.in_ok-takers.ensures.told c.in_ok-note_files.ensures
+    (map (λ (file : FileId). file.0) c.in_ok-takers.takers) c.args.pending.now c.note_files.new.self c.in_ok-takers.ensures.told c.in_ok-note_files.ensures
 
 pub returns-in_err-note_files-clause-under : goal.returns-in_err-note_files-clause-under
 returns-in_err-note_files-clause-under g c = shared_under g.run c.args.shelf.now c.requires.0 c.args.at c.args.slot c.args.row c.requires.1.1 c.append_held.new.self c.in_ok-takers.ensures.ok

@@ -19,15 +19,15 @@ loop-row-preserved g c =
       under = c.share_row.ensures.under;
       left = (subst (AllByRecursion (IsHeldFor g.run c.args.at c.args.group.slot)) e c.loop-row.invariant.left).1;
       shared = λ keys files rest. c.loop-row.invariant.shared keys files
-          (subst (λ rows. AreShared g.run c.args.at (at_slot c.args.group.slot rows) c.loop-row.pending.keys keys c.loop-row.shelf files) (sym e)
+          (subst (λ rows. AreShared g.run c.args.at (at_slot c.args.group.slot rows) c.loop-row.pending keys c.loop-row.shelf files) (sym e)
           (more_shared g.run c.args.at (at_slot c.args.group.slot (c.in-Some.row ∷ [])) (at_slot c.args.group.slot (into_iter_items c.next.new.self)) (at_slot c.args.group.slot (c.in-Some.row ∷ into_iter_items c.next.new.self))
-          (slot_more g.run c.args.at c.args.group.slot c.in-Some.row (into_iter_items c.next.new.self)) c.loop-row.pending.keys c.share_row.new.pending.keys keys c.loop-row.shelf c.share_row.new.shelf files c.in_ok-share_row.ensures.shared rest));
+          (slot_more g.run c.args.at c.args.group.slot c.in-Some.row (into_iter_items c.next.new.self)) c.loop-row.pending c.share_row.new.pending keys c.loop-row.shelf c.share_row.new.shelf files c.in_ok-share_row.ensures.shared rest));
     }
 
 pub returns-clause-shared : goal.returns-clause-shared
 returns-clause-shared g c =
     let none : length (into_iter_items c.loop-row.row-iterator) ≡ 0 = grind (arith, common_steps) in
     let e : into_iter_items c.loop-row.row-iterator ≡ [] = no_rows (into_iter_items c.loop-row.row-iterator) none in
-    c.loop-row.invariant.shared c.loop-row.pending.keys c.loop-row.shelf
-    (none_shared g.run c.args.at c.loop-row.pending.keys c.loop-row.shelf (at_slot c.args.group.slot (into_iter_items c.loop-row.row-iterator))
+    c.loop-row.invariant.shared c.loop-row.pending c.loop-row.shelf
+    (none_shared g.run c.args.at c.loop-row.pending c.loop-row.shelf (at_slot c.args.group.slot (into_iter_items c.loop-row.row-iterator))
     (λ slot. ap (λ rows. at_slot c.args.group.slot rows slot) e ∙ slot_none g.run c.args.at c.args.group.slot slot))

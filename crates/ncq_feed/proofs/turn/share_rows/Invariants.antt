@@ -13,6 +13,6 @@ abbrev pub invariant-loop-row : goal.invariant-loop-row
 invariant-loop-row g l = record {
   under : IsUnderWay g.run l.shelf;
   left : AllByRecursion (IsHeldFor g.run l.at l.slot) (into_iter_items l.row-iterator);
-  shared : (keys : List ℕ) (files : Files) → AreShared g.run l.at (at_slot l.slot (into_iter_items l.row-iterator)) l.pending.keys keys l.shelf files
-      → AreShared g.run l.at (at_slot l.fn.group.slot l.fn.group.rows) l.initial.pending.keys keys l.initial.shelf files;
+  shared : (keys : List ℕ) (files : Files) → AreShared g.run l.at (at_slot l.slot (into_iter_items l.row-iterator)) l.pending keys l.shelf files
+      → AreShared g.run l.at (at_slot l.fn.group.slot l.fn.group.rows) l.initial.pending keys l.initial.shelf files;
 }

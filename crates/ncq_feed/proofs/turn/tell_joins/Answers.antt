@@ -17,5 +17,5 @@ joins_met-requires g c =
 
 pub returns : goal.returns
 returns g c =
-    joins_told g.run c.args.shelf.now c.requires.1.0 c.args.at c.args.now c.requires.0 c.in_ok-joins.joins c.args.pending.now.keys c.note_all.new.pending.keys c.in_ok-joins.ensures.met
-    (λ number. c.in_ok-note_all.ensures number ∙ ap (λ numbers. is_among number numbers || is_among number c.args.pending.now.keys) c.as_slice.ensures)
+    joins_told g.run c.args.shelf.now c.requires.1.0 c.args.at c.args.now c.requires.0 c.in_ok-joins.joins c.args.pending.now c.note_all.new.self c.in_ok-joins.ensures.met
+    (λ number. c.in_ok-note_all.ensures number ∙ ap (λ numbers. is_among number numbers || is_among number c.args.pending.now) c.as_slice.ensures)
