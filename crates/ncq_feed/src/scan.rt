@@ -14,9 +14,9 @@ ghost use Rattle.ncq_feed.specs.ScanFeeds.{AreScansFed, IsScanFed, IsScanWith, n
 use crate::append::append_all;
 use crate::pending::Pending;
 use ncq_base::{Shared, Steps};
+use ncq_flat::Written;
 use ncq_midfile::{SignedRow, SignedRows};
 use ncq_plan::Expr;
-use ncq_pyx::Written;
 use ncq_row::{Rows, Shape, match_written};
 use ncq_shelf::Shelf;
 use ncq_source::{Change, Entry, Portion, Store};

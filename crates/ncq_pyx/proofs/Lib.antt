@@ -8,3 +8,4 @@ pub mod Proper
 mod TagLaws
 pub mod ByteLaws
 pub mod ReadLaws
+pub mod JoiningLaws

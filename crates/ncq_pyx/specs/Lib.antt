@@ -5,3 +5,4 @@ pub mod Answers
 pub mod Reading
 pub mod Canonical
 pub mod Items
+pub mod Joining

@@ -1,22 +1,13 @@
-//! What a block asks for.
+//! What a block asks for, as trees.
 
-use crate::written::Written;
-use ncq_base::{Bytes, Sequence, Shared};
+use ncq_base::{Bytes, Sequence};
+use ncq_tree::Element;
 
-/// To put an element, which is in normal form, or to remove the element of a key. Who keeps the
-/// element shares it. Contracts see the element.
+/// To put an element, which is in normal form, or to remove the element of a key.
+#[derive(Drop)]
 pub enum Item {
-    Put(Shared<Written>),
+    Put(Element),
     Remove(Bytes),
-}
-
-impl Drop for Item {
-    fn drop(self) {
-        match self {
-            Item::Put(put) => drop(put),
-            Item::Remove(remove) => drop(remove),
-        }
-    }
 }
 
 /// What a block asks for, in order.

@@ -14,6 +14,8 @@ ghost use Rattle.ncq_pyx.specs.Items.{item_is_proper};
 ghost use Rattle.ncq_tree.specs.Normal.{node_is_normal};
 ghost use Rattle.ncq_pyx.specs.declared.item.Item.TheVariants.{Put};
 ghost use Rattle.ncq_base.specs.Escapes.{escaped, unescaped};
+ghost use Rattle.ncq_pyx.specs.Joining.{behind_items};
+ghost use Rattle.std.specs.Prelude.{Ok, length, ◌++◌, ◌+◌};
 
 /// What is escaped stands for itself.
 pub fn escapes_are_undone()
@@ -63,4 +65,14 @@ pub fn blocks_are_exact()
     ensures right { (limit : ℕ) (lines : List (List ℕ)) → Reads limit lines (block_of limit lines) }
     ensures only { (limit : ℕ) (lines : List (List ℕ)) (answer : Result (List Item) PyxError)
         → Reads limit lines answer → Gives answer (block_of limit lines) }
+{}
+
+/// A block whose first lines spell items spells these and what the lines behind them spell, or has
+/// their fault, so many lines further on. And so one after another.
+pub fn blocks_are_joined()
+    ensures one { (limit : ℕ) (front back : List (List ℕ)) (items : List Item)
+        → block_of limit front ≡ Ok items
+        → block_of limit (front ++ back) ≡ behind_items items (length front) (block_of limit back) }
+    ensures two { (a b : List Item) (m n : ℕ) (r : Result (List Item) PyxError)
+        → behind_items a m (behind_items b n r) ≡ behind_items (a ++ b) (m + n) r }
 {}

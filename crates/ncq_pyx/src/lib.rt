@@ -13,14 +13,12 @@ mod reader;
 mod tag;
 mod turns;
 mod writing;
-mod written;
 
 pub use error::PyxError;
 pub use item::{Item, Items};
 pub use laws::{
-    blocks_are_exact, escapes_are_undone, proper_is_read, spelled_is_proper, spelled_once,
-    written_is_read, written_once,
+    blocks_are_exact, blocks_are_joined, escapes_are_undone, proper_is_read, spelled_is_proper,
+    spelled_once, written_is_read, written_once,
 };
-pub use reader::{MAX_NESTING, read_block};
+pub use reader::{MAX_NESTING, read_block, read_nested};
 pub use writing::{write_attributes, write_element, write_forest, write_name, write_text};
-pub use written::Written;

@@ -16,8 +16,7 @@ use crate::error::PyxError;
 use crate::item::{Item, Items};
 use crate::tag::TagAttributes;
 use crate::turns::{Stop, Turn, turn_of};
-use crate::written::Written;
-use ncq_base::{Bytes, Lines, Shared, first_line};
+use ncq_base::{Bytes, Lines, first_line};
 use ncq_tree::{Attribute, Element, Forest, Node, normal_element};
 use std::alloc::{AllocError, Global};
 
@@ -107,9 +106,7 @@ impl Reader {
             }
             None => {
                 let element = normal_element(self.alloc, element)?;
-                let written = Written::new(self.alloc, element)?;
-                self.items
-                    .push(Item::Put(Shared::new(self.alloc, written)?))?;
+                self.items.push(Item::Put(element))?;
             }
         }
         Ok(())
@@ -222,7 +219,7 @@ pub fn read_block(alloc: Global, lines: &Lines) -> Result<Items, PyxError>
 }
 
 /// The items that the lines spell, with at most so many elements open in one another.
-pub(crate) fn read_nested(alloc: Global, lines: &Lines, limit: usize) -> Result<Items, PyxError>
+pub fn read_nested(alloc: Global, lines: &Lines, limit: usize) -> Result<Items, PyxError>
     ensures reads { Reads limit lines.now result }
     ensures exactly { (answer : Result (List Item) PyxError) →
         Reads limit lines.now answer → IsAnswer answer → Gives result answer }

@@ -1,35 +1,40 @@
 -- Nodes as they are kept.
-use Rattle.std.proofs.Common.{◌≡◌, List, [], ◌∷◌, ◌++◌, true, ℕ, sym, ap, ◌∙◌, subst, append-nil}
-use Rattle.std.specs.Prelude.{IsTrue, ◌↔◌}
+use Rattle.std.proofs.Common.{◌≡◌, List, [], ◌∷◌, ◌++◌, ℕ, sym, ap, ◌∙◌, append-nil}
+use Rattle.std.specs.Prelude.{◌↔◌}
 use Rattle.ncq_tree.specs.declared.model.Element.{Element}
+use Rattle.ncq_tree.specs.declared.model.Node.{Node}
 use Rattle.ncq_tree.specs.declared.model.Node.TheVariants.{Text as text_node, rolls-Element}
 use Rattle.ncq_tree.specs.declared.model.Node.TheVariants.{Element as element_node}
-use Rattle.ncq_tree.specs.declared.model.Node.TheViews.{out-roll-Node, roll-Node}
-use Rattle.ncq_tree.specs.declared.model.Node.TheOpen.Node-F.{Element as Inner}
-use Rattle.ncq_tree.specs.contracts.model.NodePartialEq.TheImpl.{ghosts as node}
-use Rattle.ncq_tree.specs.contracts.model.NodePartialEq.TheImpl.Laws.{is, unfolded}
-use Rattle.ncq_tree.specs.contracts.model.ElementPartialEq.TheImpl.{ghosts as element}
+use Rattle.ncq_tree.specs.declared.model.Node.TheViews.{out-Node, out-roll-Node}
+use Rattle.ncq_tree.specs.declared.model.Node.TheOpen.{Node-F}
+use Rattle.ncq_tree.specs.declared.model.Node.TheOpen.Node-F.{Text as Inside, Element as Inner}
 use Rattle.ncq_tree.specs.Texts.{Strings, joined, string_value, texts_of}
-use Rattle.ncq_tree.proofs.Exact.{exact_node, node_itself}
 use Rattle.ncq_tree.proofs.Texts.{texts_element, texts_text}
 
-inner_is : (d e : Element) → unfolded (roll-Node (Inner d)) (roll-Node (Inner e)) ≡ element.eq d e
-inner_is d e = simp out-roll-Node
+-- the element that a node is, or this one of a text
+abbrev element_or : Element → Node-F Node Element → Element
+element_or d (Inner e) = e
+element_or d (Inside text) = d
 
--- elements are compared as nodes
-pub element_as_node : (d e : Element) → node.eq (element_node d) (element_node e) ≡ element.eq d e
-element_as_node d e =
-    is (element_node d) (element_node e)
-    ∙ ap (λ n. unfolded n (element_node e)) (sym (rolls-Element d))
-    ∙ ap (λ n. unfolded (roll-Node (Inner d)) n) (sym (rolls-Element e)) ∙ inner_is d e
+element_or_is : (d e : Element) → element_or d (out-Node (element_node e)) ≡ e
+element_or_is d e =
+    ap (λ n. element_or d (out-Node n)) (sym (rolls-Element e)) ∙ ap (element_or d) (out-roll-Node (Inner e))
 
--- the test says whether two elements are one
-pub elements_decided : (d e : Element) → IsTrue (element.eq d e) ↔ (element_node d ≡ element_node e)
-elements_decided d e = (
-  λ h. exact_node (element_node d) (element_node e) (element_as_node d e ∙ h),
-  λ h. sym (element_as_node d e)
-      ∙ subst (λ n. node.eq (element_node d) n ≡ true) h (node_itself (element_node d)),
+-- as nodes two elements are one only where they are one
+pub same_element : (d e : Element) → element_node d ≡ element_node e → d ≡ e
+same_element d e h =
+    sym (element_or_is d d) ∙ ap (λ n. element_or d (out-Node n)) h ∙ element_or_is d e
+
+-- and so are nodes that each of them is alone
+pub elements_alone : (d e : Element) → (d ≡ e) ↔ (element_node d ∷ [] ≡ element_node e ∷ [])
+elements_alone d e = (
+  λ h. ap (λ (x : Element). element_node x ∷ []) h,
+  λ h. same_element d e (ap (first_or (element_node d)) h),
 )
+  where
+    first_or : Node → List Node → Node
+    first_or n [] = n
+    first_or n (m ∷ more) = m
 
 -- one text is its own string value
 pub string_of_text : (text : List ℕ) → string_value (text_node text ∷ []) ≡ text

@@ -6,6 +6,7 @@
 #![tactic(auto)]
 
 mod attributes;
+mod by_names;
 mod key;
 mod lookahead;
 mod matching;

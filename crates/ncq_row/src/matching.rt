@@ -11,9 +11,10 @@ ghost use Rattle.ncq_row.specs.Embeddings.{attribute_rows, suffix_rows, content_
 ghost use Rattle.ncq_row.specs.Embeddings.{rows_at, rows_among, rows_from, rows_of};
 ghost use Rattle.ncq_row.specs.Formed.{shape_is_formed, content_is_formed};
 ghost use Rattle.ncq_row.specs.Found.{option_rows, found_elements};
-ghost use Rattle.ncq_row.specs.Subjects.{element_of};
+ghost use Rattle.ncq_row.specs.Subjects.{IsSubject, element_of};
 
 use crate::attributes::attribute_values;
+use crate::by_names::rows_by_names;
 use crate::lookahead::are_found;
 use crate::nodes::Nodes;
 use crate::product::{append_found, followed, only, paired, preceded, row_of};
@@ -23,8 +24,8 @@ use crate::shape::{Shape, ShapeContent, ShapeSuffix};
 use crate::subject::Subject;
 use crate::value::Value;
 use ncq_base::{Bytes, Shared, Steps};
+use ncq_flat::Written;
 use ncq_path::Path;
-use ncq_pyx::Written;
 use ncq_tree::{Element, Node};
 use std::alloc::{AllocError, Global};
 use std::sync::ledger::Ledger;
@@ -45,7 +46,8 @@ pub fn match_shape<L: Ledger>(
     ensures counted { OnOk result (steps.new ≡ steps.old + length (rows_of shape.now element.now)) }
     ensures cost { steps.new ≤ steps.old + length (rows_of shape.now element.now) }
 {
-    match_subject(alloc, shape, Subject::Lone(element), rows, steps)
+    let found = found_in(alloc, shape, Subject::Lone(element))?;
+    append_counted(found, rows, steps)
 }
 
 /// The same for an element that is shared: where the suffix of the shape takes the whole element,
@@ -63,25 +65,21 @@ pub fn match_written<L: Ledger>(
     ensures counted { OnOk result (steps.new ≡ steps.old + length (rows_of shape.now element.now)) }
     ensures cost { steps.new ≤ steps.old + length (rows_of shape.now element.now) }
 {
-    match_subject(alloc, shape, Subject::Shared(element), rows, steps)
+    let found = found_in_written(alloc, shape, element)?;
+    append_counted(found, rows, steps)
 }
 
-/// Appends the rows of the shape in the subject, and counts them.
-fn match_subject<L: Ledger>(
-    alloc: Global,
-    shape: &Shape,
-    subject: Subject<'_>,
+/// Appends the rows that were found, and counts them.
+fn append_counted<L: Ledger>(
+    found: Rows,
     rows: &mut Rows,
     steps: &mut Steps<L>,
 ) -> Result<(), AllocError>
-    requires { shape_is_formed shape.now ≡ true }
-    ensures ok { OnOk result (rows.new ≡ rows.old ++ rows_of shape.now (element_of subject.entry)) }
+    ensures ok { OnOk result (rows.new ≡ rows.old ++ found) }
     ensures err { OnErr result (rows.new ≡ rows.old) }
-    ensures counted { OnOk result (steps.new
-        ≡ steps.old + length (rows_of shape.now (element_of subject.entry))) }
-    ensures cost { steps.new ≤ steps.old + length (rows_of shape.now (element_of subject.entry)) }
+    ensures counted { OnOk result (steps.new ≡ steps.old + length found) }
+    ensures cost { steps.new ≤ steps.old + length found }
 {
-    let found = found_in(alloc, shape, subject)?;
     let made = found.len();
     append_found(rows, found)?;
     count(made, steps);
@@ -97,9 +95,27 @@ fn count<L: Ledger>(made: usize, steps: &mut Steps<L>)
     }
 }
 
+/// What the shape gives in the shared element: taken from its lines where they tell, or else from a
+/// tree that is made of it once.
+fn found_in_written(
+    alloc: Global,
+    shape: &Shape,
+    element: &Shared<Written>,
+) -> Result<Rows, AllocError>
+    requires { shape_is_formed shape.now ≡ true }
+    ensures { IfOk result (λ rows. rows ≡ rows_of shape.now element.now) }
+{
+    if let Some(rows) = rows_by_names(alloc, shape, element)? {
+        return Ok(rows);
+    }
+    let tree = element.get().element(alloc)?;
+    found_in(alloc, shape, Subject::Shared(element, &tree))
+}
+
 /// What the shape gives in the subject.
 fn found_in(alloc: Global, shape: &Shape, subject: Subject<'_>) -> Result<Rows, AllocError>
-    requires { shape_is_formed shape.now ≡ true }
+    requires formed { shape_is_formed shape.now ≡ true }
+    requires subject { IsSubject subject }
     ensures { IfOk result (λ rows. rows ≡ rows_of shape.now (element_of subject.entry)) }
 {
     match &shape.tag {
@@ -117,6 +133,7 @@ fn found_in_named(
 ) -> Result<Rows, AllocError>
     requires formed { shape_is_formed shape.now ≡ true }
     requires named { shape.now.tag ≡ Path.Tag name.now }
+    requires subject { IsSubject subject }
     ensures { IfOk result (λ rows. rows ≡ rows_of shape.now (element_of subject.entry)) }
 {
     if subject.element().name != *name {
@@ -127,7 +144,8 @@ fn found_in_named(
 
 /// The same for a shape with any path.
 fn found_in_reached(alloc: Global, shape: &Shape, subject: Subject<'_>) -> Result<Rows, AllocError>
-    requires { shape_is_formed shape.now ≡ true }
+    requires formed { shape_is_formed shape.now ≡ true }
+    requires subject { IsSubject subject }
     ensures { IfOk result (λ rows. rows ≡ rows_of shape.now (element_of subject.entry)) }
 {
     let reached = reached_by_arm(alloc, &shape.tag, subject.element())?;
@@ -138,7 +156,8 @@ fn found_in_reached(alloc: Global, shape: &Shape, subject: Subject<'_>) -> Resul
 #[cycle(matching)]
 #[tactic(auto, using(crate::proofs::CallerLemmas::rows_are))]
 fn found_at(alloc: Global, shape: &Shape, subject: Subject<'_>) -> Result<Rows, AllocError>
-    requires { shape_is_formed shape.now ≡ true }
+    requires formed { shape_is_formed shape.now ≡ true }
+    requires subject { IsSubject subject }
     ensures { IfOk result (λ rows. rows ≡ rows_at shape.now (element_of subject.entry)) }
 {
     let element = subject.element();
@@ -162,6 +181,7 @@ fn surrounded(
     suffix: ShapeSuffix,
     subject: Subject<'_>,
 ) -> Result<Rows, AllocError>
+    requires { IsSubject subject }
     ensures { IfOk result (λ rows. rows
         ≡ paired (front ∷ []) (paired content (suffix_rows suffix (element_of subject.entry)))) }
 {
@@ -241,7 +261,8 @@ fn found_at_reached(
     subject: Subject<'_>,
     reached: Reached<'_>,
 ) -> Result<Rows, AllocError>
-    requires { shape_is_formed shape.now ≡ true }
+    requires formed { shape_is_formed shape.now ≡ true }
+    requires subject { IsSubject subject }
     ensures { IfOk result (λ rows. rows
         ≡ flat_map (rows_at shape.now) (found_elements (element_of subject.entry) reached.entry)) }
 {
@@ -262,7 +283,8 @@ fn found_if(
     subject: Subject<'_>,
     reached: bool,
 ) -> Result<Rows, AllocError>
-    requires { shape_is_formed shape.now ≡ true }
+    requires formed { shape_is_formed shape.now ≡ true }
+    requires subject { IsSubject subject }
     ensures { IfOk result (λ rows. rows ≡ flat_map (rows_at shape.now)
         (if reached then element_of subject.entry ∷ [] else [])) }
 {
@@ -322,6 +344,7 @@ fn suffix_value(
     suffix: ShapeSuffix,
     subject: Subject<'_>,
 ) -> Result<Option<Value>, AllocError>
+    requires { IsSubject subject }
     ensures { IfOk result (λ value.
         option_to_list value ∷ [] ≡ suffix_rows suffix (element_of subject.entry)) }
 {

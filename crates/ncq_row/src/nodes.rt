@@ -6,7 +6,7 @@ ghost use Rattle.ncq_tree.specs.Texts.{string_value};
 ghost use Rattle.ncq_row.specs.Shown.{shown_nodes};
 
 use ncq_base::{Bytes, Copied, Shared};
-use ncq_pyx::Written;
+use ncq_flat::Written;
 use ncq_tree::{Element, Forest, Node, copy_forest, is_same, string_value};
 use std::alloc::{AllocError, Global};
 use std::marker::Model;
@@ -39,7 +39,7 @@ impl Model for Nodes {
     ghost view = { λ n. kept_nodes n.kept };
 }
 
-/// Nodes as they are kept: a forest, one text alone, or one element alone with its lines.
+/// Nodes as they are kept: a forest, one text alone, or one element alone as its lines.
 #[derive(Clone, Copy)]
 pub enum Shown<'a> {
     Forest(&'a Forest),
@@ -63,6 +63,15 @@ impl Nodes {
         Ok(Nodes {
             kept: Kept::Element(element.share()?),
         })
+    }
+
+    /// One text alone.
+    pub(crate) fn of_text(text: Bytes) -> Nodes
+        ensures { result ≡ text_node text ∷ [] }
+    {
+        Nodes {
+            kept: Kept::Text(text),
+        }
     }
 
     /// A copy of the children of the element. One text, as most often, takes no block of memory for
@@ -99,7 +108,7 @@ impl Nodes {
         match self.shown() {
             Shown::Forest(forest) => copy_forest(alloc, forest),
             Shown::Text(text) => alone(alloc, Node::Text(text.copy(alloc)?)),
-            Shown::Element(written) => alone(alloc, Node::Element(written.element().copy(alloc)?)),
+            Shown::Element(written) => alone(alloc, Node::Element(written.element(alloc)?)),
         }
     }
 
@@ -111,7 +120,7 @@ impl Nodes {
         match self.shown() {
             Shown::Forest(forest) => string_value(alloc, forest),
             Shown::Text(text) => text.copy(alloc),
-            Shown::Element(written) => string_value(alloc, &written.element().children),
+            Shown::Element(written) => written.string_value(alloc),
         }
     }
 
@@ -123,7 +132,7 @@ impl Nodes {
         match self.shown() {
             Shown::Forest(forest) => shows_forest(others, forest),
             Shown::Text(text) => shows_text(others, text),
-            Shown::Element(written) => shows_element(others, written.element()),
+            Shown::Element(written) => shows_element(others, written),
         }
     }
 }
@@ -156,7 +165,7 @@ fn shows_forest(shown: Shown<'_>, forest: &Forest) -> bool
     match shown {
         Shown::Forest(other) => is_same(forest, other),
         Shown::Text(text) => is_text_alone(forest.as_slice(), text),
-        Shown::Element(written) => is_element_alone(forest.as_slice(), written.element()),
+        Shown::Element(written) => is_element_alone(forest.as_slice(), written),
     }
 }
 
@@ -172,13 +181,13 @@ fn shows_text(shown: Shown<'_>, text: &Bytes) -> bool
 }
 
 /// Whether these are the element alone.
-fn shows_element(shown: Shown<'_>, element: &Element) -> bool
+fn shows_element(shown: Shown<'_>, element: &Written) -> bool
     ensures { IsTrue result ↔ (element_node element.now ∷ [] ≡ shown_nodes shown.entry) }
 {
     match shown {
         Shown::Forest(forest) => is_element_alone(forest.as_slice(), element),
         Shown::Text(_) => false,
-        Shown::Element(written) => is_same_element(element, written.element()),
+        Shown::Element(other) => element.is_same(other),
     }
 }
 
@@ -196,7 +205,7 @@ fn is_text_alone(nodes: &[Node], text: &Bytes) -> bool
 }
 
 /// Whether the nodes are the element alone.
-fn is_element_alone(nodes: &[Node], element: &Element) -> bool
+fn is_element_alone(nodes: &[Node], element: &Written) -> bool
     ensures { IsTrue result ↔ (nodes.now ≡ element_node element.now ∷ []) }
 {
     if nodes.len() != 1 {
@@ -204,13 +213,6 @@ fn is_element_alone(nodes: &[Node], element: &Element) -> bool
     }
     match &nodes[0] {
         Node::Text(_) => false,
-        Node::Element(only) => is_same_element(only, element),
+        Node::Element(only) => element.is_element(only),
     }
-}
-
-/// Whether the two are one element.
-fn is_same_element(a: &Element, b: &Element) -> bool
-    ensures { IsTrue result ↔ (element_node a.now ≡ element_node b.now) }
-{
-    a == b
 }

@@ -12,7 +12,8 @@ ghost use Rattle.ncq_script.specs.Words.{words};
 
 use crate::word::next_word;
 use ncq_base::{Bytes, Lines, bytes_of, first_line};
-use ncq_pyx::{PyxError, read_block};
+use ncq_flat::read_flat_block;
+use ncq_pyx::PyxError;
 use ncq_source::{Section, Sections};
 use std::alloc::{AllocError, Global};
 
@@ -93,7 +94,7 @@ fn is_idle(alloc: Global, line: &[u8]) -> Result<bool, AllocError>
 {
     let mut alone = Lines::new(alloc);
     alone.push(line)?;
-    match read_block(alloc, &alone) {
+    match read_flat_block(alloc, &alone) {
         Ok(items) => Ok(items.len() == 0),
         Err(PyxError::OutOfMemory) => Err(AllocError),
         Err(_) => Ok(false),
@@ -123,7 +124,7 @@ fn take_section<'a>(
         return Err(PyxError::BadLine { line: number });
     };
     let (body, left) = before_header(alloc, behind, number + 1)?;
-    match read_block(alloc, &body) {
+    match read_flat_block(alloc, &body) {
         Ok(items) => {
             let source = bytes_of(alloc, name)?;
             sections.push(Section { source, items })?;

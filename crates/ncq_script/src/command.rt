@@ -19,7 +19,8 @@ use crate::form::{one_argument, source_form, statement_text};
 use crate::refusal::Refusal;
 use crate::word::{Keyword, next_word};
 use ncq_base::{Bytes, Limit, Lines, Own, bytes_of, is_pyx_name, read_u64};
-use ncq_pyx::{PyxError, read_block};
+use ncq_flat::read_flat_block;
+use ncq_pyx::PyxError;
 use ncq_source::{Key, Section, Sections};
 use ncq_xmlql::{Statement, StatementError, parse_statement};
 use std::alloc::{AllocError, Global};
@@ -185,7 +186,7 @@ fn delta_of(alloc: Global, source: &[u8], block: &Lines) -> Result<Command, Allo
         command ≡ delta_of source.now (block_of max_nesting block.now)) }
     ensures proper { IfOk result (λ command. IsProperCommand command) }
 {
-    match read_block(alloc, block) {
+    match read_flat_block(alloc, block) {
         Ok(items) => {
             let mut sections = Sections::new(alloc);
             sections.push(Section {

@@ -19,5 +19,3 @@ pub child_keys_element : (wanted : List ℕ) (e : Element) → child_keys wanted
 child_keys_element wanted e =
     by_nodes_element no_strings (value_if_named wanted) e
     ∙ ap (λ (nodes : List Node). if bytes_eq wanted e.name then string_value nodes ∷ [] else []) (firsts (child_keys wanted) e.children)
-
-pub ruleset child_keys_are = (child_keys_text, child_keys_element)

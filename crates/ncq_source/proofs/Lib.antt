@@ -3,6 +3,7 @@ pub mod KeyLaws
 pub mod CallerLemmas
 pub mod Commits
 pub mod FaultLaws
+pub mod FoundLaws
 pub mod Folds
 pub mod Over
 pub mod Places

@@ -7,7 +7,7 @@ ghost use Rattle.ncq_source.specs.Held.{map_of, with_at};
 use crate::elements::Elements;
 use indexmap::IndexMap;
 use ncq_base::{Bytes, Shared};
-use ncq_pyx::Written;
+use ncq_flat::Written;
 use std::alloc::{AllocError, Global};
 use std::hash::RandomState;
 use std::marker::Model;

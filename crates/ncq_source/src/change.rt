@@ -4,7 +4,7 @@ ghost use Rattle.ncq_source.specs.ChangeStates.{AreRising};
 ghost use Rattle.ncq_source.specs.Fews.{portions_in};
 
 use ncq_base::{Bytes, Sequence, Shared};
-use ncq_pyx::{Items, Written};
+use ncq_flat::{Items, Written};
 use std::alloc::{AllocError, Global};
 use std::marker::Model;
 use std::slice;

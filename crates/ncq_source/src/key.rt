@@ -1,11 +1,14 @@
 //! The key of an element, by a rule.
-ghost use Rattle.std.specs.Prelude.{◌≡◌, [], IfOk};
-ghost use Rattle.ncq_source.specs.Keys.{key_of, child_keys, attribute_keys, only, only_behind};
+ghost use Rattle.std.specs.Prelude.{◌≡◌, IfOk, map};
 ghost use Rattle.std.specs.List.{flat_map};
-ghost use Rattle.std.specs.Option.{option_to_list};
+ghost use Rattle.ncq_base.specs.Lines.{lines_in};
+ghost use Rattle.ncq_flat.specs.Insides.{insides, opens};
+ghost use Rattle.ncq_flat.specs.Said.{string_value_in};
+ghost use Rattle.ncq_source.specs.Keys.{attribute_keys, key_of, not_empty, only};
 
 use ncq_base::{Bytes, Copied};
-use ncq_tree::{Attribute, Element, Node, string_value};
+use ncq_flat::{Written, behind, first_inside, string_value};
+use ncq_tree::Attribute;
 use std::alloc::{AllocError, Global};
 
 /// Where the key of an element stands: it is the string value of its one direct child of this name,
@@ -38,45 +41,31 @@ impl Copied for Key {
 }
 
 /// The element's one key value: none exactly where it has no key value, or two or more, be they
-/// equal, or an empty one.
-pub fn key_of(alloc: Global, rule: &Key, element: &Element) -> Result<Option<Bytes>, AllocError>
+/// equal, or an empty one. For the value of a child it makes no tree of the element's lines.
+pub fn key_of(alloc: Global, rule: &Key, element: &Written) -> Result<Option<Bytes>, AllocError>
     ensures { IfOk result (λ key. key ≡ key_of rule.now element.now) }
 {
     match rule {
-        Key::Child(name) => child_key(alloc, name, element.children.as_slice()),
-        Key::Attribute(name) => attribute_key(alloc, name, element.attributes.as_slice()),
+        Key::Child(name) => child_key(alloc, name.as_slice(), element.inside()),
+        Key::Attribute(name) => {
+            let plain = element.element(alloc)?;
+            attribute_key(alloc, name, plain.attributes.as_slice())
+        }
     }
 }
 
-/// The key that is the string value of the one child of this name.
-fn child_key(alloc: Global, name: &Bytes, nodes: &[Node]) -> Result<Option<Bytes>, AllocError>
-    ensures { IfOk result (λ key. key ≡ only (flat_map (child_keys name.now) nodes.now)) }
+/// The key that is the string value of the one child of this name of the element inside which the
+/// text begins.
+fn child_key(alloc: Global, name: &[u8], text: &[u8]) -> Result<Option<Bytes>, AllocError>
+    ensures { IfOk result (λ key. key
+        ≡ only (map string_value_in (insides (opens name.now) 0 (lines_in text.now)))) }
 {
-    let mut found: Option<Bytes> = None;
-    for node in nodes {
-        if let Some(value) = child_value(alloc, name, node)? {
-            if found.is_some() {
-                return Ok(None);
-            }
-            found = Some(value);
-        }
-    }
-    Ok(unless_empty(found))
-}
-
-/// The string value of a node that is an element of this name; none of any other node.
-#[tactic(auto, using(crate::proofs::KeyLaws::child_keys_are))]
-pub fn child_value(alloc: Global, name: &Bytes, node: &Node) -> Result<Option<Bytes>, AllocError>
-    ensures { IfOk result (λ value. option_to_list value ≡ child_keys name.now node.now) }
-{
-    match node {
-        Node::Text(_) => Ok(None),
-        Node::Element(child) => {
-            if *name != child.name {
-                return Ok(None);
-            }
-            Ok(Some(string_value(alloc, &child.children)?))
-        }
+    let Some(inside) = first_inside(text, name) else {
+        return Ok(None);
+    };
+    match first_inside(behind(inside), name) {
+        Some(_) => Ok(None),
+        None => Ok(unless_empty(string_value(alloc, inside)?)),
     }
 }
 
@@ -103,11 +92,12 @@ fn attribute_key(
     }
 }
 
-fn unless_empty(found: Option<Bytes>) -> Option<Bytes>
-    ensures { result ≡ only_behind found [] }
+/// The value, where it is not empty.
+fn unless_empty(value: Bytes) -> Option<Bytes>
+    ensures { result ≡ not_empty value }
 {
-    match found {
-        Some(value) if !value.as_slice().is_empty() => Some(value),
-        _ => None,
+    if value.as_slice().is_empty() {
+        return None;
     }
+    Some(value)
 }

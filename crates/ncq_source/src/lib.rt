@@ -23,7 +23,7 @@ mod store;
 
 pub use batch::Sections;
 pub use change::{Change, ChangeError, Entries, Entry, Portion, Section, SourceId};
-pub use key::{Key, child_value, key_of};
+pub use key::{Key, key_of};
 pub use laws::{
     changes_are_the_fold, entries_are_the_fold, stores_show_their_sources, the_first_fault_decides,
 };

@@ -12,7 +12,7 @@ use crate::ahead::Ahead;
 use crate::change::{ChangeError, Entries, Entry};
 use crate::key::{Key, key_of};
 use ncq_base::{Bytes, Copied, Shared};
-use ncq_pyx::{Item, Written};
+use ncq_flat::{Asked, Item, Written};
 use std::alloc::{AllocError, Global};
 
 /// One entry for each item, in order, or the first item that cannot be applied, seen through the
@@ -63,12 +63,12 @@ fn entry_of(
 ) -> Result<Entry, ChangeError>
     ensures { Tells result (entry_of rule.now position ahead.now item.now) }
 {
-    match item {
-        Item::Put(element) => {
-            let key = key_of(alloc, rule, element.get().element())?;
+    match item.asked() {
+        Asked::Put(element) => {
+            let key = key_of(alloc, rule, element.get())?;
             put_entry(ahead, key, element, position)
         }
-        Item::Remove(key) => gone_entry(ahead, key.copy(alloc)?, position),
+        Asked::Remove(key) => gone_entry(ahead, key.copy(alloc)?, position),
     }
 }
 

@@ -16,7 +16,7 @@ use crate::declared::Declared;
 use crate::prepare::prepare;
 use crate::store::Store;
 use ncq_base::Bytes;
-use ncq_pyx::Item;
+use ncq_flat::Item;
 use std::alloc::{AllocError, Global};
 use std::collections::BTreeMap;
 

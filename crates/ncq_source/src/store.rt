@@ -23,8 +23,7 @@ use crate::key::{Key, key_of};
 use crate::names::Names;
 use crate::sections::prepare_sections;
 use ncq_base::{Bytes, Shared};
-use ncq_pyx::Written;
-use ncq_tree::Element;
+use ncq_flat::Written;
 use std::alloc::{AllocError, Global};
 use std::hash::RandomState;
 use std::marker::Model;
@@ -184,7 +183,7 @@ impl Store {
         &self,
         alloc: Global,
         id: SourceId,
-        element: &Element,
+        element: &Written,
     ) -> Result<Option<Bytes>, AllocError>
         requires { IsDeclared self.now id }
         ensures { IfOk result (λ key. At self.now id (λ s. key ≡ key_of s.key element.now)) }
@@ -209,20 +208,9 @@ impl Store {
         self.source(id).elements.len()
     }
 
-    /// The element at a place below the size, in an order of the store's own: from 0 to the size
-    /// less 1 each element is shown once. A commit may change the order. Where all elements of the
-    /// store are proper, it is proper.
-    pub fn element(&self, id: SourceId, at: usize) -> &Element
-        requires id { IsDeclared self.now id }
-        requires at { At self.now id (λ s. at < length s.shown) }
-        ensures place { At self.now id (λ s.
-            slice_get (map (λ p. p.1) s.shown) at ≡ Some result.now) }
-        ensures proper { IsProperStore self.now → IsProper result.now }
-    {
-        self.written(id, at).get().element()
-    }
-
-    /// The element that `element` gives, with its canonical lines, to be shared.
+    /// The element at a place below the size, to be shared, in an order of the store's own: from 0
+    /// to the size less 1 each element is shown once. A commit may change the order. Where all
+    /// elements of the store are proper, it is proper.
     pub fn written(&self, id: SourceId, at: usize) -> &Shared<Written>
         requires id { IsDeclared self.now id }
         requires at { At self.now id (λ s. at < length s.shown) }

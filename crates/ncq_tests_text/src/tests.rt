@@ -1,7 +1,7 @@
 //! What the calls of several crates are given, and what they are compared by.
 
-use ncq_base::{Lines, bytes_of, is_line};
-use ncq_pyx::{Items, read_block};
+use ncq_base::{Lines, Shared, bytes_of, is_line};
+use ncq_flat::{Asked, Item, Items, Written, read_flat_block};
 use ncq_source::{Section, Sections};
 use std::alloc::{AllocError, Global};
 use std::process::Abort;
@@ -10,6 +10,7 @@ mod atoms;
 mod blocks;
 mod declared;
 mod entries;
+mod flats;
 mod instants;
 mod keys;
 mod lists;
@@ -69,7 +70,15 @@ fn push_line(lines: &mut Lines, line: &[u8]) -> Result<(), AllocError> {
 /// The items that the lines, parted by slashes, spell.
 fn items_of(alloc: Global, text: &str) -> Result<Items, AllocError> {
     let lines = lines_of(alloc, text.as_bytes())?;
-    read_block(alloc, &lines).map_err(|_| AllocError)
+    read_flat_block(alloc, &lines).map_err(|_| AllocError)
+}
+
+/// The element that the item puts.
+fn put_by(item: Option<&Item>) -> Option<&Shared<Written>> {
+    match item?.asked() {
+        Asked::Put(element) => Some(element),
+        Asked::Remove(_) => None,
+    }
 }
 
 /// The sections of a batch: each the name of a source, and lines that are parted by slashes.

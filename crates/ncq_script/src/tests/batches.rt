@@ -1,7 +1,8 @@
 //! What the blocks of batches say.
 use crate::batch::sections_of;
 use ncq_base::{Lines, first_line, write_decimal};
-use ncq_pyx::{Item, PyxError};
+use ncq_flat::{Asked, Item};
+use ncq_pyx::PyxError;
 use ncq_source::Section;
 use std::alloc::{AllocError, Global};
 use std::process::Abort;
@@ -80,9 +81,9 @@ fn nested(alloc: Global, opened: usize, closed: usize) -> Result<Lines, AllocErr
 }
 
 fn show_item(out: &mut Vec<u8>, item: &Item) -> Result<(), AllocError> {
-    match item {
-        Item::Put(_) => out.push(b'+')?,
-        Item::Remove(key) => {
+    match item.asked() {
+        Asked::Put(_) => out.push(b'+')?,
+        Asked::Remove(key) => {
             out.push(b'-')?;
             out.extend_from_slice(key.as_slice())?;
         }

@@ -12,9 +12,9 @@ ghost use Rattle.ncq_tests_group.specs.Tables.{StandsFor};
 use super::queries::sources;
 use ncq_base::{FileId, Lines, Steps, bytes_of, is_line};
 use ncq_bind::bind;
+use ncq_flat::{Items, read_flat_block};
 use ncq_group::GroupTable;
 use ncq_plan::{NormalQuery, Predicates, plan};
-use ncq_pyx::{Items, read_block};
 use ncq_source::{Change, Section, Sections, Store};
 use ncq_xmlql::parse_statement;
 use std::alloc::Global;
@@ -130,7 +130,7 @@ fn items_of(rt: &impl Abort, alloc: Global, text: &str) -> Result<Items, Fail> {
         assert!(rt; is_line(line.as_bytes()));
         lines.push(line.as_bytes())?;
     }
-    Ok(read_block(alloc, &lines)?)
+    Ok(read_flat_block(alloc, &lines)?)
 }
 
 /// The sections that are asked.

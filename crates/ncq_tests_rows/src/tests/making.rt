@@ -5,10 +5,11 @@ ghost use Rattle.ncq_path.specs.Formed.{is_formed};
 ghost use Rattle.ncq_row.specs.Formed.{shape_is_formed, content_is_formed};
 ghost use Rattle.ncq_row.specs.Widths.{width, suffix_width};
 
-use ncq_base::{Copied, Shared, Steps, bytes_of};
+use ncq_base::{Copied, Lines, Shared, Steps, bytes_of, is_line};
+use ncq_flat::{Asked, Item, Written, read_flat_block};
 use ncq_path::{Path, is_well_formed};
 use ncq_plan::SlotTemplate;
-use ncq_pyx::Written;
+use ncq_pyx::write_element;
 use ncq_row::{
     Names, Row, Rows, Shape, ShapeContent, ShapeSuffix, Shapes, match_shape, match_written,
 };
@@ -169,10 +170,40 @@ pub fn value_rows<L: Ledger>(
     rows_of_value(alloc, &element, steps)
 }
 
-/// The element, shared.
+/// The lines of a text, each ended by a line feed.
+fn lines_of(alloc: Global, text: &[u8]) -> Result<Lines, AllocError> {
+    let mut lines = Lines::new(alloc);
+    for line in text.split(|b| *b == b'\n') {
+        push_line(&mut lines, line)?;
+    }
+    Ok(lines)
+}
+
+fn push_line(lines: &mut Lines, line: &[u8]) -> Result<(), AllocError> {
+    if line.is_empty() || !is_line(line) {
+        return Ok(());
+    }
+    lines.push(line)
+}
+
+/// The element of the one item.
+fn put_by(item: Option<&Item>) -> Result<Shared<Written>, AllocError> {
+    match item {
+        Some(item) => match item.asked() {
+            Asked::Put(element) => element.share(),
+            Asked::Remove(_) => Err(AllocError),
+        },
+        None => Err(AllocError),
+    }
+}
+
+/// The element, shared, as it is read from its lines.
 pub fn shared(alloc: Global, element: &Element) -> Result<Shared<Written>, AllocError> {
-    let written = Written::new(alloc, element.copy(alloc)?)?;
-    Shared::new(alloc, written)
+    let mut text = Vec::new(alloc);
+    write_element(element, &mut text)?;
+    let lines = lines_of(alloc, text.as_slice())?;
+    let items = read_flat_block(alloc, &lines).map_err(|_| AllocError)?;
+    put_by(items.get(0))
 }
 
 /// The rows of the shape in the element that is shared.

@@ -172,7 +172,7 @@ fn show_element(element: &Element, out: &mut Vec<u8>) -> Result<(), AllocError> 
     Ok(())
 }
 
-fn show_value(value: &Value, out: &mut Vec<u8>) -> Result<(), AllocError> {
+fn show_value(alloc: Global, value: &Value, out: &mut Vec<u8>) -> Result<(), AllocError> {
     match value {
         Value::Text(text) => {
             out.push(b'"')?;
@@ -181,7 +181,7 @@ fn show_value(value: &Value, out: &mut Vec<u8>) -> Result<(), AllocError> {
         }
         Value::Nodes(nodes) => {
             out.push(b'[')?;
-            show_kept(nodes.shown(), out)?;
+            show_kept(alloc, nodes.shown(), out)?;
             out.push(b']')?;
         }
     }
@@ -189,18 +189,18 @@ fn show_value(value: &Value, out: &mut Vec<u8>) -> Result<(), AllocError> {
 }
 
 /// The nodes, as they are kept.
-fn show_kept(shown: Shown<'_>, out: &mut Vec<u8>) -> Result<(), AllocError> {
+fn show_kept(alloc: Global, shown: Shown<'_>, out: &mut Vec<u8>) -> Result<(), AllocError> {
     match shown {
         Shown::Forest(forest) => show_nodes(forest.as_slice(), out),
         Shown::Text(text) => out.extend_from_slice(text.as_slice()),
-        Shown::Element(written) => show_element(written.element(), out),
+        Shown::Element(written) => show_element(&written.element(alloc)?, out),
     }
 }
 
 /// The values of the row, and a semicolon.
-fn show_row(row: &Row, out: &mut Vec<u8>) -> Result<(), AllocError> {
+fn show_row(alloc: Global, row: &Row, out: &mut Vec<u8>) -> Result<(), AllocError> {
     for slot in 0..row.len() {
-        show_value(row.value(slot), out)?;
+        show_value(alloc, row.value(slot), out)?;
     }
     out.push(b';')?;
     Ok(())
@@ -210,7 +210,7 @@ fn show_row(row: &Row, out: &mut Vec<u8>) -> Result<(), AllocError> {
 fn show_rows(alloc: Global, rows: &Rows) -> Result<Vec<u8>, AllocError> {
     let mut out = Vec::new(alloc);
     for row in rows.as_slice() {
-        show_row(row, &mut out)?;
+        show_row(alloc, row, &mut out)?;
     }
     Ok(out)
 }
@@ -481,7 +481,7 @@ fn show_joined<L: Ledger>(
     steps: &mut Steps<L>,
 ) -> Result<(), AllocError> {
     let row = one.join(alloc, two, steps)?;
-    show_row(&row, out)
+    show_row(alloc, &row, out)
 }
 
 /// Whether the first value of the row has the atom.

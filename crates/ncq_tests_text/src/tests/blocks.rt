@@ -1,57 +1,103 @@
 //! Blocks of PYX lines, read and written.
 
 use super::{Pair, expect_bytes, expect_text, lines_of, push_line};
-use ncq_base::{Lines, bytes_of};
-use ncq_pyx::{Item, Items, MAX_NESTING, PyxError, read_block, write_element, write_forest};
+use ncq_base::{Bytes, Lines, bytes_of};
+use ncq_flat::{Asked, Items, read_flat_block};
+use ncq_pyx::{
+    Item as TreeItem, Items as TreeItems, MAX_NESTING, PyxError, read_block, write_element,
+    write_forest,
+};
 use ncq_tree::{Attribute, Attributes, Element, Forest, Node};
 use std::alloc::{AllocError, Global};
 use std::process::Abort;
 use std::test::Fail;
 
+/// `!` and the key of a removal.
+fn write_removal(key: &Bytes, out: &mut Vec<u8>) -> Result<(), AllocError> {
+    out.push(b'!')?;
+    out.extend_from_slice(key.as_slice())?;
+    out.push(b'\n')?;
+    Ok(())
+}
+
 /// The canonical lines of each element, and `!` and the key of each removal.
-fn write_items(items: Items, out: &mut Vec<u8>) -> Result<(), AllocError> {
+fn write_trees(items: TreeItems, out: &mut Vec<u8>) -> Result<(), AllocError> {
     for item in items.as_slice() {
         match item {
-            Item::Put(element) => write_element(element.get().element(), out)?,
-            Item::Remove(key) => {
-                out.push(b'!')?;
-                out.extend_from_slice(key.as_slice())?;
-                out.push(b'\n')?;
-            }
+            TreeItem::Put(element) => write_element(element, out)?,
+            TreeItem::Remove(key) => write_removal(key, out)?,
         }
     }
     Ok(())
 }
 
-/// The lines that the items are written as, each ended by a slash, each byte as a character.
-fn show(alloc: Global, items: Items) -> Result<String, AllocError> {
-    let mut out = Vec::new(alloc);
-    write_items(items, &mut out)?;
+/// The same of items whose elements are their lines.
+fn write_items(items: Items, out: &mut Vec<u8>) -> Result<(), AllocError> {
+    for item in items.as_slice() {
+        match item.asked() {
+            Asked::Put(element) => out.extend_from_slice(element.get().lines())?,
+            Asked::Remove(key) => write_removal(key, out)?,
+        }
+    }
+    Ok(())
+}
+
+/// The lines, each ended by a slash, each byte as a character.
+fn show(alloc: Global, lines: &[u8]) -> Result<String, AllocError> {
     let mut shown = String::new(alloc);
-    for byte in &out {
+    for byte in lines {
         let shown_byte = if *byte == b'\n' { b'/' } else { *byte };
         shown.push(char::from(shown_byte))?;
     }
     Ok(shown)
 }
 
-/// What the lines spell, as lines that each end by a slash; or the error and its line.
-fn answer(alloc: Global, lines: &Lines) -> Result<String, AllocError> {
-    match read_block(alloc, lines) {
-        Ok(items) => show(alloc, items),
-        Err(PyxError::BadLine { line }) => format!(in alloc; "bad {line}"),
-        Err(PyxError::TooDeep { line }) => format!(in alloc; "deep {line}"),
-        Err(PyxError::OutOfMemory) => Err(AllocError),
+/// The error and its line.
+fn fault(alloc: Global, why: PyxError) -> Result<String, AllocError> {
+    match why {
+        PyxError::BadLine { line } => format!(in alloc; "bad {line}"),
+        PyxError::TooDeep { line } => format!(in alloc; "deep {line}"),
+        PyxError::OutOfMemory => Err(AllocError),
     }
 }
 
-/// What the lines, parted by slashes, spell.
-fn answer_to(alloc: Global, text: &[u8]) -> Result<String, AllocError> {
-    let lines = lines_of(alloc, text)?;
-    answer(alloc, &lines)
+/// What the lines spell, read as trees, as lines that each end by a slash; or the error and its
+/// line.
+fn tree_answer(alloc: Global, lines: &Lines) -> Result<String, AllocError> {
+    let mut out = Vec::new(alloc);
+    match read_block(alloc, lines) {
+        Ok(items) => write_trees(items, &mut out)?,
+        Err(why) => return fault(alloc, why),
+    }
+    show(alloc, out.as_slice())
 }
 
-/// Compares what the lines spell, or the fault and its line.
+/// The same, where the elements are read as their lines.
+fn answer(alloc: Global, lines: &Lines) -> Result<String, AllocError> {
+    let mut out = Vec::new(alloc);
+    match read_flat_block(alloc, lines) {
+        Ok(items) => write_items(items, &mut out)?,
+        Err(why) => return fault(alloc, why),
+    }
+    show(alloc, out.as_slice())
+}
+
+/// Compares what the lines spell, by both readers, or the fault and its line.
+fn expect_read(
+    rt: &impl Abort,
+    alloc: Global,
+    lines: &Lines,
+    want: &str,
+    row: &str,
+) -> Result<(), AllocError> {
+    let tree = tree_answer(alloc, lines)?;
+    expect_text(rt, tree.as_str(), want, row);
+    let flat = answer(alloc, lines)?;
+    expect_text(rt, flat.as_str(), want, row);
+    Ok(())
+}
+
+/// The same of lines that are parted by slashes.
 fn expect_answer(
     rt: &impl Abort,
     alloc: Global,
@@ -59,9 +105,8 @@ fn expect_answer(
     want: &str,
     row: &str,
 ) -> Result<(), AllocError> {
-    let got = answer_to(alloc, text)?;
-    expect_text(rt, got.as_str(), want, row);
-    Ok(())
+    let lines = lines_of(alloc, text)?;
+    expect_read(rt, alloc, &lines, want, row)
 }
 
 /// Compares what the lines of each case spell, or the fault and its line.
@@ -338,17 +383,6 @@ fn nested(alloc: Global, opened: usize, line: &str, closed: usize) -> Result<Lin
     Ok(lines)
 }
 
-/// What the lines of `nested` spell.
-fn answer_to_nested(
-    alloc: Global,
-    opened: usize,
-    line: &str,
-    closed: usize,
-) -> Result<String, AllocError> {
-    let lines = nested(alloc, opened, line, closed)?;
-    answer(alloc, &lines)
-}
-
 /// How many elements are opened, a line, how many are closed, and the answer.
 type Nested = (usize, &'static str, usize, &'static str);
 
@@ -362,15 +396,14 @@ const NESTED: &[Nested] = &[
 
 fn expect_nested(rt: &impl Abort, alloc: Global, row: &Nested) -> Result<(), AllocError> {
     let (opened, line, closed, want) = *row;
-    let got = answer_to_nested(alloc, opened, line, closed)?;
-    expect_text(rt, got.as_str(), want, line);
-    Ok(())
+    let lines = nested(alloc, opened, line, closed)?;
+    expect_read(rt, alloc, &lines, want, line)
 }
 
 /// Whether a line is read inside as many elements as there may be.
 fn is_read_at_the_limit(alloc: Global) -> Result<bool, AllocError> {
     let lines = nested(alloc, MAX_NESTING, "-x", MAX_NESTING)?;
-    Ok(read_block(alloc, &lines).is_ok())
+    Ok(read_block(alloc, &lines).is_ok() && read_flat_block(alloc, &lines).is_ok())
 }
 
 #[test]

@@ -3,9 +3,8 @@
 use super::declared::sources;
 use super::{Pair, expect, sections_of};
 use ncq_base::{Bytes, Shared, bytes_of};
-use ncq_pyx::Written;
+use ncq_flat::Written;
 use ncq_source::{Change, Entry, Portion, Sections, SourceId};
-use ncq_tree::string_value;
 use std::alloc::{AllocError, Global};
 use std::hash::RandomState;
 use std::process::Abort;
@@ -21,7 +20,7 @@ const SEEN: (&str, &[Pair]) = (
 /// The string value of an element, or a bar where there is none.
 fn value_of(alloc: Global, element: Option<&Shared<Written>>) -> Result<Bytes, AllocError> {
     match element {
-        Some(element) => string_value(alloc, &element.get().element().children),
+        Some(element) => element.get().string_value(alloc),
         None => bytes_of(alloc, b"|"),
     }
 }

@@ -1,28 +1,22 @@
 //! The keys of elements.
 
-use super::declared::{attribute, sources};
-use super::{Pair, expect, items_of};
-use ncq_base::{Bytes, Copied, bytes_of};
-use ncq_pyx::Item;
-use ncq_source::{Store, child_value, key_of};
-use ncq_tree::{Attribute, Attributes, Element, Forest, Node};
+use super::declared::sources;
+use super::{Pair, expect, items_of, put_by};
+use ncq_base::{Bytes, Shared};
+use ncq_flat::Written;
+use ncq_source::Store;
 use std::alloc::{AllocError, Global};
 use std::hash::RandomState;
 use std::process::Abort;
 use std::test::Fail;
 
-/// The element that the item puts.
-fn put_by(alloc: Global, item: Option<Item>) -> Result<Element, AllocError> {
-    match &item {
-        Some(Item::Put(element)) => element.get().element().copy(alloc),
-        _ => Err(AllocError),
+/// The element that the lines put first.
+fn element_of(alloc: Global, text: &str) -> Result<Shared<Written>, AllocError> {
+    let items = items_of(alloc, text)?;
+    match put_by(items.get(0)) {
+        Some(element) => element.share(),
+        None => Err(AllocError),
     }
-}
-
-/// The element that the lines put last.
-fn element_of(alloc: Global, text: &str) -> Result<Element, AllocError> {
-    let mut items = items_of(alloc, text)?.into_vec();
-    put_by(alloc, items.pop())
 }
 
 /// Elements, and their keys by the child `Symbol`: empty where there is none.
@@ -68,7 +62,7 @@ fn has_key(
     alloc: Global,
     store: &Store,
     name: &str,
-    element: &Element,
+    element: &Written,
     want: &str,
 ) -> Result<bool, AllocError> {
     let Some(id) = store.find(name.as_bytes()) else {
@@ -87,7 +81,7 @@ fn puts_key(
     want: &str,
 ) -> Result<bool, AllocError> {
     let element = element_of(alloc, text)?;
-    has_key(alloc, store, name, &element, want)
+    has_key(alloc, store, name, element.get(), want)
 }
 
 /// Compares the key of each element by the rule of the source.
@@ -110,82 +104,5 @@ fn a_key_is_one_value_that_is_not_empty(rt: HostRuntime) -> Result<(), Fail> {
     let seed = RandomState::new(&rt)?;
     expect_keys(&rt, rt.alloc(), seed, "quotes", BY_CHILD)?;
     expect_keys(&rt, rt.alloc(), seed, "c", BY_ATTRIBUTE)?;
-    Ok(())
-}
-
-fn attribute_of(alloc: Global, name: &[u8], value: &[u8]) -> Result<Attribute, AllocError> {
-    let name = bytes_of(alloc, name)?;
-    let value = bytes_of(alloc, value)?;
-    Ok(Attribute { name, value })
-}
-
-/// Two attributes of one name.
-fn same_attributes(alloc: Global) -> Result<Attributes, AllocError> {
-    let mut attributes = Attributes::new(alloc);
-    for _ in 0..2 {
-        attributes.push(attribute_of(alloc, b"id", b"7")?)?;
-    }
-    Ok(attributes)
-}
-
-/// `<id id=7 id=7/>`, which no lines spell.
-fn twice_keyed(alloc: Global) -> Result<Element, AllocError> {
-    let attributes = same_attributes(alloc)?;
-    let name = bytes_of(alloc, b"id")?;
-    Ok(Element {
-        name,
-        attributes,
-        children: Forest::new(alloc),
-    })
-}
-
-/// Whether that element has no key by the attribute `id`.
-fn twice_keyed_has_no_id(alloc: Global) -> Result<bool, AllocError> {
-    let element = twice_keyed(alloc)?;
-    let rule = attribute(alloc, "id")?;
-    let key = key_of(alloc, &rule, &element)?;
-    Ok(key.is_none())
-}
-
-/// The value of the node, where it is an element `id`.
-fn id_value(alloc: Global, node: &Node) -> Result<Option<Bytes>, AllocError> {
-    let name = bytes_of(alloc, b"id")?;
-    child_value(alloc, &name, node)
-}
-
-/// Whether the node is an element `id` without a text.
-fn is_empty_id(alloc: Global, node: &Node) -> Result<bool, AllocError> {
-    let value = id_value(alloc, node)?;
-    Ok(value.is_some_and(|v| v.as_slice().is_empty()))
-}
-
-/// Whether the node is no element `id`.
-fn is_no_id(alloc: Global, node: &Node) -> Result<bool, AllocError> {
-    let value = id_value(alloc, node)?;
-    Ok(value.is_none())
-}
-
-/// Whether that element is, as a node, an element `id` without a text.
-fn twice_keyed_is_empty(alloc: Global) -> Result<bool, AllocError> {
-    let node = Node::Element(twice_keyed(alloc)?);
-    is_empty_id(alloc, &node)
-}
-
-#[test]
-fn keys_of_elements_made_by_hand(rt: HostRuntime) -> Result<(), Fail> {
-    assert!(rt; twice_keyed_has_no_id(rt.alloc())?);
-    assert!(rt; twice_keyed_is_empty(rt.alloc())?);
-    Ok(())
-}
-
-/// Whether a text `id` is no element `id`.
-fn text_is_no_id(alloc: Global) -> Result<bool, AllocError> {
-    let text = Node::Text(bytes_of(alloc, b"id")?);
-    is_no_id(alloc, &text)
-}
-
-#[test]
-fn a_text_is_no_child(rt: HostRuntime) -> Result<(), Fail> {
-    assert!(rt; text_is_no_id(rt.alloc())?);
     Ok(())
 }

@@ -8,7 +8,6 @@ use super::{Pair, expect, expect_bytes, sections_of};
 use ncq_base::Bytes;
 use ncq_pyx::write_element;
 use ncq_source::{Change, ChangeError, SourceId, Store};
-use ncq_tree::string_value;
 use std::alloc::{AllocError, Global};
 use std::hash::RandomState;
 use std::process::Abort;
@@ -63,7 +62,7 @@ fn values_of(alloc: Global, store: &Store, name: &str) -> Result<Vec<Bytes>, All
     let mut values = Vec::new(alloc);
     if let Some(id) = store.find(name.as_bytes()) {
         for at in 0..store.size(id) {
-            values.push(string_value(alloc, &store.element(id, at).children)?)?;
+            values.push(store.written(id, at).get().string_value(alloc)?)?;
         }
     }
     Ok(values)
@@ -457,7 +456,8 @@ fn new_lines_of(alloc: Global, store: &Store, name: &str) -> Result<Vec<u8>, All
     let mut out = Vec::new(alloc);
     if let Some(id) = store.find(name.as_bytes()) {
         for at in 0..store.size(id) {
-            write_element(store.element(id, at), &mut out)?;
+            let tree = store.written(id, at).get().element(alloc)?;
+            write_element(&tree, &mut out)?;
         }
     }
     Ok(out)

@@ -3,11 +3,10 @@
 ghost use Rattle.std.specs.Prelude.{IfOk};
 ghost use Rattle.ncq_source.specs.StoreStates.{AreDeclared, IsDeclared};
 
-use super::{expect_bytes, items_of, sections_of};
+use super::{expect_bytes, items_of, put_by, sections_of};
 use ncq_base::bytes_of;
-use ncq_pyx::{Item, Items};
+use ncq_flat::{Items, Written};
 use ncq_source::{Change, Entry, Key, SourceId, Store};
-use ncq_tree::Element;
 use std::alloc::Global;
 use std::hash::RandomState;
 use std::process::Abort;
@@ -43,7 +42,7 @@ fn expect_key(
     alloc: Global,
     store: &Store,
     id: SourceId,
-    element: &Element,
+    element: &Written,
 ) -> Result<(), Fail>
     requires { IsDeclared store.now id }
 {
@@ -51,14 +50,6 @@ fn expect_key(
     let key = key.ok_or("a key is missing")?;
     expect_bytes(rt, key.as_slice(), b"INTC", "");
     Ok(())
-}
-
-/// The element that the first item puts.
-fn first_put(items: &Items) -> Option<&Element> {
-    match items.get(0) {
-        Some(Item::Put(element)) => Some(element.get().element()),
-        _ => None,
-    }
 }
 
 /// The first item puts an element of the key INTC.
@@ -71,10 +62,10 @@ fn expect_first_key(
 ) -> Result<(), Fail>
     requires { IsDeclared store.now id }
 {
-    let put = first_put(items);
+    let put = put_by(items.get(0));
     assert!(rt; put.is_some());
     if let Some(element) = put {
-        expect_key(rt, alloc, store, id, element)?;
+        expect_key(rt, alloc, store, id, element.get())?;
     }
     Ok(())
 }

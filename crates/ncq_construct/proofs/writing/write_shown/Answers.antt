@@ -21,5 +21,5 @@ returns-in_ok-write_pending-in-Element c =
     (lines_are_written (shown_nodes c.args.shown) c.in-Element.element.now c.lines.result.now
     c.args.pending.now.items c.write_pending.new.pending.items c.args.out.now.items
     c.write_pending.new.out.items c.extend_from_slice-in-Element.new.self.items
-    (ap shown_nodes c.in-Element.is) c.lines.ensures
+    (ap shown_nodes c.in-Element.is) c.lines.ensures.written
     c.in_ok-write_pending-in-Element.ensures.lines c.in_ok-write_pending-in-Element.ensures.none)

@@ -54,7 +54,7 @@ add_found-returns-in_ok-found_at-in-Element t c =
 
 pub found_at-found_in_content-requires : goal.found_at-found_in_content-requires
 found_at-found_in_content-requires t c =
-    (search (rules, the_lemmas), content_formed c.args.shape.now c.requires)
+    (search (rules, the_lemmas), content_formed c.args.shape.now c.requires.formed)
 
 pub found_in_content-found_in_parts-requires : goal.found_in_content-found_in_parts-requires
 found_in_content-found_in_parts-requires t c =

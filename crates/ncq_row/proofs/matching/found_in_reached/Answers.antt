@@ -11,7 +11,7 @@ use Rattle.ncq_row.proofs.FormedLaws.{tag_formed}
 use Rattle.ncq_row.proofs.matching.found_in_reached.Goals as goal
 
 pub reached_by_arm-requires : goal.reached_by_arm-requires
-reached_by_arm-requires c = tag_formed c.args.shape.now c.requires
+reached_by_arm-requires c = tag_formed c.args.shape.now c.requires.formed
 
 pub returns : goal.returns
 returns c =

@@ -1,0 +1,10 @@
+pub mod ItemLaws
+pub mod SaidLaws
+pub mod FlatLaws
+pub mod BehindLaws
+pub mod InsideLaws
+pub mod CheckedLaws
+pub mod RestLaws
+pub mod BareLaws
+pub mod FrontLaws
+pub mod SameLaws

@@ -1,0 +1,9 @@
+pub mod Flat
+pub mod Behind
+pub mod Insides
+pub mod Sights
+pub mod Checked
+pub mod Said
+pub mod Asked
+pub mod Items
+pub mod Rests
