@@ -11,15 +11,16 @@ use crate::tree::{Tree, lone};
 use indexmap::IndexMap;
 use ncq_base::{Atom, FileId, Interval, Sequence};
 use std::alloc::{AllocError, Global};
+use std::hash::RandomState;
 use std::marker::Model;
 
 /// Numbers of files in order.
 pub type Files = Sequence<FileId>;
 
-/// The files of intervals. An interval is found by its hash, and by a value in it in a tree that
-/// has the same intervals and files.
+/// The files of intervals. An interval is found by its hash under a seed, and by a value in it in a
+/// tree that has the same intervals and files.
 pub struct RangeTable {
-    files: IndexMap<Interval, FileId>,
+    files: IndexMap<Interval, FileId, RandomState>,
     tree: Tree,
     alloc: Global,
 }
@@ -55,12 +56,12 @@ impl Model for RangeTable {
 }
 
 impl RangeTable {
-    /// A table without intervals.
-    pub fn new(alloc: Global) -> RangeTable
+    /// A table without intervals, which are placed by the seed.
+    pub fn new(alloc: Global, seed: RandomState) -> RangeTable
         ensures { result ≡ [] }
     {
         RangeTable {
-            files: IndexMap::new(alloc),
+            files: IndexMap::with_hasher(alloc, seed),
             tree: Tree::new(),
             alloc,
         }

@@ -5,6 +5,7 @@ use crate::tree::{Tree, lone};
 use crate::{EqTable, RangeTable};
 use ncq_base::{Atom, End, FileId, Interval, bytes_of, in_interval};
 use std::alloc::{AllocError, Global};
+use std::hash::RandomState;
 use std::process::Abort;
 use std::test::Fail;
 
@@ -112,8 +113,8 @@ fn text_atom(alloc: Global, text: &[u8]) -> Result<Atom, AllocError> {
 }
 
 /// The table of all the intervals, the last one first.
-fn table(alloc: Global) -> Result<RangeTable, AllocError> {
-    let mut table = RangeTable::new(alloc);
+fn table(alloc: Global, seed: RandomState) -> Result<RangeTable, AllocError> {
+    let mut table = RangeTable::new(alloc, seed);
     let mut file = INTERVALS.len() as u64;
     for row in INTERVALS.iter().rev() {
         put(&mut table, interval(*row), file)?;
@@ -146,7 +147,7 @@ fn expect_intervals(
 
 #[test]
 fn an_interval_takes_the_numbers_between_its_ends(rt: HostRuntime) -> Result<(), Fail> {
-    let mut table = table(rt.alloc())?;
+    let mut table = table(rt.alloc(), RandomState::new(&rt)?)?;
     expect_intervals(&rt, rt.alloc(), &mut table)?;
     Ok(())
 }
@@ -200,7 +201,7 @@ fn expect_atoms(rt: &impl Abort, alloc: Global, table: &mut EqTable) -> Result<(
 
 #[test]
 fn an_atom_has_the_file_that_it_was_put_in_with(rt: HostRuntime) -> Result<(), Fail> {
-    let mut table = EqTable::new(rt.alloc())?;
+    let mut table = EqTable::new(rt.alloc(), RandomState::new(&rt)?)?;
     expect_atoms(&rt, rt.alloc(), &mut table)?;
     Ok(())
 }
@@ -249,8 +250,8 @@ fn mixed(i: u32) -> Interval
 }
 
 /// The table of the thousand.
-fn filled(alloc: Global) -> Result<RangeTable, AllocError> {
-    let mut table = RangeTable::new(alloc);
+fn filled(alloc: Global, seed: RandomState) -> Result<RangeTable, AllocError> {
+    let mut table = RangeTable::new(alloc, seed);
     for i in 0..1000u32 {
         put(&mut table, mixed(i), i as u64)?;
     }
@@ -299,7 +300,7 @@ fn expect_thousand(
 
 #[test]
 fn a_thousand_intervals_are_told_as_a_plain_list_tells_them(rt: HostRuntime) -> Result<(), Fail> {
-    let mut table = filled(rt.alloc())?;
+    let mut table = filled(rt.alloc(), RandomState::new(&rt)?)?;
     expect_thousand(&rt, rt.alloc(), &mut table)?;
     Ok(())
 }

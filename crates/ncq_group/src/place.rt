@@ -24,6 +24,7 @@ use ncq_plan::Expr;
 use ncq_shelf::{Inputs, Shelf};
 use ncq_source::Store;
 use std::alloc::{AllocError, Global};
+use std::hash::RandomState;
 use std::sync::ledger::Ledger;
 
 /// The number of the expression's file; where there is none, one is made, and one for each of its
@@ -31,6 +32,7 @@ use std::sync::ledger::Ledger;
 #[cycle(placing)]
 pub(crate) fn place<L: Ledger>(
     alloc: Global,
+    seed: RandomState,
     filed: &mut Filed,
     expr: &Expr,
     store: &Store,
@@ -50,11 +52,11 @@ pub(crate) fn place<L: Ledger>(
         × HasMade expr.now (world_in store.now) filed.old.shelf made steps.old steps.new
         × OnOk result (AllByRecursion (IsKept filed.new.shelf) made) }
 {
-    let inputs = place_inputs(alloc, filed, expr, store, steps)?;
+    let inputs = place_inputs(alloc, seed, filed, expr, store, steps)?;
     if let Some(number) = filed.shelf.find(expr) {
         return Ok(number);
     }
-    let number = put(alloc, filed, expr, inputs, store, steps)?;
+    let number = put(alloc, seed, filed, expr, inputs, store, steps)?;
     Ok(number)
 }
 
@@ -62,6 +64,7 @@ pub(crate) fn place<L: Ledger>(
 #[cycle(placing)]
 fn place_inputs<L: Ledger>(
     alloc: Global,
+    seed: RandomState,
     filed: &mut Filed,
     expr: &Expr,
     store: &Store,
@@ -86,16 +89,16 @@ fn place_inputs<L: Ledger>(
     match expr {
         Expr::Scan { .. } => Ok(Inputs::Nothing),
         Expr::EqSel { input, .. } => {
-            let number = place(alloc, filed, input.get(), store, steps)?;
+            let number = place(alloc, seed, filed, input.get(), store, steps)?;
             Ok(Inputs::One(number))
         }
         Expr::RangeSel { input, .. } => {
-            let number = place(alloc, filed, input.get(), store, steps)?;
+            let number = place(alloc, seed, filed, input.get(), store, steps)?;
             Ok(Inputs::One(number))
         }
         Expr::Join { left, right, .. } => {
-            let first = place(alloc, filed, left.get(), store, steps)?;
-            let second = place(alloc, filed, right.get(), store, steps)?;
+            let first = place(alloc, seed, filed, left.get(), store, steps)?;
+            let second = place(alloc, seed, filed, right.get(), store, steps)?;
             Ok(Inputs::Two(first, second))
         }
     }
@@ -104,6 +107,7 @@ fn place_inputs<L: Ledger>(
 /// A file for an expression that has none.
 fn put<L: Ledger>(
     alloc: Global,
+    seed: RandomState,
     filed: &mut Filed,
     expr: &Expr,
     inputs: Inputs,
@@ -124,7 +128,16 @@ fn put<L: Ledger>(
     ensures cost { steps.new ≤ steps.old + length (rows_in expr.now (world_in store.now)) }
 {
     let number = filed.next;
-    add_file(alloc, &mut filed.shelf, number, expr, inputs, store, steps)?;
+    add_file(
+        alloc,
+        seed,
+        &mut filed.shelf,
+        number,
+        expr,
+        inputs,
+        store,
+        steps,
+    )?;
     if let Err(refused) = filed.groups.count_in(&filed.shelf, number) {
         let _inputs = filed.shelf.remove(number);
         return Err(refused);
@@ -137,6 +150,7 @@ fn put<L: Ledger>(
 /// selection by an interval are shared with others, and what they lack is added there.
 fn add_file<L: Ledger>(
     alloc: Global,
+    seed: RandomState,
     shelf: &mut Shelf,
     number: u64,
     expr: &Expr,
@@ -158,6 +172,6 @@ fn add_file<L: Ledger>(
         return shelf.add_ranged(alloc, number, expr, inputs, store.changes(), steps);
     }
     let rows = first_rows(alloc, shelf, expr, inputs, store, steps)?;
-    let content = MidFile::new(alloc, store.changes(), rows)?;
+    let content = MidFile::new(alloc, seed, store.changes(), rows)?;
     shelf.add(alloc, number, expr, inputs, content)
 }

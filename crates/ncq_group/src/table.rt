@@ -38,19 +38,25 @@ use ncq_shelf::Shelf;
 use ncq_signature::GroupLines;
 use ncq_source::{Change, Store};
 use std::alloc::{AllocError, Global};
+use std::hash::RandomState;
 use std::marker::Model;
 use std::sync::ledger::Ledger;
 
 /// The files of all installed expressions and their subexpressions, each once, the number that the
 /// next new file gets, and the change up to which the files stand.
 pub struct GroupTable {
+    seed: RandomState,
     filed: Filed,
     number: u64,
 }
 
 impl Drop for GroupTable {
     fn drop(self) {
-        let GroupTable { filed, number: _ } = self;
+        let GroupTable {
+            seed: _,
+            filed,
+            number: _,
+        } = self;
         drop(filed);
     }
 }
@@ -69,15 +75,17 @@ impl Model for GroupTable {
 }
 
 impl GroupTable {
-    /// No file; both numbers are 0. It takes no memory.
-    pub fn new(alloc: Global) -> GroupTable
+    /// No file; both numbers are 0. What finds files and rows is placed by the seed. It takes no
+    /// memory.
+    pub fn new(alloc: Global, seed: RandomState) -> GroupTable
         ensures files { result.files ≡ empty }
         ensures next_file { result.next_file ≡ 0 }
         ensures number { result.number ≡ 0 }
     {
         GroupTable {
+            seed,
             filed: Filed {
-                shelf: Shelf::new(alloc),
+                shelf: Shelf::new(alloc, seed),
                 groups: Groups::new(alloc),
                 next: 0,
             },
@@ -204,7 +212,7 @@ impl GroupTable {
             → steps.new ≤ steps.old + rows_of_all (world_in store.now) missing }
     {
         let low = self.filed.next;
-        match place(alloc, &mut self.filed, expr, store, steps) {
+        match place(alloc, self.seed, &mut self.filed, expr, store, steps) {
             Ok(number) => {
                 let uses = self.filed.shelf.uses(number);
                 self.filed.shelf.set_uses(number, uses + 1);

@@ -6,11 +6,12 @@ ghost use Rattle.ncq_holders.specs.Held.{is_holder, Notes, Forgets, HaveSame};
 use indexmap::{IndexMap, IndexSet};
 use ncq_base::{Atom, Copied};
 use std::alloc::{AllocError, Global};
+use std::hash::RandomState;
 use std::marker::Model;
 
 /// The numbers of files by atom. Contracts see each atom with the numbers of its files.
 pub struct Holders {
-    files: IndexMap<Atom, IndexSet<u64>>,
+    files: IndexMap<Atom, IndexSet<u64>, RandomState>,
 }
 
 impl Drop for Holders {
@@ -33,12 +34,13 @@ impl Model for Holders {
 }
 
 impl Holders {
-    /// No file has had an atom.
-    pub fn new(alloc: Global) -> Holders
+    /// No file has had an atom. Atoms are placed by the seed, so that nobody who does not know it can
+    /// choose atoms that fall together.
+    pub fn new(alloc: Global, seed: RandomState) -> Holders
         ensures { result ≡ [] }
     {
         Holders {
-            files: IndexMap::new(alloc),
+            files: IndexMap::with_hasher(alloc, seed),
         }
     }
 

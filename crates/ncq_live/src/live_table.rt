@@ -78,8 +78,8 @@ impl Model for LiveTable {
 }
 
 impl LiveTable {
-    /// Nobody and no file, at instant 0 and change 0. Names are placed by the seed. It takes no
-    /// memory.
+    /// Nobody and no file, at instant 0 and change 0. Names, constants and rows are placed by the
+    /// seed. It takes no memory.
     pub fn new(alloc: Global, seed: RandomState) -> LiveTable
         ensures files { result.table.files ≡ empty }
         ensures next_file { result.table.next_file ≡ 0 }
@@ -88,7 +88,7 @@ impl LiveTable {
         ensures instant { result.instant ≡ 0 }
     {
         LiveTable {
-            groups: GroupTable::new(alloc),
+            groups: GroupTable::new(alloc, seed),
             book: Book::new(alloc, seed),
             wear: Wear::new(alloc),
         }

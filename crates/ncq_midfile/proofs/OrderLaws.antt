@@ -88,7 +88,7 @@ pub order_taken : (old new : Order) (places : List ℕ) (rows : List SignedRow) 
     → Covers new.index (taken_out places rows) → IsOrder new (taken_out places rows)
 order_taken old new places rows o full slot values slots covers =
     let left = taken_out places rows in
-    let long : length old.index.hashes ≡ length rows = ap length full ∙ length-map rows (row_hash old.index.slots) in
+    let long : length old.index.hashes ≡ length rows = ap length full ∙ length-map rows (row_hash old.index.seed old.index.slots) in
     let known : AreValued old.slot old.values.keys rows = subst (AreValued old.slot old.values.keys) (take_all (length old.index.hashes) rows (omega arith)) o.valued in
     let same : AreValued old.slot old.values.keys left = taken_each (λ (r : SignedRow). is_known (atom_at r.row old.slot) old.values.keys ≡ true) places rows known in
     record {

@@ -29,7 +29,7 @@ pub record ArePairs (places : List ℕ) (rows : List SignedRow) : Type 0 where
 
 -- the index has the hashes of all of the rows
 abbrev pub IsFull : List SignedRow → an_index → Type 0
-IsFull rows index = index.hashes ≡ map (row_hash index.slots) rows
+IsFull rows index = index.hashes ≡ map (row_hash index.seed index.slots) rows
 
 -- the finder has all of the rows
 abbrev pub HasAll : List SignedRow → Finder → Type 0

@@ -13,11 +13,13 @@ use crate::signed::{Places, SignedRow};
 use crate::within::{early_within, only_within};
 use ncq_base::Interval;
 use std::alloc::{AllocError, Global};
+use std::hash::RandomState;
 
 /// The places of the rows with numbers of two intervals, each in its slot, that are left at `n`:
 /// `outer` has the rows of which those of `interval` are wanted.
 pub(crate) fn interval_within(
     alloc: Global,
+    seed: RandomState,
     rows: &[SignedRow],
     finders: &[Finder],
     slot: usize,
@@ -37,7 +39,7 @@ pub(crate) fn interval_within(
         (of_rows (is_within outer_slot outer.now) rows.now) (rows_at places rows.now)) }
 {
     let both = early_of_both(alloc, rows, finders, slot, interval, n, outer_slot, outer)?;
-    let left = left_over(alloc, rows, both.as_slice())?;
+    let left = left_over(alloc, seed, rows, both.as_slice())?;
     Ok(left)
 }
 

@@ -11,6 +11,7 @@ use crate::signed::{Places, SignedRow};
 use indexmap::IndexMap;
 use ncq_row::Row;
 use std::alloc::{AllocError, Global};
+use std::hash::RandomState;
 
 /// How many of the last rows are looked at one by one.
 const NEAR: usize = 16;
@@ -58,7 +59,12 @@ pub(crate) fn places_from(alloc: Global, from: usize, count: usize) -> Result<Pl
 }
 
 /// The places of the rows that are left at `n`.
-pub(crate) fn content_of(alloc: Global, rows: &[SignedRow], n: u64) -> Result<Places, AllocError>
+pub(crate) fn content_of(
+    alloc: Global,
+    seed: RandomState,
+    rows: &[SignedRow],
+    n: u64,
+) -> Result<Places, AllocError>
     requires parted { AreParted n rows.now }
     requires sound { IsSoundAt n rows.now }
     ensures rising { IfOk result (λ places. AreRising 0 places) }
@@ -69,14 +75,15 @@ pub(crate) fn content_of(alloc: Global, rows: &[SignedRow], n: u64) -> Result<Pl
     ensures content { IfOk result (λ places. IsContent n rows.now (rows_at places rows.now)) }
 {
     let all = first_places(alloc, count_up_to(rows, n))?;
-    let left = left_over(alloc, rows, all.as_slice())?;
+    let left = left_over(alloc, seed, rows, all.as_slice())?;
     Ok(left)
 }
 
 /// The places of the rows that came in and are left after each row that went out has struck out an
-/// equal one.
+/// equal one. Rows are counted in a table under the seed.
 pub(crate) fn left_over(
     alloc: Global,
+    seed: RandomState,
     rows: &[SignedRow],
     candidates: &[usize],
 ) -> Result<Places, AllocError>
@@ -87,7 +94,7 @@ pub(crate) fn left_over(
     ensures within { IfOk result (λ left. All (λ place. place < length rows.now) left) }
     ensures counts { IfOk result (λ left. IsLeft left candidates.now rows.now) }
 {
-    let mut lost = counts_of(alloc, rows, candidates, false)?;
+    let mut lost = counts_of(alloc, seed, rows, candidates, false)?;
     let mut left = Places::new(alloc);
     for place in candidates {
         let kept = stays(&mut lost, &rows[*place]);
@@ -106,18 +113,19 @@ pub(crate) fn push_where(places: &mut Places, place: usize, wanted: bool) -> Res
     Ok(())
 }
 
-/// How often each row came in, or how often it went out.
+/// How often each row came in, or how often it went out, in a table under the seed.
 pub(crate) fn counts_of<'a>(
     alloc: Global,
+    seed: RandomState,
     rows: &'a [SignedRow],
     candidates: &[usize],
     plus: bool,
-) -> Result<IndexMap<&'a Row, u64>, AllocError>
+) -> Result<IndexMap<&'a Row, u64, RandomState>, AllocError>
     requires { All (λ place. place < length rows.now) candidates.now }
     ensures { IfOk result (λ counts. CountsOf plus (signed_at candidates.now rows.now)
         counts.entries) }
 {
-    let mut counts = IndexMap::new(alloc);
+    let mut counts = IndexMap::with_hasher(alloc, seed);
     for place in candidates {
         note_sign(&mut counts, &rows[*place], plus)?;
     }
@@ -126,7 +134,7 @@ pub(crate) fn counts_of<'a>(
 
 /// Counts the row once more, if it came in, or if it went out.
 fn note_sign<'a>(
-    counts: &mut IndexMap<&'a Row, u64>,
+    counts: &mut IndexMap<&'a Row, u64, RandomState>,
     signed: &'a SignedRow,
     plus: bool,
 ) -> Result<(), AllocError>
@@ -142,7 +150,7 @@ fn note_sign<'a>(
 }
 
 /// Whether the row came in and stays; a row that came in and was lost takes one of its losses away.
-fn stays<'a>(lost: &mut IndexMap<&'a Row, u64>, signed: &'a SignedRow) -> bool
+fn stays<'a>(lost: &mut IndexMap<&'a Row, u64, RandomState>, signed: &'a SignedRow) -> bool
     ensures { (q : _) → IsStrike (is_row q signed.now.row) signed.now.plus result
         (loss_count q lost.old.entries) (loss_count q lost.new.entries) }
 {
@@ -153,7 +161,10 @@ fn stays<'a>(lost: &mut IndexMap<&'a Row, u64>, signed: &'a SignedRow) -> bool
 }
 
 /// One more loss of the row.
-fn add_loss<'a>(lost: &mut IndexMap<&'a Row, u64>, row: &'a Row) -> Result<(), AllocError>
+fn add_loss<'a>(
+    lost: &mut IndexMap<&'a Row, u64, RandomState>,
+    row: &'a Row,
+) -> Result<(), AllocError>
     requires { loss_count row.now lost.old.entries < 2 ^ 64 - 1 }
     ensures { OnOk result ((q : _) → loss_count q lost.new.entries
         ≡ loss_count q lost.old.entries + cond (is_row q row.now) 1 0) }
@@ -167,7 +178,7 @@ fn add_loss<'a>(lost: &mut IndexMap<&'a Row, u64>, row: &'a Row) -> Result<(), A
 }
 
 /// Takes one loss of the row away, if there is one.
-pub(crate) fn take_loss<'a>(lost: &mut IndexMap<&'a Row, u64>, row: &'a Row) -> bool
+pub(crate) fn take_loss<'a>(lost: &mut IndexMap<&'a Row, u64, RandomState>, row: &'a Row) -> bool
     ensures none { result ≡ false → loss_count row.now lost.old.entries ≡ 0 }
     ensures counts { (q : _) → loss_count q lost.new.entries + cond (result && is_row q row.now) 1 0
         ≡ loss_count q lost.old.entries }

@@ -28,10 +28,12 @@ use crate::within::interval_in;
 use ncq_base::{Atom, Interval};
 use ncq_row::{Row, RowKey, Rows};
 use std::alloc::{AllocError, Global};
+use std::hash::RandomState;
 use std::marker::Model;
 
 /// The signed rows of one expression, and what finds the first of them.
 pub struct MidFile {
+    seed: RandomState,
     base: u64,
     rows: Vec<SignedRow>,
     finders: Vec<Finder>,
@@ -41,6 +43,7 @@ pub struct MidFile {
 impl Drop for MidFile {
     fn drop(self) {
         let MidFile {
+            seed: _,
             base: _,
             rows,
             finders,
@@ -65,15 +68,22 @@ impl Model for MidFile {
 }
 
 impl MidFile {
-    /// A file whose content at `base` are these rows.
-    pub fn new(alloc: Global, base: u64, rows: Rows) -> Result<MidFile, AllocError>
+    /// A file whose content at `base` are these rows. Its indexes and tables place rows by the
+    /// seed, so that nobody who does not know it can choose rows that fall together.
+    pub fn new(
+        alloc: Global,
+        seed: RandomState,
+        base: u64,
+        rows: Rows,
+    ) -> Result<MidFile, AllocError>
         ensures base { IfOk result (λ file. file.base ≡ base) }
         ensures rows { IfOk result (λ file. file.rows ≡ map (gained_at base) rows) }
     {
         let rows = all_gained(alloc, base, rows)?;
         let mut finders = Vec::new(alloc);
-        fill_whole(alloc, &mut finders, rows.as_slice())?;
+        fill_whole(alloc, seed, &mut finders, rows.as_slice())?;
         Ok(MidFile {
+            seed,
             base,
             rows,
             finders,
@@ -98,7 +108,12 @@ impl MidFile {
         ensures ok { OnOk result (self.new.rows ≡ self.old.rows ++ row ∷ []) }
         ensures err { OnErr result (self.new ≡ self.old) }
     {
-        grow_whole(self.alloc, &mut self.finders, self.rows.as_slice())?;
+        grow_whole(
+            self.alloc,
+            self.seed,
+            &mut self.finders,
+            self.rows.as_slice(),
+        )?;
         self.rows.push(row)?;
         Ok(())
     }
@@ -172,7 +187,7 @@ impl MidFile {
         ensures content { IfOk result (λ places.
             IsContent n self.now.rows (rows_at places self.now.rows)) }
     {
-        content_of(alloc, self.rows.as_slice(), n)
+        content_of(alloc, self.seed, self.rows.as_slice(), n)
     }
 
     /// The places of the rows that are left at `n` and have these atoms in the slots.
@@ -198,6 +213,7 @@ impl MidFile {
         let atoms = atoms_of(alloc, key)?;
         matching_in(
             alloc,
+            self.seed,
             self.rows.as_slice(),
             self.finders.as_slice(),
             slots,
@@ -228,6 +244,7 @@ impl MidFile {
     {
         matching_in(
             alloc,
+            self.seed,
             self.rows.as_slice(),
             self.finders.as_slice(),
             &[slot],
@@ -256,6 +273,7 @@ impl MidFile {
     {
         interval_in(
             alloc,
+            self.seed,
             self.rows.as_slice(),
             self.finders.as_slice(),
             slot,
@@ -270,7 +288,13 @@ impl MidFile {
         requires { HaveSlots slots.now self.old.rows }
         ensures { self.new ≡ self.old }
     {
-        keep_index(alloc, &mut self.finders, self.rows.as_slice(), slots)
+        keep_index(
+            alloc,
+            self.seed,
+            &mut self.finders,
+            self.rows.as_slice(),
+            slots,
+        )
     }
 
     /// Gives up what finds rows by the atoms at these slots. It changes no answer and takes no
@@ -296,7 +320,13 @@ impl MidFile {
         requires { HaveSlots (slot ∷ []) self.old.rows }
         ensures { self.new ≡ self.old }
     {
-        keep_order(alloc, &mut self.finders, self.rows.as_slice(), slot)
+        keep_order(
+            alloc,
+            self.seed,
+            &mut self.finders,
+            self.rows.as_slice(),
+            slot,
+        )
     }
 
     /// Gives up what finds rows by the number in a slot. It changes no answer and takes no memory.
@@ -341,7 +371,7 @@ impl MidFile {
             self.strike(n);
             return Ok(());
         }
-        let Some(places) = pairs(alloc, rows, &mut self.finders, self.base)? else {
+        let Some(places) = pairs(alloc, self.seed, rows, &mut self.finders, self.base)? else {
             return self.gather(alloc, n);
         };
         forget_all(&mut self.finders, rows, places.as_slice());
@@ -372,7 +402,7 @@ impl MidFile {
         ensures left { OnOk result (AreLeftAt n self.old.rows self.new.rows) }
         ensures err { OnErr result (self.new ≡ self.old) }
     {
-        let places = left_at(alloc, self.rows.as_slice(), n)?;
+        let places = left_at(alloc, self.seed, self.rows.as_slice(), n)?;
         keep_at(&mut self.rows, places.as_slice());
         self.finders.clear();
         self.base = n;

@@ -14,6 +14,7 @@ use crate::index::Index;
 use crate::order::Order;
 use crate::signed::SignedRow;
 use std::alloc::{AllocError, Global};
+use std::hash::RandomState;
 
 /// What finds the first rows of a file, by atoms or by a number.
 #[derive(Drop)]
@@ -63,6 +64,7 @@ impl Finder {
 /// An index on the slots is among the finders, if only one without rows.
 pub(crate) fn open_index(
     alloc: Global,
+    seed: RandomState,
     finders: &mut Vec<Finder>,
     slots: &[usize],
 ) -> Result<(), AllocError>
@@ -72,7 +74,7 @@ pub(crate) fn open_index(
     if index_at(finders.as_slice(), slots).is_some() {
         return Ok(());
     }
-    finders.push(Finder::Index(Index::new(alloc, slots)?))?;
+    finders.push(Finder::Index(Index::new(alloc, seed, slots)?))?;
     Ok(())
 }
 
@@ -80,6 +82,7 @@ pub(crate) fn open_index(
 /// has not the slots. After an error each finder has fewer rows.
 pub(crate) fn keep_index(
     alloc: Global,
+    seed: RandomState,
     finders: &mut Vec<Finder>,
     rows: &[SignedRow],
     slots: &[usize],
@@ -94,7 +97,7 @@ pub(crate) fn keep_index(
         index.fill(rows)?;
         return Ok(());
     }
-    let mut index = Index::new(alloc, slots)?;
+    let mut index = Index::new(alloc, seed, slots)?;
     index.fill(rows)?;
     finders.push(Finder::Index(index))?;
     Ok(())
@@ -114,6 +117,7 @@ pub(crate) fn lose_index(finders: &mut Vec<Finder>, slots: &[usize])
 /// the slot. After an error each finder has fewer rows.
 pub(crate) fn keep_order(
     alloc: Global,
+    seed: RandomState,
     finders: &mut Vec<Finder>,
     rows: &[SignedRow],
     slot: usize,
@@ -128,7 +132,7 @@ pub(crate) fn keep_order(
         order.fill(rows)?;
         return Ok(());
     }
-    let mut order = Order::new(alloc, slot)?;
+    let mut order = Order::new(alloc, seed, slot)?;
     order.fill(rows)?;
     finders.push(Finder::Order(order))?;
     Ok(())

@@ -1,8 +1,8 @@
 //! Indexes of rows by the atoms in some slots.
 //!
-//! An index has the hashes of the atoms of the first rows, chained by equal hashes. The hash is
-//! std's with a fixed start, and no seed: whoever chooses atoms can make hashes meet. Atoms are
-//! always compared as well, so that this costs time and changes no answer.
+//! An index has the hashes of the atoms of the first rows, chained by equal hashes. It hashes them
+//! under the seed of its file, so that nobody who does not know it can choose atoms whose hashes
+//! meet. Atoms are always compared as well: hashes that meet cost time and change no answer.
 ghost use Rattle.std.specs.Prelude.{◌≡◌, ◌++◌, ◌<◌, ◌≤◌, [], length, take, drop};
 ghost use Rattle.std.specs.Prelude.{IfOk, IfSome, OnOk, IsTrue};
 ghost use Rattle.std.specs.List.{All};
@@ -20,22 +20,28 @@ use crate::matching::is_wanted;
 use crate::signed::{Places, SignedRow};
 use ncq_row::Row;
 use std::alloc::{AllocError, Global};
-use std::hash::{FoldHasher, Hash, Hasher};
+use std::hash::{BuildHasher, Hash, Hasher, RandomState};
 
 /// The hashes of the first rows' atoms in some slots.
 #[derive(Drop)]
 pub(crate) struct Index {
+    seed: RandomState,
     slots: Places,
     hashes: Chains,
 }
 
 impl Index {
-    /// An index on the slots that has no row yet.
-    pub(crate) fn new(alloc: Global, slots: &[usize]) -> Result<Index, AllocError>
+    /// An index on the slots that has no row yet. It hashes atoms under the seed.
+    pub(crate) fn new(
+        alloc: Global,
+        seed: RandomState,
+        slots: &[usize],
+    ) -> Result<Index, AllocError>
         ensures slots { IfOk result (λ index. index.slots ≡ slots.now) }
         ensures hashes { IfOk result (λ index. index.hashes ≡ []) }
     {
         Ok(Index {
+            seed,
             slots: Places::from_vec(Vec::from_slice(alloc, slots)?),
             hashes: Chains::new(alloc),
         })
@@ -87,7 +93,8 @@ impl Index {
             if !fits(row, self.slots.as_slice()) {
                 return Ok(false);
             }
-            self.hashes.push(hash_at(row, self.slots.as_slice()))?;
+            self.hashes
+                .push(hash_at(self.seed, row, self.slots.as_slice()))?;
         }
         Ok(true)
     }
@@ -158,7 +165,9 @@ pub(crate) fn push_indexed(
         ++ places_where (is_wanted index.now.slots key.now n) from
         (drop from (take (length index.now.hashes) rows.now))) }
 {
-    let chained = index.hashes.places_of(alloc, hash_of(key), from)?;
+    let chained = index
+        .hashes
+        .places_of(alloc, hash_of(index.seed, key), from)?;
     push_chosen(
         places,
         rows,
@@ -190,24 +199,24 @@ fn push_chosen(
     Ok(())
 }
 
-/// The hash of atoms.
+/// The hash of atoms under the seed.
 #[tactic(auto, using(crate::proofs::FedLaws::fed_more))]
-fn hash_of(key: &[KeyAtom<'_>]) -> u64
-    ensures { result ≡ key_hash key.now }
+fn hash_of(seed: RandomState, key: &[KeyAtom<'_>]) -> u64
+    ensures { result ≡ key_hash seed key.now }
 {
-    let mut state = FoldHasher::default();
+    let mut state = seed.build_hasher();
     for atom in key {
         atom.get().hash(&mut state);
     }
     state.finish()
 }
 
-/// The hash of the row's atoms in the slots.
-fn hash_at(row: &Row, slots: &[usize]) -> u64
+/// The hash of the row's atoms in the slots, under the seed.
+fn hash_at(seed: RandomState, row: &Row, slots: &[usize]) -> u64
     requires { All (λ slot. slot < length row.now) slots.now }
-    ensures { result ≡ key_hash (atoms_at row.now slots.now) }
+    ensures { result ≡ key_hash seed (atoms_at row.now slots.now) }
 {
-    let mut state = FoldHasher::default();
+    let mut state = seed.build_hasher();
     for slot in slots {
         row.atom(*slot).hash(&mut state);
     }

@@ -1,7 +1,7 @@
 //! What the rows of one expression were at each change, as one list of signed rows.
 //! Rows come in with the number of a change and a sign; the content at a change goes out as the
 //! places of the rows that are left. Numbers never fall, and what the file holds at its base are
-//! rows that came in. Indexes that a file may keep change no answer. A file without rows is 56
+//! rows that came in. Indexes that a file may keep change no answer. A file without rows is 72
 //! bytes, and nothing on the heap.
 #![tactic(auto)]
 

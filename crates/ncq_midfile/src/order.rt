@@ -25,6 +25,7 @@ use ncq_row::Row;
 use std::alloc::{AllocError, Global};
 use std::collections::BTreeSet;
 use std::collections::btree_set::Range;
+use std::hash::RandomState;
 
 /// How many rows can be gone through while one number is looked up.
 const ROWS_OF_A_LOOK_UP: usize = 8;
@@ -41,14 +42,14 @@ pub(crate) struct Order {
 }
 
 impl Order {
-    /// An order by the slot that has no row yet.
-    pub(crate) fn new(alloc: Global, slot: usize) -> Result<Order, AllocError>
+    /// An order by the slot that has no row yet. Its index hashes atoms under the seed.
+    pub(crate) fn new(alloc: Global, seed: RandomState, slot: usize) -> Result<Order, AllocError>
         ensures slot { IfOk result (λ order. order.slot ≡ slot) }
         ensures order { IfOk result (λ order. (rows : List a_signed_row) → IsOrder order rows) }
     {
         Ok(Order {
             slot,
-            index: Index::new(alloc, &[slot])?,
+            index: Index::new(alloc, seed, &[slot])?,
             values: BTreeSet::new(alloc),
         })
     }

@@ -18,12 +18,14 @@ use crate::whole::{fill_whole, find_whole};
 use indexmap::IndexMap;
 use ncq_row::Row;
 use std::alloc::{AllocError, Global};
+use std::hash::RandomState;
 
 /// The places of all rows that went out and of an equal row that came in for each, found by the
 /// index of whole rows, where all finders then have all rows. Where there is no such index, as in a
 /// file that is not large, or no such row, there is no answer.
 pub(crate) fn pairs(
     alloc: Global,
+    seed: RandomState,
     rows: &[SignedRow],
     finders: &mut Vec<Finder>,
     base: u64,
@@ -37,7 +39,7 @@ pub(crate) fn pairs(
         All (λ place. place < length rows.now) places)) }
     ensures pairs { IfOk result (λ o. IfSome o (λ places. ArePairs places rows.now)) }
 {
-    if !fill_whole(alloc, finders, rows)? {
+    if !fill_whole(alloc, seed, finders, rows)? {
         return Ok(None);
     }
     let Some(whole) = find_whole(finders.as_slice(), rows) else {

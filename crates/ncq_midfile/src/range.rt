@@ -19,6 +19,7 @@ use crate::signed::SignedRow;
 use ncq_base::Interval;
 use ncq_consttab::RangeTable;
 use std::alloc::{AllocError, Global};
+use std::hash::RandomState;
 use std::marker::Model;
 
 /// So few rows that went out are not worth a fold.
@@ -27,6 +28,7 @@ const FEW_LOST: usize = 64;
 /// The signed rows that some interval of a range group holds, each once. Each row has a number in
 /// the group's slot. `lost` is how many of the rows added since the last fold went out.
 pub struct RangeFile {
+    seed: RandomState,
     slot: usize,
     rows: Vec<SignedRow>,
     finders: Vec<Finder>,
@@ -37,6 +39,7 @@ pub struct RangeFile {
 impl Drop for RangeFile {
     fn drop(self) {
         let RangeFile {
+            seed: _,
             slot: _,
             rows,
             finders,
@@ -62,11 +65,13 @@ impl Model for RangeFile {
 }
 
 impl RangeFile {
-    /// A file without rows.
-    pub fn new(alloc: Global, slot: usize) -> RangeFile
+    /// A file without rows. Its indexes and tables place rows by the seed, so that nobody who does
+    /// not know it can choose rows that fall together.
+    pub fn new(alloc: Global, seed: RandomState, slot: usize) -> RangeFile
         ensures { result ≡ record { slot = slot; rows = [] } }
     {
         RangeFile {
+            seed,
             slot,
             rows: Vec::new(alloc),
             finders: Vec::new(alloc),
@@ -93,7 +98,7 @@ impl RangeFile {
         ensures err { OnErr result (self.new ≡ self.old) }
     {
         let rows = self.rows.as_slice();
-        keep_order(self.alloc, &mut self.finders, rows, self.slot)?;
+        keep_order(self.alloc, self.seed, &mut self.finders, rows, self.slot)?;
         let more = usize::from(!row.plus);
         self.rows.push(row)?;
         self.lost = self.lost.saturating_add(more);
@@ -148,7 +153,7 @@ impl RangeFile {
             → AreBoundTo row m self.old.rows bounds.now → IsLeftOneWay row m self.new.rows) }
         ensures err { OnErr result (self.new ≡ self.old) }
     {
-        let places = folded(alloc, self.rows.as_slice(), bounds)?;
+        let places = folded(alloc, self.seed, self.rows.as_slice(), bounds)?;
         cut_all(&mut self.finders, 0);
         keep_at(&mut self.rows, places.as_slice());
         self.lost = 0;
@@ -167,7 +172,13 @@ impl RangeFile {
         requires { HaveSlots slots.now self.old.rows }
         ensures { self.new ≡ self.old }
     {
-        keep_index(alloc, &mut self.finders, self.rows.as_slice(), slots)
+        keep_index(
+            alloc,
+            self.seed,
+            &mut self.finders,
+            self.rows.as_slice(),
+            slots,
+        )
     }
 
     /// Gives up what finds rows by the atoms at these slots. It changes no answer and takes no
@@ -184,7 +195,13 @@ impl RangeFile {
         requires { HaveSlots (slot ∷ []) self.old.rows }
         ensures { self.new ≡ self.old }
     {
-        keep_order(alloc, &mut self.finders, self.rows.as_slice(), slot)
+        keep_order(
+            alloc,
+            self.seed,
+            &mut self.finders,
+            self.rows.as_slice(),
+            slot,
+        )
     }
 
     /// Gives up what finds rows by the number in a slot. It changes no answer and takes no memory.
@@ -201,6 +218,11 @@ impl RangeFile {
         ensures numbers { HaveNumbers self.now.slot result.now }
     {
         self.rows.as_slice()
+    }
+
+    /// What the rows are placed by.
+    pub(crate) fn seed(&self) -> RandomState {
+        self.seed
     }
 
     pub(crate) fn finders(&self) -> &[Finder]

@@ -143,6 +143,7 @@ impl View<'_> {
             View::Whole(file) => file.content_at(alloc, n),
             View::Ranged { file, interval, .. } => content_within(
                 alloc,
+                file.seed(),
                 file.rows(),
                 file.finders(),
                 file.slot(),
@@ -178,6 +179,7 @@ impl View<'_> {
                 let atoms = atoms_of(alloc, key)?;
                 matching_within(
                     alloc,
+                    file.seed(),
                     file.rows(),
                     file.finders(),
                     slots,
@@ -214,6 +216,7 @@ impl View<'_> {
             View::Whole(file) => file.matching_atom(alloc, slot, atom, n),
             View::Ranged { file, interval, .. } => matching_within(
                 alloc,
+                file.seed(),
                 file.rows(),
                 file.finders(),
                 &[slot],
@@ -251,6 +254,7 @@ impl View<'_> {
                 ..
             } => interval_within(
                 alloc,
+                file.seed(),
                 file.rows(),
                 file.finders(),
                 slot,

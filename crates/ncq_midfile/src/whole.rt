@@ -9,6 +9,7 @@ use crate::finder::{Finder, fill_all, open_index};
 use crate::index::Index;
 use crate::signed::SignedRow;
 use std::alloc::{AllocError, Global};
+use std::hash::RandomState;
 
 /// A file of so many rows is large.
 const MANY_ROWS: usize = 256;
@@ -21,6 +22,7 @@ const ROWS_AT_ONCE: usize = 2;
 /// file is not large, or a finder cannot take a row, the answer is no.
 pub(crate) fn fill_whole(
     alloc: Global,
+    seed: RandomState,
     finders: &mut Vec<Finder>,
     rows: &[SignedRow],
 ) -> Result<bool, AllocError>
@@ -31,7 +33,7 @@ pub(crate) fn fill_whole(
     if rows.len() < MANY_ROWS {
         return Ok(false);
     }
-    open_whole(alloc, finders, width_of(rows))?;
+    open_whole(alloc, seed, finders, width_of(rows))?;
     fill_all(finders, rows)
 }
 
@@ -39,6 +41,7 @@ pub(crate) fn fill_whole(
 /// gets one without rows.
 pub(crate) fn grow_whole(
     alloc: Global,
+    seed: RandomState,
     finders: &mut Vec<Finder>,
     rows: &[SignedRow],
 ) -> Result<(), AllocError>
@@ -50,7 +53,7 @@ pub(crate) fn grow_whole(
     }
     let width = width_of(rows);
     let Some(at) = whole_at(finders.as_slice(), width) else {
-        return open_whole(alloc, finders, width);
+        return open_whole(alloc, seed, finders, width);
     };
     fill_some(&mut finders[at], rows)
 }
@@ -65,7 +68,12 @@ pub(crate) fn find_whole<'a>(finders: &'a [Finder], rows: &[SignedRow]) -> Optio
 }
 
 /// An index of rows of the width is among the finders, if only one without rows.
-fn open_whole(alloc: Global, finders: &mut Vec<Finder>, width: usize) -> Result<(), AllocError>
+fn open_whole(
+    alloc: Global,
+    seed: RandomState,
+    finders: &mut Vec<Finder>,
+    width: usize,
+) -> Result<(), AllocError>
     ensures { (rows : List a_signed_row)
         → AreFinders finders.old.items rows → AreFinders finders.new.items rows }
 {
@@ -73,7 +81,7 @@ fn open_whole(alloc: Global, finders: &mut Vec<Finder>, width: usize) -> Result<
         return Ok(());
     }
     let slots = first_places(alloc, width)?;
-    open_index(alloc, finders, slots.as_slice())
+    open_index(alloc, seed, finders, slots.as_slice())
 }
 
 /// The place of the index of rows of the width.

@@ -23,6 +23,7 @@ use crate::signed::{Places, SignedRow};
 use ncq_base::{Interval, in_interval};
 use ncq_row::Row;
 use std::alloc::{AllocError, Global};
+use std::hash::RandomState;
 
 /// Whether the row has a number of the interval in the slot.
 pub(crate) fn is_within(row: &Row, slot: usize, interval: &Interval) -> bool
@@ -77,6 +78,7 @@ pub(crate) fn all_within(
 /// The places of the rows of the interval that are left at `n`.
 pub(crate) fn content_within(
     alloc: Global,
+    seed: RandomState,
     rows: &[SignedRow],
     finders: &[Finder],
     slot: usize,
@@ -93,13 +95,14 @@ pub(crate) fn content_within(
         IsContent n (of_rows (is_within slot interval.now) rows.now) (rows_at places rows.now)) }
 {
     let all = early_within(alloc, rows, finders, slot, interval, 0, n)?;
-    let left = left_over(alloc, rows, all.as_slice())?;
+    let left = left_over(alloc, seed, rows, all.as_slice())?;
     Ok(left)
 }
 
 /// The places of the rows of the interval with these atoms that are left at `n`.
 pub(crate) fn matching_within(
     alloc: Global,
+    seed: RandomState,
     rows: &[SignedRow],
     finders: &[Finder],
     slots: &[usize],
@@ -120,7 +123,7 @@ pub(crate) fn matching_within(
 {
     let wanted = wanted_places(alloc, rows, finders, slots, key, n)?;
     let within = only_within(alloc, rows, wanted.as_slice(), slot, interval)?;
-    let left = left_over(alloc, rows, within.as_slice())?;
+    let left = left_over(alloc, seed, rows, within.as_slice())?;
     Ok(left)
 }
 
@@ -148,6 +151,7 @@ pub(crate) fn only_within(
 /// rows are passed by at a look.
 pub(crate) fn interval_in(
     alloc: Global,
+    seed: RandomState,
     rows: &[SignedRow],
     finders: &[Finder],
     slot: usize,
@@ -164,7 +168,7 @@ pub(crate) fn interval_in(
         (rows_at places rows.now)) }
 {
     let all = early_within(alloc, rows, finders, slot, interval, 0, n)?;
-    let left = left_over(alloc, rows, all.as_slice())?;
+    let left = left_over(alloc, seed, rows, all.as_slice())?;
     Ok(left)
 }
 

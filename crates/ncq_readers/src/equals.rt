@@ -16,11 +16,14 @@ use ncq_midfile::View;
 use ncq_split::{Parcels, split_equal};
 use std::alloc::{AllocError, Global};
 use std::collections::BTreeMap;
+use std::hash::RandomState;
 use std::sync::ledger::Ledger;
 
-/// The slot's constant has the file, where it had none. After an error all is as before.
+/// The slot's constant has the file, where it had none. The constants of a slot are placed by the
+/// seed that came first. After an error all is as before.
 pub(crate) fn add_constant(
     alloc: Global,
+    seed: RandomState,
     groups: &mut BTreeMap<usize, EqTable>,
     slot: usize,
     constant: Atom,
@@ -37,7 +40,7 @@ pub(crate) fn add_constant(
         table.insert(constant, file)?;
         return Ok(());
     }
-    let mut table = EqTable::new(alloc)?;
+    let mut table = EqTable::new(alloc, seed)?;
     table.insert(constant, file)?;
     groups.insert(slot, table)?;
     Ok(())

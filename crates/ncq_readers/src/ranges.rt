@@ -14,6 +14,7 @@ use ncq_midfile::{SignedRows, View};
 use ncq_split::split_range;
 use std::alloc::{AllocError, Global};
 use std::collections::BTreeMap;
+use std::hash::RandomState;
 use std::sync::ledger::Ledger;
 
 /// Rows that some interval of a range group holds, each once, with the group's slot.
@@ -23,9 +24,11 @@ pub struct HeldRows {
     pub rows: SignedRows,
 }
 
-/// The slot's interval has the file, where it had none. After an error all is as before.
+/// The slot's interval has the file, where it had none. The intervals of a slot are placed by the
+/// seed that came first. After an error all is as before.
 pub(crate) fn add_interval(
     alloc: Global,
+    seed: RandomState,
     groups: &mut BTreeMap<usize, RangeTable>,
     slot: usize,
     interval: Interval,
@@ -42,7 +45,7 @@ pub(crate) fn add_interval(
         table.insert(interval, file)?;
         return Ok(());
     }
-    let mut table = RangeTable::new(alloc);
+    let mut table = RangeTable::new(alloc, seed);
     table.insert(interval, file)?;
     groups.insert(slot, table)?;
     Ok(())

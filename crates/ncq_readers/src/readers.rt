@@ -19,6 +19,7 @@ use ncq_midfile::View;
 use ncq_split::Parcels;
 use std::alloc::{AllocError, Global};
 use std::collections::BTreeMap;
+use std::hash::RandomState;
 use std::marker::Model;
 use std::sync::ledger::Ledger;
 
@@ -91,10 +92,12 @@ impl Readers {
     }
 
     /// The file of this number selects the rows whose slot has the constant's atom, where no file
-    /// did. After an error all is as before.
+    /// did. The constants of a slot are placed by the seed that the first of them came with. After an
+    /// error all is as before.
     pub fn add_equal(
         &mut self,
         alloc: Global,
+        seed: RandomState,
         slot: usize,
         constant: Atom,
         number: u64,
@@ -103,7 +106,14 @@ impl Readers {
         ensures ok { OnOk result (Gains self.old (equal slot constant) number self.new) }
         ensures err { OnErr result (self.new ≡ self.old) }
     {
-        add_constant(alloc, &mut self.equals, slot, constant, FileId(number))
+        add_constant(
+            alloc,
+            seed,
+            &mut self.equals,
+            slot,
+            constant,
+            FileId(number),
+        )
     }
 
     /// The file of this number selects those rows no more. It takes no memory.
@@ -115,10 +125,12 @@ impl Readers {
     }
 
     /// The file of this number selects the rows whose slot is a number in the interval, where no
-    /// file did. After an error all is as before.
+    /// file did. The intervals of a slot are placed by the seed that the first of them came with.
+    /// After an error all is as before.
     pub fn add_range(
         &mut self,
         alloc: Global,
+        seed: RandomState,
         slot: usize,
         interval: Interval,
         number: u64,
@@ -127,7 +139,14 @@ impl Readers {
         ensures ok { OnOk result (Gains self.old (range slot interval) number self.new) }
         ensures err { OnErr result (self.new ≡ self.old) }
     {
-        add_interval(alloc, &mut self.ranges, slot, interval, FileId(number))
+        add_interval(
+            alloc,
+            seed,
+            &mut self.ranges,
+            slot,
+            interval,
+            FileId(number),
+        )
     }
 
     /// The file of this number selects those rows no more. It takes no memory.

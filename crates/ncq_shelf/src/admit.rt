@@ -22,16 +22,18 @@ use ncq_midfile::RangeFile;
 use ncq_plan::Expr;
 use ncq_readers::Readers;
 use std::alloc::{AllocError, Global};
+use std::hash::RandomState;
 
 /// All that may fail before a new file that has rows of its own is put in: there is room for it,
 /// and what it reads knows it. The answer is its expression, twice. After an error all know
 /// what they knew; rows may be noted at more slots.
 pub(crate) fn admit(
     alloc: Global,
+    seed: RandomState,
     files: &mut IndexMap<u64, File>,
     groups: &IndexMap<Group, RangeFile>,
-    numbers: &mut IndexMap<Shared<Expr>, u64>,
-    scans: &mut IndexMap<Bytes, Readers>,
+    numbers: &mut IndexMap<Shared<Expr>, u64, RandomState>,
+    scans: &mut IndexMap<Bytes, Readers, RandomState>,
     keys: &mut Keys,
     expr: &Expr,
     inputs: Inputs,
@@ -56,15 +58,16 @@ pub(crate) fn admit(
 {
     key_join(keys, files, groups, expr, inputs, number)?;
     let copies = make_room(alloc, files, numbers, expr, inputs)?;
-    announce(alloc, files, scans, expr, inputs, number).and(Ok(copies))
+    announce(alloc, seed, files, scans, expr, inputs, number).and(Ok(copies))
 }
 
 /// The files that the expression reads, and its source if it is a scan, know the number from now
 /// on. After an error all know what they knew.
 fn announce(
     alloc: Global,
+    seed: RandomState,
     files: &mut IndexMap<u64, File>,
-    scans: &mut IndexMap<Bytes, Readers>,
+    scans: &mut IndexMap<Bytes, Readers, RandomState>,
     expr: &Expr,
     inputs: Inputs,
     number: u64,
@@ -79,7 +82,7 @@ fn announce(
     ensures scans { OnErr result (SameScans scans.old.entries scans.new.entries) }
     ensures room { spare files.new ≡ spare files.old }
 {
-    enroll(alloc, files, expr, inputs, number)?;
+    enroll(alloc, seed, files, expr, inputs, number)?;
     enroll_scan(alloc, scans, expr, number)
 }
 
@@ -89,7 +92,7 @@ fn announce(
 pub(crate) fn make_room(
     alloc: Global,
     files: &mut IndexMap<u64, File>,
-    numbers: &mut IndexMap<Shared<Expr>, u64>,
+    numbers: &mut IndexMap<Shared<Expr>, u64, RandomState>,
     expr: &Expr,
     inputs: Inputs,
 ) -> Result<(Shared<Expr>, Shared<Expr>), AllocError>

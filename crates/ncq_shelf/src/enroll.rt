@@ -18,11 +18,13 @@ use indexmap::IndexMap;
 use ncq_base::{Atom, Copied, Interval};
 use ncq_plan::Expr;
 use std::alloc::{AllocError, Global};
+use std::hash::RandomState;
 
 /// The files that the expression reads know the number as that of a reader from now on. After an
 /// error all know what they knew. The room for more files stays.
 pub(crate) fn enroll(
     alloc: Global,
+    seed: RandomState,
     files: &mut IndexMap<u64, File>,
     expr: &Expr,
     inputs: Inputs,
@@ -39,10 +41,10 @@ pub(crate) fn enroll(
         Expr::Scan { .. } => Ok(()),
         Expr::EqSel { slot, constant, .. } => {
             let copy = constant.copy(alloc)?;
-            enroll_equal(alloc, files, one_of(inputs), *slot, copy, number)
+            enroll_equal(alloc, seed, files, one_of(inputs), *slot, copy, number)
         }
         Expr::RangeSel { slot, interval, .. } => {
-            enroll_range(alloc, files, one_of(inputs), *slot, *interval, number)
+            enroll_range(alloc, seed, files, one_of(inputs), *slot, *interval, number)
         }
         Expr::Join { .. } => {
             let (left, right) = sides_of(inputs);
@@ -101,6 +103,7 @@ pub(crate) fn sides_of(inputs: Inputs) -> (u64, u64)
 /// The number selects of a file by a constant, by which none does.
 fn enroll_equal(
     alloc: Global,
+    seed: RandomState,
     files: &mut IndexMap<u64, File>,
     at: u64,
     slot: usize,
@@ -118,12 +121,13 @@ fn enroll_equal(
     let Some(file) = files.get_mut(&at) else {
         unreachable!()
     };
-    file.readers.add_equal(alloc, slot, constant, number)
+    file.readers.add_equal(alloc, seed, slot, constant, number)
 }
 
 /// The number selects of a file by an interval, by which none does.
 fn enroll_range(
     alloc: Global,
+    seed: RandomState,
     files: &mut IndexMap<u64, File>,
     at: u64,
     slot: usize,
@@ -141,7 +145,7 @@ fn enroll_range(
     let Some(file) = files.get_mut(&at) else {
         unreachable!()
     };
-    file.readers.add_range(alloc, slot, interval, number)
+    file.readers.add_range(alloc, seed, slot, interval, number)
 }
 
 /// The number joins two files, or one with itself. After an error no file knows of it.

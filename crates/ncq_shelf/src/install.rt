@@ -33,6 +33,7 @@ use ncq_plan::Expr;
 use ncq_readers::Readers;
 use ncq_split::missing_rows;
 use std::alloc::{AllocError, Global};
+use std::hash::RandomState;
 use std::sync::ledger::Ledger;
 
 /// The rows that a view has at a change and the interval takes, but none of the intervals that read
@@ -40,6 +41,7 @@ use std::sync::ledger::Ledger;
 /// ran out.
 pub(crate) fn missing_at<L: Ledger>(
     alloc: Global,
+    seed: RandomState,
     readers: &Readers,
     interval: &Interval,
     slot: usize,
@@ -60,7 +62,7 @@ pub(crate) fn missing_at<L: Ledger>(
     match readers.range_table(slot) {
         Some(table) => missing_rows(alloc, table, interval, slot, input, change, steps),
         None => {
-            let none = RangeTable::new(alloc);
+            let none = RangeTable::new(alloc, seed);
             missing_rows(alloc, &none, interval, slot, input, change, steps)
         }
     }
@@ -70,6 +72,7 @@ pub(crate) fn missing_at<L: Ledger>(
 /// After an error the group has the rows that it had, and its input the readers.
 pub(crate) fn install(
     alloc: Global,
+    seed: RandomState,
     groups: &mut IndexMap<Group, RangeFile>,
     files: &mut IndexMap<u64, File>,
     group: Group,
@@ -95,12 +98,12 @@ pub(crate) fn install(
     ensures alike { OnErr result (AreAlike files.old.entries files.new.entries) }
     ensures room { spare files.new ≡ spare files.old }
 {
-    open_group(alloc, groups, group)?;
+    open_group(alloc, seed, groups, group)?;
     if let Err(error) = add_rows(groups, group, rows) {
         release(groups, files, group, expr);
         return Err(error);
     }
-    if let Err(error) = enroll(alloc, files, expr, Inputs::One(group.input), number) {
+    if let Err(error) = enroll(alloc, seed, files, expr, Inputs::One(group.input), number) {
         release(groups, files, group, expr);
         return Err(error);
     }
@@ -110,7 +113,7 @@ pub(crate) fn install(
 /// Puts a file in, under its number and its expression. It takes no memory.
 pub(crate) fn put_file(
     files: &mut IndexMap<u64, File>,
-    numbers: &mut IndexMap<Shared<Expr>, u64>,
+    numbers: &mut IndexMap<Shared<Expr>, u64, RandomState>,
     number: u64,
     key: Shared<Expr>,
     file: File,

@@ -18,6 +18,7 @@ use ncq_holders::Holders;
 use ncq_midfile::View;
 use ncq_row::Row;
 use std::alloc::{AllocError, Global};
+use std::hash::RandomState;
 
 /// So many atoms more than its rows can have are kept of a file: a look at the rows costs more.
 const FEW_ATOMS: usize = 64;
@@ -40,6 +41,7 @@ impl Drop for KeyedFile {
 /// atom.
 pub(crate) struct Keys {
     alloc: Global,
+    seed: RandomState,
     files: IndexMap<u64, KeyedFile>,
     always: IndexSet<u64>,
     holders: Holders,
@@ -49,6 +51,7 @@ impl Drop for Keys {
     fn drop(self) {
         let Keys {
             alloc: _,
+            seed: _,
             files,
             always,
             holders,
@@ -60,15 +63,16 @@ impl Drop for Keys {
 }
 
 impl Keys {
-    /// No row is noted.
-    pub(crate) fn new(alloc: Global) -> Keys
+    /// No row is noted. Atoms are placed by the seed.
+    pub(crate) fn new(alloc: Global, seed: RandomState) -> Keys
         ensures { result.files.entries ≡ [] }
     {
         Keys {
             alloc,
+            seed,
             files: IndexMap::new(alloc),
             always: IndexSet::new(alloc),
-            holders: Holders::new(alloc),
+            holders: Holders::new(alloc, seed),
         }
     }
 
@@ -141,7 +145,7 @@ impl Keys {
         if !has_stale(keyed, content) {
             return Ok(());
         }
-        let mut fresh = Holders::new(self.alloc);
+        let mut fresh = Holders::new(self.alloc, self.seed);
         let mut atoms = Vec::new(self.alloc);
         note_slots(
             self.alloc,

@@ -19,10 +19,12 @@ use ncq_midfile::{RangeFile, SignedRows};
 use ncq_plan::Expr;
 use ncq_row::Row;
 use std::alloc::{AllocError, Global};
+use std::hash::RandomState;
 
 /// The group has a file from now on, if only one without rows.
 pub(crate) fn open_group(
     alloc: Global,
+    seed: RandomState,
     groups: &mut IndexMap<Group, RangeFile>,
     group: Group,
 ) -> Result<(), AllocError>
@@ -32,7 +34,7 @@ pub(crate) fn open_group(
     if groups.contains_key(&group) {
         return Ok(());
     }
-    groups.insert(group, RangeFile::new(alloc, group.slot))?;
+    groups.insert(group, RangeFile::new(alloc, seed, group.slot))?;
     Ok(())
 }
 

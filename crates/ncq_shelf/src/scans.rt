@@ -8,12 +8,13 @@ use ncq_base::{Bytes, Copied};
 use ncq_plan::Expr;
 use ncq_readers::Readers;
 use std::alloc::{AllocError, Global};
+use std::hash::RandomState;
 
 /// If the expression is a scan, its source knows the number from now on. After an error, which
 /// only a scan's can end in, all sources know what they knew.
 pub(crate) fn enroll_scan(
     alloc: Global,
-    scans: &mut IndexMap<Bytes, Readers>,
+    scans: &mut IndexMap<Bytes, Readers, RandomState>,
     expr: &Expr,
     number: u64,
 ) -> Result<(), AllocError>
@@ -29,7 +30,11 @@ pub(crate) fn enroll_scan(
 }
 
 /// If the expression is a scan, its source knows the number no more. It takes no memory.
-pub(crate) fn strike_scan(scans: &mut IndexMap<Bytes, Readers>, expr: &Expr, number: u64)
+pub(crate) fn strike_scan(
+    scans: &mut IndexMap<Bytes, Readers, RandomState>,
+    expr: &Expr,
+    number: u64,
+)
     ensures { LosesScan scans.old.entries (λ source. ScansSource source expr.now) number
         scans.new.entries }
 {
@@ -42,7 +47,7 @@ pub(crate) fn strike_scan(scans: &mut IndexMap<Bytes, Readers>, expr: &Expr, num
 /// The source knows the number from now on.
 fn add_scan(
     alloc: Global,
-    scans: &mut IndexMap<Bytes, Readers>,
+    scans: &mut IndexMap<Bytes, Readers, RandomState>,
     source: &Bytes,
     number: u64,
 ) -> Result<(), AllocError>
@@ -61,7 +66,7 @@ fn add_scan(
 }
 
 /// The source knows the number no more.
-fn remove_scan(scans: &mut IndexMap<Bytes, Readers>, source: &Bytes, number: u64)
+fn remove_scan(scans: &mut IndexMap<Bytes, Readers, RandomState>, source: &Bytes, number: u64)
     ensures { LosesScan scans.old.entries (λ other. other ≡ source.now) number scans.new.entries }
 {
     let Some(readers) = scans.get_mut(source) else {

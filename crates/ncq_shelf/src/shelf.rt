@@ -52,24 +52,28 @@ use ncq_plan::Expr;
 use ncq_readers::{HeldRows, Readers};
 use ncq_split::Parcels;
 use std::alloc::{AllocError, Global};
+use std::hash::RandomState;
 use std::marker::Model;
 use std::sync::ledger::Ledger;
 
 /// So many joins over a file are told without a look at what its rows meet.
 const FEW_JOINS: usize = 3;
 
-/// Files by their numbers.
+/// Files by their numbers. What strangers choose (constants, atoms, sources) is found by hashes under
+/// a seed.
 pub struct Shelf {
+    seed: RandomState,
     files: IndexMap<u64, File>,
     groups: IndexMap<Group, RangeFile>,
-    numbers: IndexMap<Shared<Expr>, u64>,
-    scans: IndexMap<Bytes, Readers>,
+    numbers: IndexMap<Shared<Expr>, u64, RandomState>,
+    scans: IndexMap<Bytes, Readers, RandomState>,
     keys: Keys,
 }
 
 impl Drop for Shelf {
     fn drop(self) {
         let Shelf {
+            seed: _,
             files,
             groups,
             numbers,
@@ -100,16 +104,18 @@ impl Model for Shelf {
 }
 
 impl Shelf {
-    /// No files.
-    pub fn new(alloc: Global) -> Shelf
+    /// No files. What finds them is placed by the seed, so that nobody who does not know it can
+    /// choose queries or rows that fall together.
+    pub fn new(alloc: Global, seed: RandomState) -> Shelf
         ensures { result ≡ empty }
     {
         Shelf {
+            seed,
             files: IndexMap::new(alloc),
             groups: IndexMap::new(alloc),
-            numbers: IndexMap::new(alloc),
-            scans: IndexMap::new(alloc),
-            keys: Keys::new(alloc),
+            numbers: IndexMap::with_hasher(alloc, seed),
+            scans: IndexMap::with_hasher(alloc, seed),
+            keys: Keys::new(alloc, seed),
         }
     }
 
@@ -367,6 +373,7 @@ impl Shelf {
     {
         let (key, copy) = admit(
             alloc,
+            self.seed,
             &mut self.files,
             &self.groups,
             &mut self.numbers,
@@ -483,10 +490,20 @@ impl Shelf {
         };
         let group = Group { input, slot: *slot };
         let view = view_of(&self.groups, inner);
-        let missing = missing_at(alloc, &inner.readers, interval, *slot, &view, change, steps)?;
+        let missing = missing_at(
+            alloc,
+            self.seed,
+            &inner.readers,
+            interval,
+            *slot,
+            &view,
+            change,
+            steps,
+        )?;
         let (key, copy) = make_room(alloc, &mut self.files, &mut self.numbers, expr, inputs)?;
         install(
             alloc,
+            self.seed,
             &mut self.groups,
             &mut self.files,
             group,

@@ -180,6 +180,7 @@ fn expect_few(rt: &impl Abort, store: &Store)
 fn table_of<L: Ledger>(
     rt: &impl Abort,
     alloc: Global,
+    seed: RandomState,
     store: &Store,
     text: &str,
     steps: &mut Steps<L>,
@@ -188,7 +189,7 @@ fn table_of<L: Ledger>(
 {
     let query = query_of(alloc, store, text)?;
     let plan = plan(alloc, &query)?;
-    let mut table = GroupTable::new(alloc);
+    let mut table = GroupTable::new(alloc, seed);
     expect_start(rt, store);
     let file = table.install(alloc, &plan, store, steps)?;
     assert!(rt; file == FileId(3));
@@ -329,11 +330,12 @@ fn take_each<L: Ledger>(
 fn take_all<L: Ledger>(
     rt: &impl Abort,
     alloc: Global,
+    seed: RandomState,
     store: &mut Store,
     turns: &[Turn],
     steps: &mut Steps<L>,
 ) -> Result<(), Fail> {
-    let mut table = table_of(rt, alloc, store, JOINED, steps)?;
+    let mut table = table_of(rt, alloc, seed, store, JOINED, steps)?;
     take_each(rt, alloc, &mut table, store, turns, steps)
 }
 
@@ -352,7 +354,7 @@ fn take_turns<L: Ledger>(
     let alloc = host.alloc();
     let mut steps = Steps::<L>::new(host, blank);
     let mut store = sources(alloc, seed)?;
-    take_all(rt, alloc, &mut store, turns, &mut steps)
+    take_all(rt, alloc, seed, &mut store, turns, &mut steps)
 }
 
 #[test]

@@ -17,7 +17,7 @@ use std::sync::ledger::{Blank, Ledger};
 use std::test::Fail;
 
 /// A file without rows takes no heap, and so many bytes.
-const _: () = prove!(size_of::<MidFile>() == 56);
+const _: () = prove!(size_of::<MidFile>() == 72);
 
 /// A history, how many rows are left at the changes 0 to 5, and how many of them are `a`.
 type Worked = (&'static [(u8, u64, u64)], [usize; 6], [usize; 6]);

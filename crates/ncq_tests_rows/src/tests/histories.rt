@@ -8,7 +8,7 @@ ghost use Rattle.ncq_midfile.specs.Content.{IsSound};
 ghost use Rattle.ncq_midfile.specs.Made.{gained_at, lost_at};
 ghost use Rattle.ncq_midfile.specs.Matching.{HaveSlots};
 
-use super::making::value_rows;
+use super::making::{seed, value_rows};
 use ncq_base::Steps;
 use ncq_midfile::{MidFile, SignedRow};
 use ncq_row::{Row, Rows};
@@ -139,7 +139,7 @@ pub fn file_of<L: Ledger>(
     ensures one { IfOk result (λ f. AllByRecursion (λ r. length r.row ≡ 1) f.rows) }
     ensures wide { IfOk result (λ f. HaveSlots (0 ∷ []) f.rows) }
 {
-    let mut file = MidFile::new(alloc, 0, Rows::new(alloc))?;
+    let mut file = MidFile::new(alloc, seed()?, 0, Rows::new(alloc))?;
     for at in 0..history.len() {
         index_if(alloc, &mut file, at == moment)?;
         let (letter, come, go) = history[at];

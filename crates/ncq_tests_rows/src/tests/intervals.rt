@@ -7,7 +7,7 @@ ghost use Rattle.ncq_midfile.specs.Matching.{HaveSlots};
 
 use super::files::{bring_again, roll, settle};
 use super::histories::file_of;
-use super::making::value_rows;
+use super::making::{seed, value_rows};
 use super::ranges::{ALL, add as add_text};
 use super::views::{BACK, BELOW_3, FROM_5, GAP, THREES, add};
 use ncq_base::{End, Interval, Steps};
@@ -374,7 +374,7 @@ fn pairs<L: Ledger>(alloc: Global, steps: &mut Steps<L>) -> Result<RangeFile, Al
     ensures sound { IfOk result (λ f. IsSound f.rows) }
     ensures two { IfOk result (λ f. AllByRecursion (λ r. length r.row ≡ 2) f.rows) }
 {
-    let mut file = RangeFile::new(alloc, 0);
+    let mut file = RangeFile::new(alloc, seed()?, 0);
     add_pairs(alloc, &mut file, steps)?;
     Ok(file)
 }
@@ -488,7 +488,7 @@ fn since<L: Ledger>(alloc: Global, steps: &mut Steps<L>) -> Result<usize, AllocE
     let all = &SINCE;
     for at in 0..all.len() {
         let (count, n, want) = all[at];
-        let mut file = RangeFile::new(alloc, 0);
+        let mut file = RangeFile::new(alloc, seed()?, 0);
         if !are_since_in(alloc, &mut file, count, n, want, steps)? {
             return Ok(at);
         }

@@ -15,8 +15,25 @@ use ncq_row::{
 };
 use ncq_tree::{Attributes, Element, Forest, Node};
 use std::alloc::{AllocError, Global};
+use std::hash::RandomState;
+use std::io;
 use std::marker::Brand;
+use std::random::RandomSource;
 use std::sync::ledger::{Blank, Ledger};
+
+/// A source of random bytes that are always the same.
+struct OneSeed;
+
+impl RandomSource for OneSeed {
+    fn fill_bytes(&self, _bytes: &mut [u8]) -> io::Result<()> {
+        Ok(())
+    }
+}
+
+/// The seed by which files and tables are placed here.
+pub fn seed() -> Result<RandomState, AllocError> {
+    RandomState::new(&OneSeed).map_err(|_| AllocError)
+}
 
 /// The path of one name.
 #[tactic(auto, using(crate::proofs::ShapeLaws::shape_is))]

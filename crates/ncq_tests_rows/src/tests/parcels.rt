@@ -4,7 +4,7 @@ ghost use Rattle.std.specs.List.{AllByRecursion};
 ghost use Rattle.ncq_midfile.specs.Shown.{shown, rows_below};
 
 use super::histories::{fits, signed};
-use super::making::value_rows;
+use super::making::{seed, value_rows};
 use ncq_base::{End, FileId, Interval, Steps, atom_of};
 use ncq_consttab::{EqTable, RangeTable};
 use ncq_midfile::{MidFile, SignedRow, SignedRows, View};
@@ -116,7 +116,7 @@ fn append_rows<L: Ledger>(
 fn file_of_rows<L: Ledger>(alloc: Global, steps: &mut Steps<L>) -> Result<MidFile, AllocError>
     ensures { IfOk result (λ f. AllByRecursion (λ r. length r.row ≡ 1) f.rows) }
 {
-    let mut file = MidFile::new(alloc, 0, Rows::new(alloc))?;
+    let mut file = MidFile::new(alloc, seed()?, 0, Rows::new(alloc))?;
     append_rows(alloc, &mut file, steps)?;
     Ok(file)
 }
@@ -177,7 +177,7 @@ fn are_parcels<L: Ledger>(
 
 /// The table of the constants.
 fn constants(alloc: Global) -> Result<EqTable, AllocError> {
-    let mut table = EqTable::new(alloc)?;
+    let mut table = EqTable::new(alloc, seed()?)?;
     for (text, file) in CONSTANTS {
         let constant = atom_of(alloc, text.as_bytes())?;
         if table.find(&constant).is_none() {
@@ -189,7 +189,7 @@ fn constants(alloc: Global) -> Result<EqTable, AllocError> {
 
 /// The table of the intervals.
 fn intervals(alloc: Global) -> Result<RangeTable, AllocError> {
-    let mut table = RangeTable::new(alloc);
+    let mut table = RangeTable::new(alloc, seed()?);
     for (low, high, file) in INTERVALS {
         let interval = Interval { low, high };
         if table.find(&interval).is_none() {

@@ -4,7 +4,7 @@ ghost use Rattle.std.specs.List.{All, AllByRecursion};
 ghost use Rattle.ncq_midfile.specs.Shown.{rows_below};
 ghost use Rattle.ncq_midfile.specs.Views.{HasNumber};
 
-use super::making::value_rows;
+use super::making::{seed, value_rows};
 use ncq_base::{Atom, End, FileId, Interval, Steps, atom_of, in_interval};
 use ncq_consttab::RangeTable;
 use ncq_midfile::{RangeFile, SignedRow, View};
@@ -229,7 +229,7 @@ const TURNS: [(&[Turn], &[(i128, u64, bool)]); 17] = [
 
 /// A table of the intervals, which have the files 0, 1 and so on.
 pub fn table_of(alloc: Global, intervals: &[Interval]) -> Result<RangeTable, AllocError> {
-    let mut table = RangeTable::new(alloc);
+    let mut table = RangeTable::new(alloc, seed()?);
     for at in 0..intervals.len() {
         if table.find(&intervals[at]).is_none() {
             table.insert(intervals[at], FileId(at as u64))?;
@@ -438,7 +438,7 @@ fn leave<L: Ledger>(
     want: &[(i128, u64, bool)],
     steps: &mut Steps<L>,
 ) -> Result<bool, AllocError> {
-    let mut file = RangeFile::new(alloc, 0);
+    let mut file = RangeFile::new(alloc, seed()?, 0);
     leave_in(alloc, &mut file, turns, want, steps)
 }
 

@@ -9,7 +9,7 @@ ghost use Rattle.ncq_midfile.specs.Views.{HasNumber};
 
 use super::files::key;
 use super::histories::{file_of, signed};
-use super::making::value_rows;
+use super::making::{seed, value_rows};
 use super::ranges::{ALL, fits, has_number, index_if, table_of, told};
 use ncq_base::{End, Interval, Steps};
 use ncq_midfile::{MidFile, RangeFile, SignedRow, SignedRows, View};
@@ -279,7 +279,7 @@ pub fn range_of<L: Ledger>(
     ensures sound { IfOk result (λ f. IsSound f.rows) }
     ensures one { IfOk result (λ f. AllByRecursion (λ r. length r.row ≡ 1) f.rows) }
 {
-    let mut file = RangeFile::new(alloc, 0);
+    let mut file = RangeFile::new(alloc, seed()?, 0);
     for (digit, come, go) in history {
         bring(alloc, &mut file, *digit, *come, *go, steps)?;
     }

@@ -5,6 +5,7 @@ use Rattle.ncq_midfile.proofs.index.Index.forget.Given as goal
 abbrev pub invariant-loop-left : goal.invariant-loop-left
 invariant-loop-left l = record {
   few : l.left ≤ length l.places;
+  seed : l.self.seed ≡ l.initial.self.seed;
   slots : l.self.slots ≡ l.initial.self.slots;
   hashes : l.self.hashes ≡ taken_out (drop l.left l.places) l.initial.self.hashes;
 }

@@ -5,7 +5,7 @@ use Rattle.ncq_shelf.proofs.shelf.Shelf.new.Goals as goal
 
 pub invariant_of-result : goal.invariant_of-result
 invariant_of-result c = record {
-  shelved = shelved_none c.new-2.result.entries c.new.result.entries c.new-3.result.entries c.new-4.result.entries c.new.ensures.empty c.new-3.ensures.empty c.new-4.ensures.empty;
+  shelved = shelved_none c.new-2.result.entries c.new.result.entries c.with_hasher.result.entries c.with_hasher-2.result.entries c.new.ensures.empty c.with_hasher.ensures.empty c.with_hasher-2.ensures.empty;
   grouped = grouped_none c.new.result.entries c.new-2.result.entries c.new.ensures.empty c.new-2.ensures.empty;
-  keyed = keyed_none c.new-2.result.entries c.new.result.entries c.new-5.result c.new-5.ensures c.new.ensures.empty;
+  keyed = keyed_none c.new-2.result.entries c.new.result.entries c.new-3.result c.new-3.ensures c.new.ensures.empty;
 }
